@@ -1,6 +1,6 @@
 //! What the records of a cell draw, one after the other.
 
-use crate::library_faults::bytes_of;
+use crate::rows::{bytes_of, check_text, cut};
 use lvl_grid::{Map, Point, Ring};
 use lvl_ignore::Ignore;
 use lvl_io::Read;
@@ -129,9 +129,9 @@ fn drawn_of_words(alloc: Global, words: &str) -> Result<String, Fail> {
 #[test]
 fn figures(rt: HostRuntime) -> Result<(), Fail> {
     for row in DRAWN.lines() {
-        let (name, row) = row.split_once(" | ").unwrap_or((row, ""));
-        let (words, want) = row.split_once(" | ").unwrap_or((row, ""));
-        assert_eq!(rt; drawn_of_words(rt.alloc(), words)?.as_str(), want, "{name}");
+        let (_, words) = cut(row, " | ");
+        let (words, want) = cut(words, " | ");
+        check_text(&rt, &drawn_of_words(rt.alloc(), words)?, want, row);
     }
     Ok(())
 }

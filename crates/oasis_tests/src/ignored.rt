@@ -1,18 +1,23 @@
 //! What is only read to be ignored: padding of integers, and records of names, texts and properties.
 
 use crate::library::{SQUARE, START, TOP, fault_of, file};
+use crate::library_faults::fault_text;
+use crate::rows::{bytes_of, check_text, cut};
 use lvl_cells::Library;
 use lvl_ignore::Ignore;
+use lvl_io::Read;
 use lvl_io::fake::Pieces;
 use lvl_refusal::Cause;
-use oasis_library::{
-    FigureRule, OasisFault, OasisKind, RecordRule, ValueFault, Variable, read_oasis_by,
-};
+use oasis_library::{OasisFault, ValueFault, read_oasis_by};
 use oasis_records::{Record, RecordFault, RecordType, read_fields, read_id};
 use oasis_values::{Input, Repetition, Text};
 use std::alloc::{AllocError, Global};
 use std::process::Abort;
 use std::test::Fail;
+
+mod rows;
+
+use rows::{MALFORMED, RECORDS, SKIPPED};
 
 /// Padding alone.
 fn padding() -> Ignore {
@@ -23,10 +28,11 @@ fn padding() -> Ignore {
 }
 
 /// Some bytes `0x80` between two others.
-fn padded(alloc: Global, first: &[u8], zeros: usize, last: &[u8]) -> Result<Vec<u8>, AllocError> {
-    let mut bytes = Vec::from_slice(alloc, first)?;
-    bytes.resize(first.len().saturating_add(zeros), 0x80)?;
-    bytes.extend_from_slice(last)?;
+fn padded(alloc: Global, first: &str, zeros: usize, last: &str) -> Result<Vec<u8>, Fail> {
+    let mut bytes = bytes_of(alloc, first)?;
+    let len = bytes.len().saturating_add(zeros);
+    bytes.resize(len, 0x80)?;
+    bytes.append(&mut bytes_of(alloc, last)?)?;
     Ok(bytes)
 }
 
@@ -40,72 +46,59 @@ fn integer(bytes: &[u8]) -> Result<u64, ValueFault> {
     read
 }
 
+/// Bytes, how many bytes `0x80` are after them, the bytes after those, and the integer.
+const PADDED: &str = "\
+| 0 | 05 | Ok(5)
+E8 87 | 5 | 00 | Ok(1000)
+| 10 | 00 | Ok(0)
+E8 87 | 100 | 00 | Ok(1000)
+| 255 | 00 | Ok(0)
+| 256 | | Err(IntegerTooLarge)
+| 256 | 00 | Err(IntegerTooLarge)
+| 255 | | Err(Truncated)
+FF FF FF FF FF FF FF FF FF 81 | 0 | 00 | Ok(18446744073709551615)
+FF FF FF FF FF FF FF FF FF 81 | 245 | 00 | Ok(18446744073709551615)
+FF FF FF FF FF FF FF FF FF 82 | 0 | | Err(IntegerTooLarge)
+| 10 | 01 | Err(IntegerTooLarge)
+| 10 | 81 | Err(IntegerTooLarge)
+";
+
+fn integer_text(alloc: Global, words: &str) -> Result<String, Fail> {
+    let (first, words) = cut(words, "| ");
+    let (zeros, last) = cut(words, " |");
+    let bytes = padded(alloc, first, zeros.parse::<usize>()?, last)?;
+    Ok(format!(in alloc; "{:?}", integer(&bytes))?)
+}
+
 #[test]
 fn padding_of_integers(rt: HostRuntime) -> Result<(), Fail> {
-    let large = Err(ValueFault::IntegerTooLarge);
-    let cut = Err(ValueFault::Truncated);
-    let full: &[u8] = b"\xFF\xFF\xFF\xFF\xFF\xFF\xFF\xFF\xFF\x81";
-    let wide: &[u8] = b"\xFF\xFF\xFF\xFF\xFF\xFF\xFF\xFF\xFF\x82";
-    let rows: [(&[u8], usize, &[u8], Result<u64, ValueFault>); 13] = [
-        (b"", 0, b"\x05", Ok(5)),
-        (b"\xE8\x87", 5, b"\x00", Ok(1000)),
-        (b"", 10, b"\x00", Ok(0)),
-        (b"\xE8\x87", 100, b"\x00", Ok(1000)),
-        (b"", 255, b"\x00", Ok(0)),
-        (b"", 256, b"", large),
-        (b"", 256, b"\x00", large),
-        (b"", 255, b"", cut),
-        (full, 0, b"\x00", Ok(u64::MAX)),
-        (full, 245, b"\x00", Ok(u64::MAX)),
-        (wide, 0, b"", large),
-        (b"", 10, b"\x01", large),
-        (b"", 10, b"\x81", large),
-    ];
-    for (first, zeros, last, want) in rows {
-        let bytes = padded(rt.alloc(), first, zeros, last)?;
-        assert_eq!(rt; integer(&bytes), want, "{first:?}, {zeros} and {last:?}");
+    for row in PADDED.lines() {
+        let (words, want) = row.rsplit_once("| ").unwrap_or((row, ""));
+        check_text(&rt, &integer_text(rt.alloc(), words)?, want, row);
     }
     Ok(())
 }
 
-/// The fault of a value that isn't kept, and where the reader is after it.
-fn skipped(bytes: &[u8]) -> (Option<ValueFault>, u64) {
+/// Whether bytes are a value that isn't kept, or its fault.
+fn skipped(alloc: Global, bytes: &[u8]) -> Result<String, AllocError> {
     let mut input = Input::new(Pieces::new(bytes, 1), Ignore::NOTHING);
-    let fault = input.skip_value().err();
-    (fault, input.offset())
+    match input.skip_value() {
+        Ok(()) if input.offset() == bytes.len() as u64 => String::from_str(alloc, "whole"),
+        Ok(()) => String::from_str(alloc, "bytes are left"),
+        Err(fault) => format!(in alloc; "{fault:?}"),
+    }
 }
 
-/// Rows of what is read and not kept: bytes that are a value by themselves, or the fault.
+fn skipped_words(alloc: Global, words: &str) -> Result<String, Fail> {
+    let bytes = bytes_of(alloc, words)?;
+    Ok(skipped(alloc, &bytes)?)
+}
+
 #[test]
 fn values_that_are_not_kept(rt: HostRuntime) -> Result<(), Fail> {
-    let rows: [(&[u8], Option<ValueFault>); 20] = [
-        (b"\x00\xE8\x07", None),
-        (b"\x01\x05", None),
-        (b"\x02\x05", None),
-        (b"\x03\x05", None),
-        (b"\x04\x02\x08", None),
-        (b"\x05\x02\x08", None),
-        (b"\x06\x01\x02\x03\x04", None),
-        (b"\x07\x01\x02\x03\x04\x05\x06\x07\x08", None),
-        (b"\x08\xE8\x07", None),
-        (b"\x09\x0B", None),
-        (b"\x0A\x03a b", None),
-        (b"\x0B\x02\x00\xFF", None),
-        (b"\x0C\x01a", None),
-        (b"\x0D\x05", None),
-        (b"\x0E\x05", None),
-        (b"\x0F\x05", None),
-        (b"\x10\x05", Some(ValueFault::RealType)),
-        (b"\x04\x02\x00", Some(ValueFault::ZeroDenominator)),
-        (b"\x0C\x00", Some(ValueFault::StringByte)),
-        (b"\x0A\x02a", Some(ValueFault::Truncated)),
-    ];
-    for (bytes, fault) in rows {
-        let (found, offset) = skipped(bytes);
-        assert_eq!(rt; found, fault, "{bytes:?}");
-        if fault.is_none() {
-            assert_eq!(rt; offset, bytes.len() as u64, "{bytes:?}");
-        }
+    for row in SKIPPED.lines() {
+        let (words, want) = cut(row, " | ");
+        check_text(&rt, &skipped_words(rt.alloc(), words)?, want, row);
     }
     Ok(())
 }
@@ -126,149 +119,109 @@ fn a_long_string_that_is_not_kept(rt: HostRuntime) -> Result<(), Fail> {
     Ok(())
 }
 
-/// A record of all these bytes, or the rule or the value that it breaches; None where bytes are left.
-fn record(
+/// The next record, or the rule or the value that it breaches.
+fn next<R: Read>(
+    input: &mut Input<R>,
     alloc: Global,
-    bytes: &[u8],
     ignore: Ignore,
-) -> Result<Option<Record>, Cause<RecordFault>> {
-    let mut input = Input::new(Pieces::new(bytes, 2), ignore);
-    let id = match read_id(&mut input) {
+) -> Result<Record, Cause<RecordFault>> {
+    let id = match read_id(input) {
         Ok(id) => id,
         Err(fault) => return Err(Cause::Breach(RecordFault::Value(fault))),
     };
-    let kind = match RecordType::of(id.value, ignore) {
-        Ok(kind) => kind,
-        Err(rule) => return Err(Cause::Breach(RecordFault::Rule(rule))),
+    match RecordType::of(id.value, ignore) {
+        Ok(kind) => read_fields(input, alloc, kind, id.len, false),
+        Err(rule) => Err(Cause::Breach(RecordFault::Rule(rule))),
+    }
+}
+
+/// A text with the number of its places, if it has places of its own, or a record that is no text.
+fn ignored_text(alloc: Global, record: &Record) -> Result<String, AllocError> {
+    match record {
+        Record::Text(Some(Repetition::New(shifts))) => {
+            format!(in alloc; "text of {} places", shifts.len())
+        }
+        Record::Text(_) => String::from_str(alloc, "text"),
+        Record::Entry | Record::Property => String::from_str(alloc, "no text"),
+        _ => String::from_str(alloc, "not ignored"),
+    }
+}
+
+/// What the record of all these bytes is, or the rule or the value that it breaches.
+fn record_text(alloc: Global, words: &str, ignore: Ignore) -> Result<String, Fail> {
+    let bytes = bytes_of(alloc, words)?;
+    let mut input = Input::new(Pieces::new(&bytes, 2), ignore);
+    let text = match next(&mut input, alloc, ignore) {
+        Ok(record) => ignored_text(alloc, &record),
+        Err(Cause::Breach(fault)) => return Ok(format!(in alloc; "{fault:?}")?),
+        Err(Cause::OutOfMemory) => Err(AllocError),
     };
-    let record = read_fields(&mut input, alloc, kind, id.len, false)?;
     if input.offset() == bytes.len() as u64 {
-        Ok(Some(record))
+        Ok(text?)
     } else {
-        Ok(None)
+        Err(Fail::from("bytes are left"))
     }
 }
 
-/// Whether a record of all these bytes is a text; None where it is none that is ignored.
-fn is_text(alloc: Global, bytes: &[u8], ignore: Ignore) -> Option<bool> {
-    match record(alloc, bytes, ignore) {
-        Ok(Some(Record::Text(_))) => Some(true),
-        Ok(Some(Record::Entry | Record::Property)) => Some(false),
-        _ => None,
+/// What is ignored, by its name.
+fn ignore_of(name: &str) -> Ignore {
+    Ignore {
+        names: name == "names",
+        texts: name == "texts",
+        properties: name == "properties",
+        padding: false,
     }
 }
 
-/// The rule or the value that a record of these bytes breaches.
-fn breach(alloc: Global, bytes: &[u8], ignore: Ignore) -> Option<RecordFault> {
-    match record(alloc, bytes, ignore) {
-        Err(Cause::Breach(fault)) => Some(fault),
-        _ => None,
+/// All but that.
+fn without(ignore: Ignore) -> Ignore {
+    Ignore {
+        properties: !ignore.properties,
+        texts: !ignore.texts,
+        names: !ignore.names,
+        padding: true,
     }
 }
 
-/// How many places the repetition of a text of these bytes has.
-fn places(alloc: Global, bytes: &[u8], ignore: Ignore) -> Option<u64> {
-    match record(alloc, bytes, ignore) {
-        Ok(Some(Record::Text(Some(Repetition::New(shifts))))) => Some(shifts.len()),
-        _ => None,
-    }
+/// A record is a text if its type is 19, and is unsupported where it isn't ignored.
+fn check_record(rt: &impl Abort, alloc: Global, row: &str) -> Result<(), Fail> {
+    let (words, wanted) = cut(row, " | ");
+    let (name, id) = cut(wanted, " ");
+    let ignore = ignore_of(name);
+    let found = record_text(alloc, words, ignore)?;
+    let want = if id == "19" { "text" } else { "no text" };
+    assert!(rt; found.starts_with(want), "{row}");
+    let refused = record_text(alloc, words, without(ignore))?;
+    check_text(
+        rt,
+        &refused,
+        &format!(in alloc; "Rule(Unsupported({id}))")?,
+        row,
+    );
+    Ok(())
 }
 
-/// Each record once: names, texts and properties, with what must be ignored to read it.
 #[test]
 fn records_that_are_ignored(rt: HostRuntime) -> Result<(), Fail> {
-    let nothing = Ignore::NOTHING;
-    let names = Ignore {
-        names: true,
-        ..nothing
-    };
-    let texts = Ignore {
-        texts: true,
-        ..nothing
-    };
-    let properties = Ignore {
-        properties: true,
-        ..nothing
-    };
-    let rows: [(&[u8], Ignore, u64); 22] = [
-        (b"\x05\x03a b", texts, 5),
-        (b"\x06\x03a b\x80\x01", texts, 6),
-        (b"\x07\x01a", properties, 7),
-        (b"\x08\x01a\x07", properties, 8),
-        (b"\x09\x02\x00\xFF", properties, 9),
-        (b"\x0A\x00\x07", properties, 10),
-        (b"\x0B\x01a\x00\x01\x05", names, 11),
-        (b"\x0B\x01a\x02\x05\x03\x05", names, 11),
-        (b"\x0C\x01a\x04\x05\x80\x01\x04\x00\x00", names, 12),
-        (b"\x13\x00", texts, 19),
-        (b"\x13\x5B\x02hi\x01\x02\x03\x04", texts, 19),
-        (b"\x13\x7F\x05\x01\x02\x03\x04\x02\x00\x05", texts, 19),
-        (b"\x13\x20", texts, 19),
-        (b"\x1C\x00", properties, 28),
-        (b"\x1C\x04\x01a", properties, 28),
-        (b"\x1C\x06\x05", properties, 28),
-        (b"\x1C\x0D\x01a", properties, 28),
-        (b"\x1C\x27\x05\x08\xE8\x07\x0A\x01a", properties, 28),
-        (b"\x1C\xF0\x02\x08\x01\x0D\x02", properties, 28),
-        (b"\x1D", properties, 29),
-        (b"\x1E\x07\x02\x00\xFF", names, 30),
-        (b"\x1F\x07\x00\x80\x01", names, 31),
-    ];
-    for (bytes, ignore, id) in rows {
-        let found = is_text(rt.alloc(), bytes, ignore);
-        assert_eq!(rt; found, Some(id == 19), "{bytes:?}");
-        let without = Ignore {
-            properties: !ignore.properties,
-            texts: !ignore.texts,
-            names: !ignore.names,
-            padding: true,
-        };
-        let refused = RecordFault::Rule(RecordRule::Unsupported(id));
-        assert_eq!(rt;
-            breach(rt.alloc(), bytes, without),
-            Some(refused),
-            "{bytes:?}"
-        );
+    for row in RECORDS.lines() {
+        check_record(&rt, rt.alloc(), row)?;
     }
     Ok(())
 }
 
 #[test]
 fn a_text_keeps_its_repetition(rt: HostRuntime) -> Result<(), Fail> {
-    let texts = Ignore {
-        texts: true,
-        ..Ignore::NOTHING
-    };
-    assert_eq!(rt; places(rt.alloc(), b"\x13\x04\x02\x01\x05", texts), Some(3));
+    let found = record_text(rt.alloc(), "13 04 02 01 05", ignore_of("texts"))?;
+    assert_eq!(rt; found.as_str(), "text of 3 places");
     Ok(())
 }
 
-/// Malformed ones: with everything ignored, each is refused by the value or the rule that it breaches.
 #[test]
 fn malformed_records(rt: HostRuntime) -> Result<(), Fail> {
-    let value = |fault: ValueFault| RecordFault::Value(fault);
-    let info = RecordFault::Rule(RecordRule::Info);
-    let rows: [(&[u8], RecordFault); 16] = [
-        (b"\x05\x01\x7F", value(ValueFault::StringByte)),
-        (b"\x07\x00", value(ValueFault::StringByte)),
-        (b"\x07\x02a b", value(ValueFault::StringByte)),
-        (b"\x0A\x00", value(ValueFault::Truncated)),
-        (b"\x0B\x01a\x05\x00", info),
-        (b"\x0C\x01a\x00\x05", info),
-        (b"\x0B\x01a\x04\x05", value(ValueFault::Truncated)),
-        (b"\x13\x80", info),
-        (b"\x13\x04\x0C", value(ValueFault::RepetitionType)),
-        (b"\x13\x40\x01\x00", value(ValueFault::StringByte)),
-        (b"\x1C\x18", info),
-        (b"\x1C\xF8\x00", info),
-        (b"\x1C\x04\x00", value(ValueFault::StringByte)),
-        (b"\x1C\x10\x10", value(ValueFault::RealType)),
-        (b"\x1C\xF0\x02\x08\x01", value(ValueFault::Truncated)),
-        (b"\x1E\x07", value(ValueFault::Truncated)),
-    ];
-    for (bytes, want) in rows {
-        let found = breach(rt.alloc(), bytes, Ignore::EVERYTHING);
-        assert_eq!(rt; found, Some(want), "{bytes:?}");
+    for row in MALFORMED.lines() {
+        let (words, want) = cut(row, " | ");
+        let found = record_text(rt.alloc(), words, Ignore::EVERYTHING)?;
+        check_text(&rt, &found, want, row);
     }
     Ok(())
 }
@@ -297,26 +250,34 @@ fn read_by(
     Ok(library)
 }
 
-/// One cell with one shape, which is one ring at the given number of places.
-fn check_shape(rt: &impl Abort, library: &Library, places: u64) -> Result<(), Fail> {
-    assert_eq!(rt; library.cells.len(), 1);
+/// How many cells there are, and of the first cell how many shapes, with the rings and the places of the first.
+fn counts_text(alloc: Global, library: &Library) -> Result<String, Fail> {
     let shapes = &library.cells.first().ok_or("a cell")?.shapes;
-    assert_eq!(rt; shapes.len(), 1);
-    assert_eq!(rt; shapes.ring_count(0), 1);
-    assert_eq!(rt; shapes.shift_count(0), places);
-    Ok(())
+    if shapes.is_empty() {
+        return Err(Fail::from("a shape"));
+    }
+    let (rings, places) = (shapes.ring_count(0), shapes.shift_count(0));
+    Ok(format!(in alloc; "{} {} {rings} {places}", library.cells.len(), shapes.len())?)
+}
+
+/// Those counts, where all is ignored.
+fn counts_of(alloc: Global, bytes: &[u8], most: usize) -> Result<String, Fail> {
+    let library = read_by(alloc, bytes, most, Ignore::EVERYTHING)?;
+    counts_text(alloc, &library)
 }
 
 #[test]
 fn reads_a_square_among_what_is_ignored(rt: HostRuntime) -> Result<(), Fail> {
     let bytes = file(rt.alloc(), &AROUND)?;
-    let fault = OasisFault::At {
-        offset: 34,
-        kind: OasisKind::Record(RecordRule::Unsupported(5)),
-    };
-    assert_eq!(rt; fault_of(rt.alloc(), &bytes, 5), Some(Cause::Breach(fault)));
-    let library = read_by(rt.alloc(), &bytes, 5, Ignore::EVERYTHING)?;
-    check_shape(&rt, &library, 1)
+    let fault = fault_text(rt.alloc(), fault_of(rt.alloc(), &bytes, 5))?;
+    check_text(&rt, &fault, "34 Record(Unsupported(5))", "nothing ignored");
+    check_text(
+        &rt,
+        &counts_of(rt.alloc(), &bytes, 5)?,
+        "1 1 1 1",
+        "all ignored",
+    );
+    Ok(())
 }
 
 /// A text sets the repetition that a later rectangle uses again, and draws nothing.
@@ -325,51 +286,38 @@ fn a_text_sets_the_repetition(rt: HostRuntime) -> Result<(), Fail> {
     let text: &[u8] = b"\x13\x5F\x02hi\x01\x02\x03\x04\x02\x01\x14";
     let again: &[u8] = b"\x14\x7F\x01\x00\x0A\x0A\x00\x00\x00\x13\x04\x00";
     let bytes = file(rt.alloc(), &[TOP, text, again])?;
-    let library = read_by(rt.alloc(), &bytes, 100, Ignore::EVERYTHING)?;
-    check_shape(&rt, &library, 3)
+    check_text(
+        &rt,
+        &counts_of(rt.alloc(), &bytes, 100)?,
+        "1 1 1 3",
+        "again",
+    );
+    Ok(())
 }
 
 /// The fault of a file of these records, with everything ignored.
-fn fault_in(alloc: Global, records: &[u8]) -> Result<Option<Cause<OasisFault>>, AllocError> {
-    let bytes = file(alloc, &[records])?;
-    Ok(read_by(alloc, &bytes, 100, Ignore::EVERYTHING).err())
+fn fault_in(alloc: Global, words: &str) -> Result<String, Fail> {
+    let records = bytes_of(alloc, words)?;
+    let bytes = file(alloc, &[&records])?;
+    let fault = read_by(alloc, &bytes, 100, Ignore::EVERYTHING).err();
+    Ok(fault_text(alloc, fault)?)
 }
 
 /// Where they may not come, and what they leave undefined.
+const OUT_OF_ORDER: &str = "\
+13 00 | 34 Unexpected(19)
+0E 03 54 4F 50 0B 01 6D 00 00 13 00 | 44 Unexpected(19)
+0E 03 54 4F 50 1F 01 00 00 14 7B 01 00 0A 0A 00 00 | 43 Unexpected(20)
+0E 03 54 4F 50 1C 00 1D 13 00 14 7B 01 00 0A 0A 00 00 21 | 52 Record(Unsupported(33))
+0E 03 54 4F 50 13 04 00 | 39 Figure(Undefined(Repetition))
+0E 03 54 4F 50 13 04 01 00 00 05 05 0E 01 41 13 04 00 | 49 Figure(Undefined(Repetition))
+";
+
 #[test]
 fn refuses_what_is_out_of_order(rt: HostRuntime) -> Result<(), Fail> {
-    let rows: [(&[u8], u64, OasisKind); 6] = [
-        (b"\x13\x00", 34, OasisKind::Unexpected(19)),
-        (
-            b"\x0E\x03TOP\x0B\x01m\x00\x00\x13\x00",
-            44,
-            OasisKind::Unexpected(19),
-        ),
-        (
-            b"\x0E\x03TOP\x1F\x01\x00\x00\x14\x7B\x01\x00\x0A\x0A\x00\x00",
-            43,
-            OasisKind::Unexpected(20),
-        ),
-        (
-            b"\x0E\x03TOP\x1C\x00\x1D\x13\x00\x14\x7B\x01\x00\x0A\x0A\x00\x00\x21",
-            52,
-            OasisKind::Record(RecordRule::Unsupported(33)),
-        ),
-        (
-            b"\x0E\x03TOP\x13\x04\x00",
-            39,
-            OasisKind::Figure(FigureRule::Undefined(Variable::Repetition)),
-        ),
-        (
-            b"\x0E\x03TOP\x13\x04\x01\x00\x00\x05\x05\x0E\x01A\x13\x04\x00",
-            49,
-            OasisKind::Figure(FigureRule::Undefined(Variable::Repetition)),
-        ),
-    ];
-    for (records, offset, kind) in rows {
-        let found = fault_in(rt.alloc(), records)?;
-        let fault = OasisFault::At { offset, kind };
-        assert_eq!(rt; found, Some(Cause::Breach(fault)), "{records:?}");
+    for row in OUT_OF_ORDER.lines() {
+        let (words, want) = cut(row, " | ");
+        check_text(&rt, &fault_in(rt.alloc(), words)?, want, row);
     }
     Ok(())
 }
@@ -384,15 +332,16 @@ fn padded_end(alloc: Global) -> Result<Vec<u8>, AllocError> {
     Ok(bytes)
 }
 
+/// How many cells there are, where padding alone is ignored.
+fn cells_padded(alloc: Global, bytes: &[u8]) -> Result<usize, Fail> {
+    Ok(read_by(alloc, bytes, 9, padding())?.cells.len())
+}
+
 #[test]
 fn reads_an_end_with_a_padded_length(rt: HostRuntime) -> Result<(), Fail> {
     let bytes = padded_end(rt.alloc())?;
-    let fault = OasisFault::At {
-        offset: 39,
-        kind: OasisKind::Value(ValueFault::IntegerTooLarge),
-    };
-    assert_eq!(rt; fault_of(rt.alloc(), &bytes, 9), Some(Cause::Breach(fault)));
-    let library = read_by(rt.alloc(), &bytes, 9, padding())?;
-    assert_eq!(rt; library.cells.len(), 1);
+    let fault = fault_text(rt.alloc(), fault_of(rt.alloc(), &bytes, 9))?;
+    check_text(&rt, &fault, "39 Value(IntegerTooLarge)", "no padding");
+    assert_eq!(rt; cells_padded(rt.alloc(), &bytes)?, 1);
     Ok(())
 }

@@ -22,4 +22,6 @@ mod memory;
 #[cfg(test)]
 mod records;
 #[cfg(test)]
+mod rows;
+#[cfg(test)]
 mod values;

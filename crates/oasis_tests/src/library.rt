@@ -26,15 +26,20 @@ pub const HEAD: OasisHead = OasisHead {
     signature: [0; 4],
 };
 
-/// A file of these records.
-pub fn file(alloc: Global, records: &[&[u8]]) -> Result<Vec<u8>, AllocError> {
-    let mut bytes = Vec::from_slice(alloc, START)?;
+/// Appends these records, and END.
+fn add_records(bytes: &mut Vec<u8>, records: &[&[u8]]) -> Result<(), AllocError> {
     bytes.extend_from_slice(&[0; 13])?;
     for record in records {
         bytes.extend_from_slice(record)?;
     }
     bytes.extend_from_slice(b"\x02\xFC\x01")?;
-    bytes.extend_from_slice(&[0; 253])?;
+    bytes.extend_from_slice(&[0; 253])
+}
+
+/// A file of these records.
+pub fn file(alloc: Global, records: &[&[u8]]) -> Result<Vec<u8>, AllocError> {
+    let mut bytes = Vec::from_slice(alloc, START)?;
+    add_records(&mut bytes, records)?;
     Ok(bytes)
 }
 

@@ -1,10 +1,12 @@
 //! Files read whole: which fault comes first, and where a file is cut or a reader fails.
 
 use crate::library::{fault_of, file, square};
+use crate::rows::{bytes_of, check_text, cut};
 use lvl_io::fake::Pieces;
 use lvl_refusal::Cause;
-use oasis_library::{OasisFault, OasisKind, RecordRule, ValueFault, read_oasis};
+use oasis_library::{OasisFault, OasisKind, ValueFault, read_oasis};
 use std::alloc::{AllocError, Global};
+use std::process::Abort;
 use std::test::Fail;
 
 fn at(offset: u64, kind: OasisKind) -> Option<Cause<OasisFault>> {
@@ -50,17 +52,11 @@ const FAULTS: &str = "\
 0E 03 54 4F 50 02 FB 01 | 39 Record(EndLength)
 ";
 
-/// The bytes of these hexadecimal words.
-pub(crate) fn bytes_of(alloc: Global, words: &str) -> Result<Vec<u8>, Fail> {
-    let mut bytes = Vec::new(alloc);
-    for word in words.split_whitespace() {
-        bytes.push(u8::from_str_radix(word, 16)?)?;
-    }
-    Ok(bytes)
-}
-
 /// Where a fault is, and its kind.
-fn fault_text(alloc: Global, fault: Option<Cause<OasisFault>>) -> Result<String, AllocError> {
+pub(crate) fn fault_text(
+    alloc: Global,
+    fault: Option<Cause<OasisFault>>,
+) -> Result<String, AllocError> {
     match fault {
         Some(Cause::Breach(OasisFault::At { offset, kind })) => {
             format!(in alloc; "{offset} {kind:?}")
@@ -82,31 +78,33 @@ fn fault_in(alloc: Global, words: &str) -> Result<String, Fail> {
 #[test]
 fn names_the_first_fault(rt: HostRuntime) -> Result<(), Fail> {
     for row in FAULTS.lines() {
-        let (words, want) = row.split_once(" | ").unwrap_or((row, ""));
-        assert_eq!(rt; fault_in(rt.alloc(), words)?.as_str(), want, "{row}");
+        let (words, want) = cut(row, " | ");
+        check_text(&rt, &fault_in(rt.alloc(), words)?, want, row);
     }
     Ok(())
 }
 
-/// The fault of `square` with that byte changed.
-fn fault_with(alloc: Global, k: usize, byte: u8) -> Result<Option<Cause<OasisFault>>, Fail> {
+/// A byte of the head that is changed, its value, and the fault.
+const HEADS: &str = "\
+0 26 | 0 Record(Magic)
+12 0D | 0 Record(Magic)
+17 31 | 13 Record(Version)
+18 01 | 13 Record(Unit)
+";
+
+/// The fault of `square` with the byte of a row.
+fn fault_with(alloc: Global, words: &str) -> Result<String, Fail> {
+    let (place, value) = cut(words, " ");
     let mut bytes = square(alloc)?;
-    *bytes.get_mut(k).ok_or("a byte")? = byte;
-    Ok(fault_of(alloc, &bytes, 9))
+    *bytes.get_mut(place.parse::<usize>()?).ok_or("a byte")? = u8::from_str_radix(value, 16)?;
+    Ok(fault_text(alloc, fault_of(alloc, &bytes, 9))?)
 }
 
-/// A byte of the head that is changed.
 #[test]
 fn names_faults_of_heads(rt: HostRuntime) -> Result<(), Fail> {
-    let rows: [(usize, u8, u64, RecordRule); 4] = [
-        (0, b'&', 0, RecordRule::Magic),
-        (12, b'\r', 0, RecordRule::Magic),
-        (17, b'1', 13, RecordRule::Version),
-        (18, 1, 13, RecordRule::Unit),
-    ];
-    for (k, byte, offset, rule) in rows {
-        let found = fault_with(rt.alloc(), k, byte)?;
-        assert_eq!(rt; found, at(offset, OasisKind::Record(rule)));
+    for row in HEADS.lines() {
+        let (words, want) = cut(row, " | ");
+        check_text(&rt, &fault_with(rt.alloc(), words)?, want, row);
     }
     Ok(())
 }
@@ -121,17 +119,28 @@ fn names_a_byte_after_the_end(rt: HostRuntime) -> Result<(), Fail> {
 }
 
 /// Numbers that no name has: the first that is used.
+const NUMBERS: &str = "\
+0D 00 14 7B 01 00 0A 0A 00 00 | 0
+0D 01 11 C0 09 11 C0 08 03 01 41 03 01 42 | 9
+0D 02 11 C0 09 03 01 41 03 01 42 | 2
+";
+
+/// The number without a name for which a file of these records is refused.
+fn unresolved(alloc: Global, words: &str) -> Result<Option<u64>, Fail> {
+    let records = bytes_of(alloc, words)?;
+    let bytes = file(alloc, &[&records])?;
+    match fault_of(alloc, &bytes, 9) {
+        Some(Cause::Breach(OasisFault::Unresolved(number))) => Ok(Some(number)),
+        _ => Ok(None),
+    }
+}
+
 #[test]
 fn names_numbers_without_a_name(rt: HostRuntime) -> Result<(), Fail> {
-    let rows: [(&[u8], u64); 3] = [
-        (b"\x0D\x00\x14\x7B\x01\x00\x0A\x0A\x00\x00", 0),
-        (b"\x0D\x01\x11\xC0\x09\x11\xC0\x08\x03\x01A\x03\x01B", 9),
-        (b"\x0D\x02\x11\xC0\x09\x03\x01A\x03\x01B", 2),
-    ];
-    for (records, number) in rows {
-        let bytes = file(rt.alloc(), &[records])?;
-        let want = Some(Cause::Breach(OasisFault::Unresolved(number)));
-        assert_eq!(rt; fault_of(rt.alloc(), &bytes, 9), want);
+    for row in NUMBERS.lines() {
+        let (words, want) = cut(row, " | ");
+        let found = unresolved(rt.alloc(), words)?;
+        assert_eq!(rt; found, Some(want.parse::<u64>()?), "{row}");
     }
     Ok(())
 }
@@ -157,20 +166,21 @@ fn failing(alloc: Global, bytes: &[u8]) -> (Option<Cause<OasisFault>>, u64) {
     (fault, reader.errors)
 }
 
+/// The first `k` of these bytes are truncated at the record that isn't whole, and so is a read that fails there.
+fn check_cut(rt: &impl Abort, alloc: Global, bytes: &[u8], k: usize) {
+    let failed = value(begun(k), ValueFault::Read);
+    assert_eq!(rt; failing(alloc, bytes), (failed, 1), "after {k}");
+    let cut = value(begun(k), ValueFault::Truncated);
+    let want = if begun(k) < 303 { cut } else { None };
+    assert_eq!(rt; fault_of(alloc, bytes, 7), want, "cut to {k}");
+}
+
 /// Rows oasis-cuts and failing-read: the first bytes alone, and then the end or one failure.
 #[test]
 fn refuses_each_cut_and_each_failed_read(rt: HostRuntime) -> Result<(), Fail> {
     let bytes = square(rt.alloc())?;
     for k in 0..=bytes.len() {
-        let want = if k < bytes.len() {
-            value(begun(k), ValueFault::Truncated)
-        } else {
-            None
-        };
-        assert_eq!(rt; fault_of(rt.alloc(), &bytes[..k], 7), want, "cut to {k}");
-        let (failed, errors) = failing(rt.alloc(), &bytes[..k]);
-        assert_eq!(rt; failed, value(begun(k), ValueFault::Read), "after {k}");
-        assert_eq!(rt; errors, 1);
+        check_cut(&rt, rt.alloc(), &bytes[..k], k);
     }
     Ok(())
 }

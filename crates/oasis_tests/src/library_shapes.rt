@@ -1,11 +1,10 @@
 //! Files read whole: what is drawn, how often, and which cells are placed.
 
 use crate::library::{TOP, boxes, first_of, library_of};
-use crate::library_faults::bytes_of;
-use lvl_cells::{Cell, Library, References, Shapes};
-use lvl_grid::{Point, Turn};
-use std::alloc::Global;
-use std::process::Abort;
+use crate::rows::{bytes_of, check_text, cut};
+use lvl_cells::{Cell, KeptReference, Library, Shapes};
+use lvl_grid::Point;
+use std::alloc::{AllocError, Global};
 use std::test::Fail;
 
 /// Rows square-flag, names-by-number, implied-vertex, path-ends, relative-mode, negative-x and
@@ -56,84 +55,110 @@ fn drawn_boxes(alloc: Global, words: &str) -> Result<String, Fail> {
 #[test]
 fn draws_boxes(rt: HostRuntime) -> Result<(), Fail> {
     for row in BOXES.lines() {
-        let (words, want) = row.split_once(" | ").unwrap_or((row, ""));
-        assert_eq!(rt; drawn_boxes(rt.alloc(), words)?.as_str(), want, "{row}");
+        let (words, want) = cut(row, " | ");
+        check_text(&rt, &drawn_boxes(rt.alloc(), words)?, want, row);
     }
     Ok(())
 }
 
-/// One shape at three places along x.
-fn check_spaces(rt: &impl Abort, shapes: &Shapes) {
-    assert_eq!(rt; shapes.len(), 1);
-    assert_eq!(rt; shapes.shift_count(0), 3);
-    for (k, x) in [(0, 0), (1, 12), (2, 32)] {
-        assert_eq!(rt; shapes.shift(0, k), Some(Point { x, y: 0 }));
+/// At how many places each shape of the cell TOP stands.
+fn counts_text(alloc: Global, shapes: &Shapes) -> Result<String, AllocError> {
+    let mut text = String::new(alloc);
+    for i in 0..shapes.len() {
+        text.push_str(&format!(in alloc; "{} ", shapes.shift_count(i))?)?;
     }
+    Ok(text)
+}
+
+/// The places of the first shape.
+fn places_text(alloc: Global, shapes: &Shapes) -> Result<String, AllocError> {
+    let mut text = String::new(alloc);
+    if !shapes.is_empty() {
+        for k in 0..shapes.shift_count(0) {
+            if let Some(Point { x, y }) = shapes.shift(0, k) {
+                text.push_str(&format!(in alloc; "{x},{y} ")?)?;
+            }
+        }
+    }
+    Ok(text)
+}
+
+fn counts_of(alloc: Global, record: &[u8], most: usize) -> Result<String, Fail> {
+    let library = library_of(alloc, &[TOP, record], most)?;
+    Ok(counts_text(alloc, &first_of(&library)?.shapes)?)
+}
+
+fn places_of(alloc: Global, record: &[u8]) -> Result<String, Fail> {
+    let library = library_of(alloc, &[TOP, record], 1)?;
+    Ok(places_text(alloc, &first_of(&library)?.shapes)?)
 }
 
 /// Row spaces: the shifts of a rectangle.
 #[test]
 fn repeats_shapes(rt: HostRuntime) -> Result<(), Fail> {
     let spaces = b"\x14\x7F\x01\x00\x0A\x0A\x00\x00\x04\x01\x0C\x14";
-    let library = library_of(rt.alloc(), &[TOP, spaces], 1)?;
-    check_spaces(&rt, &first_of(&library)?.shapes);
+    check_text(&rt, &counts_of(rt.alloc(), spaces, 1)?, "3 ", "spaces");
+    check_text(
+        &rt,
+        &places_of(rt.alloc(), spaces)?,
+        "0,0 12,0 32,0 ",
+        "spaces",
+    );
     Ok(())
 }
 
-/// Three shapes: the second is at one place.
-fn check_long(rt: &impl Abort, shapes: &Shapes) {
-    assert_eq!(rt; shapes.len(), 3);
-    assert_eq!(rt; shapes.shift_count(0), 16_777_216);
-    assert_eq!(rt; shapes.shift_count(1), 1);
-    assert_eq!(rt; shapes.shift_count(2), 16_777_216);
-}
-
-/// Row long-repetition.
+/// Row long-repetition: the second of three shapes is at one place.
 #[test]
 fn repeats_shapes_at_many_places(rt: HostRuntime) -> Result<(), Fail> {
     let long = b"\x14\x7F\x01\x00\x01\x01\x00\x00\x02\xFE\xFF\xFF\x07\x01\x14\x00\x14\x04\x00";
-    let library = library_of(rt.alloc(), &[TOP, long], 1000)?;
-    check_long(&rt, &first_of(&library)?.shapes);
+    let counts = counts_of(rt.alloc(), long, 1000)?;
+    check_text(&rt, &counts, "16777216 1 16777216 ", "long-repetition");
     Ok(())
 }
 
-/// Each reference places a cell of that name once, at that place on the x-axis.
-fn check_references(rt: &impl Abort, references: &References, name: &[u8], x: i64) {
-    for j in 0..references.len() {
-        let reference = references.reference(j);
-        assert_eq!(rt; reference.cell(), name);
-        assert_eq!(rt; reference.at(), Point { x, y: 0 });
-        assert_eq!(rt; reference.shifts().len(), 1);
+/// A cell that is placed, whether and how it is turned, where it is, and at how many shifts.
+fn reference_text(alloc: Global, reference: &KeptReference<'_>) -> Result<String, AllocError> {
+    let cell = String::from_utf8_lossy(alloc, reference.cell())?;
+    let (flip, turn) = (reference.flip(), reference.turn());
+    let Point { x, y } = reference.at();
+    format!(in alloc;
+        "; {cell} {flip} {turn:?} {x},{y} {}",
+        reference.shifts().len()
+    )
+}
+
+/// The name of a cell, and its references.
+fn cell_text(alloc: Global, cell: &Cell) -> Result<String, AllocError> {
+    let mut text = String::from_utf8_lossy(alloc, cell.name.as_bytes())?;
+    for j in 0..cell.references.len() {
+        text.push_str(&reference_text(alloc, &cell.references.reference(j))?)?;
     }
+    Ok(text)
 }
 
-/// The cell TOP with two references: how the first is turned, and whether it is reflected.
-fn check_placing(rt: &impl Abort, cell: &Cell, turn: Turn, flip: bool) -> Result<(), Fail> {
-    assert_eq!(rt; cell.name.as_bytes(), b"TOP".as_slice());
-    assert_eq!(rt; cell.references.len(), 2);
-    let first = cell.references.get(0).ok_or("a reference")?;
-    assert_eq!(rt; first.turn(), turn);
-    assert_eq!(rt; first.flip(), flip);
-    Ok(())
+/// Row placement-fields, and cells by numbers, where a name of number n isn't that of the n-th CELL: a placement in
+/// a cell TOP before one of no fields, and what both place.
+const PLACEMENTS: &str = "\
+12 B2 01 41 00 5A 00 00 | TOP; A false R90 0,0 1; A false R0 0,0 1
+12 84 01 41 04 02 02 | TOP; A false R0 0,0 1; A false R0 0,0 1
+11 B4 01 41 03 00 | TOP; A false R180 -1,0 1; A false R0 -1,0 1
+11 F4 07 03 00 | TOP; B false R180 -1,0 1; B false R0 -1,0 1
+11 F1 05 04 00 | TOP; TOP true R0 2,0 1; TOP false R0 2,0 1
+";
+
+fn placed_by(alloc: Global, words: &str) -> Result<String, Fail> {
+    let record = bytes_of(alloc, words)?;
+    let names = b"\x04\x01B\x07\x04\x01A\x00\x04\x03TOP\x05";
+    let records: [&[u8]; 4] = [b"\x0D\x05", &record, b"\x11\x00", names];
+    let library = library_of(alloc, &records, 2)?;
+    Ok(cell_text(alloc, first_of(&library)?)?)
 }
 
-/// Row placement-fields, and cells by numbers: a name of number n isn't that of the n-th CELL.
 #[test]
 fn places_cells(rt: HostRuntime) -> Result<(), Fail> {
-    let rows: [(&[u8], &[u8], Turn, i64); 5] = [
-        (b"\x12\xB2\x01A\x00\x5A\x00\x00", b"A", Turn::R90, 0),
-        (b"\x12\x84\x01A\x04\x02\x02", b"A", Turn::R0, 0),
-        (b"\x11\xB4\x01A\x03\x00", b"A", Turn::R180, -1),
-        (b"\x11\xF4\x07\x03\x00", b"B", Turn::R180, -1),
-        (b"\x11\xF1\x05\x04\x00", b"TOP", Turn::R0, 2),
-    ];
-    for (record, name, turn, x) in rows {
-        let names = b"\x04\x01B\x07\x04\x01A\x00\x04\x03TOP\x05";
-        let records: [&[u8]; 4] = [b"\x0D\x05", record, b"\x11\x00", names];
-        let library = library_of(rt.alloc(), &records, 2)?;
-        let cell = first_of(&library)?;
-        check_placing(&rt, cell, turn, x == 2)?;
-        check_references(&rt, &cell.references, name, x);
+    for row in PLACEMENTS.lines() {
+        let (words, want) = cut(row, " | ");
+        check_text(&rt, &placed_by(rt.alloc(), words)?, want, row);
     }
     Ok(())
 }

@@ -1,132 +1,115 @@
 //! Lists of points and repetitions by the byte.
 
+use crate::rows::{bytes_of, check_text, cut};
 use crate::values::input;
 use lvl_grid::Point;
 use lvl_names::Offsets;
 use lvl_refusal::Cause;
-use oasis_values::{Repetition, Use, ValueFault};
-use std::alloc::AllocError;
-use std::process::Abort;
+use oasis_values::{Repetition, Use};
+use std::alloc::{AllocError, Global};
 use std::test::Fail;
 
-fn check_points(rt: &impl Abort, points: &[Point], want: &[(i64, i64)]) {
-    assert_eq!(rt; points.len(), want.len());
-    for (point, (x, y)) in points.iter().zip(want) {
-        assert_eq!(rt; (point.x, point.y), (*x, *y));
+fn add_point(alloc: Global, text: &mut String, point: Point) -> Result<(), AllocError> {
+    let Point { x, y } = point;
+    text.push_str(&format!(in alloc; " {x},{y}")?)
+}
+
+/// The points, each after a space.
+fn points_text(alloc: Global, points: &[Point]) -> Result<String, AllocError> {
+    let mut text = String::new(alloc);
+    for point in points {
+        add_point(alloc, &mut text, *point)?;
+    }
+    Ok(text)
+}
+
+/// What the points of polygons and paths are used for, their bytes, and the points or the fault.
+const POINT_LISTS: &str = "\
+polygon 02 03 28 29 2A | 0,0 10,0 10,10 0,10
+polygon 05 03 A0 01 AA 01 AC 01 | 0,0 10,0 10,10 0,10
+polygon 00 02 14 14 | 0,0 10,0 10,10 0,10
+polygon 01 02 14 14 | 0,0 0,10 10,10 10,0
+polygon 00 02 03 02 | 0,0 -1,0 -1,1 0,1
+polygon 00 03 14 14 14 | PointCount
+polygon 02 01 14 | PointCount
+polygon 02 81 80 04 | PointCount
+polygon 06 | PointListType
+path 00 01 14 | 0,0 10,0
+path 03 02 54 55 | 0,0 10,10 0,20
+path 01 03 FF FF FF FF FF FF FF FF FF 01 00 03 | \
+    0,0 0,-9223372036854775807 0,-9223372036854775807 0,-9223372036854775808
+path 01 03 FF FF FF FF FF FF FF FF FF 01 00 05 | OutOfRange
+";
+
+/// The points of these bytes, or the fault.
+fn point_list_text(alloc: Global, bytes: &[u8], purpose: Use) -> Result<String, AllocError> {
+    match input(bytes).point_list(alloc, purpose) {
+        Ok(points) => points_text(alloc, &points),
+        Err(Cause::Breach(fault)) => format!(in alloc; " {fault:?}"),
+        Err(Cause::OutOfMemory) => Err(AllocError),
     }
 }
 
-/// These points, or the fault.
-fn check_point_list(
-    rt: &impl Abort,
-    read: &Result<Vec<Point>, Cause<ValueFault>>,
-    want: Result<&[(i64, i64)], ValueFault>,
-) -> Result<(), Fail> {
-    match read {
-        Ok(points) => check_points(rt, points, want.unwrap_or(&[])),
-        Err(Cause::Breach(fault)) => assert_eq!(rt; Some(*fault), want.err()),
-        Err(Cause::OutOfMemory) => return Err(AllocError.into()),
-    }
-    Ok(())
+fn point_list_of(alloc: Global, words: &str) -> Result<String, Fail> {
+    let (name, words) = cut(words, " ");
+    let purpose = if name == "path" {
+        Use::Path
+    } else {
+        Use::Polygon
+    };
+    let bytes = bytes_of(alloc, words)?;
+    Ok(point_list_text(alloc, &bytes, purpose)?)
 }
 
 #[test]
 fn point_lists(rt: HostRuntime) -> Result<(), Fail> {
-    let square: [(i64, i64); 4] = [(0, 0), (10, 0), (10, 10), (0, 10)];
-    let rows: [(Use, &[u8], Result<&[(i64, i64)], ValueFault>); 13] = [
-        (Use::Polygon, b"\x02\x03\x28\x29\x2A", Ok(&square)),
-        (
-            Use::Polygon,
-            b"\x05\x03\xA0\x01\xAA\x01\xAC\x01",
-            Ok(&square),
-        ),
-        (Use::Polygon, b"\x00\x02\x14\x14", Ok(&square)),
-        (
-            Use::Polygon,
-            b"\x01\x02\x14\x14",
-            Ok(&[(0, 0), (0, 10), (10, 10), (10, 0)]),
-        ),
-        (
-            Use::Polygon,
-            b"\x00\x02\x03\x02",
-            Ok(&[(0, 0), (-1, 0), (-1, 1), (0, 1)]),
-        ),
-        (
-            Use::Polygon,
-            b"\x00\x03\x14\x14\x14",
-            Err(ValueFault::PointCount),
-        ),
-        (Use::Polygon, b"\x02\x01\x14", Err(ValueFault::PointCount)),
-        (
-            Use::Polygon,
-            b"\x02\x81\x80\x04",
-            Err(ValueFault::PointCount),
-        ),
-        (Use::Polygon, b"\x06", Err(ValueFault::PointListType)),
-        (Use::Path, b"\x00\x01\x14", Ok(&[(0, 0), (10, 0)])),
-        (
-            Use::Path,
-            b"\x03\x02\x54\x55",
-            Ok(&[(0, 0), (10, 10), (0, 20)]),
-        ),
-        (
-            Use::Path,
-            b"\x01\x03\xFF\xFF\xFF\xFF\xFF\xFF\xFF\xFF\xFF\x01\x00\x03",
-            Ok(&[(0, 0), (0, -i64::MAX), (0, -i64::MAX), (0, i64::MIN)]),
-        ),
-        (
-            Use::Path,
-            b"\x01\x03\xFF\xFF\xFF\xFF\xFF\xFF\xFF\xFF\xFF\x01\x00\x05",
-            Err(ValueFault::OutOfRange),
-        ),
-    ];
-    for (purpose, bytes, want) in rows {
-        let read = input(bytes).point_list(rt.alloc(), purpose);
-        check_point_list(&rt, &read, want)?;
+    for row in POINT_LISTS.lines() {
+        let (words, want) = cut(row, " |");
+        check_text(&rt, &point_list_of(rt.alloc(), words)?, want, row);
     }
     Ok(())
 }
 
-fn check_places(rt: &impl Abort, places: &Offsets, want: &[(i64, i64)]) {
-    assert_eq!(rt; places.len(), want.len() as u64);
-    for (k, (x, y)) in want.iter().enumerate() {
-        assert_eq!(rt; places.at(k as u64), Some(Point { x: *x, y: *y }));
+/// The places, each after a space.
+fn places_text(alloc: Global, places: &Offsets) -> Result<String, AllocError> {
+    let mut text = String::new(alloc);
+    for k in 0..places.len() {
+        if let Some(place) = places.at(k) {
+            add_point(alloc, &mut text, place)?;
+        }
+    }
+    Ok(text)
+}
+
+/// Repetitions and their places.
+const REPETITIONS: &str = "\
+01 00 00 0A 14 | 0,0 10,0 0,20 10,20
+03 01 0A | 0,0 0,10 0,20
+04 01 0C 14 | 0,0 12,0 32,0
+05 01 03 02 04 | 0,0 6,0 18,0
+08 00 01 20 22 | 0,0 2,0 0,2 2,2 0,4 2,4
+0B 01 05 28 17 08 | 0,0 10,10 -15,30
+";
+
+/// The places of a repetition of these bytes.
+fn repetition_text(alloc: Global, bytes: &[u8]) -> Result<String, AllocError> {
+    match input(bytes).repetition(alloc, false) {
+        Ok(Repetition::New(places)) => places_text(alloc, &places),
+        Err(Cause::OutOfMemory) => Err(AllocError),
+        _ => String::from_str(alloc, "no places"),
     }
 }
 
-/// A repetition at these places.
-fn check_repetition(
-    rt: &impl Abort,
-    read: &Result<Repetition, Cause<ValueFault>>,
-    want: &[(i64, i64)],
-) -> Result<(), Fail> {
-    match read {
-        Ok(Repetition::New(places)) => check_places(rt, places, want),
-        Err(Cause::OutOfMemory) => return Err(AllocError.into()),
-        _ => assert!(rt; false, "no places"),
-    }
-    Ok(())
+fn repetition_of(alloc: Global, words: &str) -> Result<String, Fail> {
+    let bytes = bytes_of(alloc, words)?;
+    Ok(repetition_text(alloc, &bytes)?)
 }
 
 #[test]
 fn repetitions(rt: HostRuntime) -> Result<(), Fail> {
-    let rows: [(&[u8], &[(i64, i64)]); 6] = [
-        (
-            b"\x01\x00\x00\x0A\x14",
-            &[(0, 0), (10, 0), (0, 20), (10, 20)],
-        ),
-        (b"\x03\x01\x0A", &[(0, 0), (0, 10), (0, 20)]),
-        (b"\x04\x01\x0C\x14", &[(0, 0), (12, 0), (32, 0)]),
-        (b"\x05\x01\x03\x02\x04", &[(0, 0), (6, 0), (18, 0)]),
-        (
-            b"\x08\x00\x01\x20\x22",
-            &[(0, 0), (2, 0), (0, 2), (2, 2), (0, 4), (2, 4)],
-        ),
-        (b"\x0B\x01\x05\x28\x17\x08", &[(0, 0), (10, 10), (-15, 30)]),
-    ];
-    for (bytes, want) in rows {
-        let read = input(bytes).repetition(rt.alloc(), false);
-        check_repetition(&rt, &read, want)?;
+    for row in REPETITIONS.lines() {
+        let (words, want) = cut(row, " |");
+        check_text(&rt, &repetition_of(rt.alloc(), words)?, want, row);
     }
     Ok(())
 }
@@ -138,42 +121,38 @@ fn the_modal_repetition(rt: HostRuntime) -> Result<(), Fail> {
     Ok(())
 }
 
-/// A repetition at the given number of places, or the fault.
-fn check_count(
-    rt: &impl Abort,
-    read: &Result<Repetition, Cause<ValueFault>>,
-    want: Result<u64, ValueFault>,
-) -> Result<(), Fail> {
-    match read {
-        Ok(Repetition::New(places)) => assert_eq!(rt; Ok(places.len()), want),
-        Ok(Repetition::Modal) => assert!(rt; false, "nothing to use again"),
-        Err(Cause::Breach(fault)) => assert_eq!(rt; Err(*fault), want),
-        Err(Cause::OutOfMemory) => return Err(AllocError.into()),
+/// Repetitions, and how many places each has, or the fault.
+const LIMITS: &str = "\
+02 FE FF FF 07 01 | 16777216
+02 FF FF FF 07 01 | RepetitionSize
+04 FF FF 3F | RepetitionSize
+02 00 80 80 80 80 80 80 80 80 80 01 | OutOfRange
+00 | NoModal
+0C | RepetitionType
+01 FF FF FF FF FF FF FF FF FF 01 00 | RepetitionSize
+01 FF FF FF 07 | Truncated
+";
+
+/// How many places a repetition of these bytes has, or the fault.
+fn count_text(alloc: Global, bytes: &[u8]) -> Result<String, AllocError> {
+    match input(bytes).repetition(alloc, false) {
+        Ok(Repetition::New(places)) => format!(in alloc; "{}", places.len()),
+        Ok(Repetition::Modal) => String::from_str(alloc, "nothing to use again"),
+        Err(Cause::Breach(fault)) => format!(in alloc; "{fault:?}"),
+        Err(Cause::OutOfMemory) => Err(AllocError),
     }
-    Ok(())
+}
+
+fn count_of(alloc: Global, words: &str) -> Result<String, Fail> {
+    let bytes = bytes_of(alloc, words)?;
+    Ok(count_text(alloc, &bytes)?)
 }
 
 #[test]
 fn repetition_limits(rt: HostRuntime) -> Result<(), Fail> {
-    let rows: [(&[u8], Result<u64, ValueFault>); 8] = [
-        (b"\x02\xFE\xFF\xFF\x07\x01", Ok(16_777_216)),
-        (b"\x02\xFF\xFF\xFF\x07\x01", Err(ValueFault::RepetitionSize)),
-        (b"\x04\xFF\xFF\x3F", Err(ValueFault::RepetitionSize)),
-        (
-            b"\x02\x00\x80\x80\x80\x80\x80\x80\x80\x80\x80\x01",
-            Err(ValueFault::OutOfRange),
-        ),
-        (b"\x00", Err(ValueFault::NoModal)),
-        (b"\x0C", Err(ValueFault::RepetitionType)),
-        (
-            b"\x01\xFF\xFF\xFF\xFF\xFF\xFF\xFF\xFF\xFF\x01\x00",
-            Err(ValueFault::RepetitionSize),
-        ),
-        (b"\x01\xFF\xFF\xFF\x07", Err(ValueFault::Truncated)),
-    ];
-    for (bytes, want) in rows {
-        let read = input(bytes).repetition(rt.alloc(), false);
-        check_count(&rt, &read, want)?;
+    for row in LIMITS.lines() {
+        let (words, want) = cut(row, " | ");
+        check_text(&rt, &count_of(rt.alloc(), words)?, want, row);
     }
     Ok(())
 }

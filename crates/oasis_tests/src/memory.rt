@@ -50,16 +50,17 @@ fn memory_of_point_lists(rt: HostRuntime) -> Result<(), Fail> {
     Ok(())
 }
 
+/// How many references the cell of a file of these records has.
+fn references_of(alloc: Global, records: &[u8]) -> Result<usize, Fail> {
+    let library = library_of(alloc, &[TOP, records], 65_536)?;
+    Ok(library.cells.first().ok_or("a cell")?.references.len())
+}
+
 /// 1,000 records of two bytes place the cell of the placement before them.
 #[test]
 fn memory_of_placements(rt: HostRuntime) -> Result<(), Fail> {
-    let mut records = Vec::from_slice(rt.alloc(), b"\x11\x80\x01A")?;
-    for _ in 0..1000u32 {
-        records.extend_from_slice(b"\x11\x00")?;
-    }
-    let library = library_of(rt.alloc(), &[TOP, &records], 65_536)?;
-    let cell = library.cells.first().ok_or("a cell")?;
-    assert_eq!(rt; cell.references.len(), 1001);
+    let records = repeated(rt.alloc(), b"\x11\x80\x01A", 0, b"\x11\x00")?;
+    assert_eq!(rt; references_of(rt.alloc(), &records)?, 1001);
     Ok(())
 }
 

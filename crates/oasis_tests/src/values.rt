@@ -1,6 +1,7 @@
 //! Values by the byte: what each row spells or breaches, and that it matters neither how a reader cuts
 //! the bytes nor where it fails.
 
+use crate::rows::{bytes_of, check_text, cut};
 use lvl_grid::Point;
 use lvl_ignore::Ignore;
 use lvl_io::Read;
@@ -37,41 +38,54 @@ fn spelled(alloc: Global, number: u64) -> Result<Vec<u8>, AllocError> {
     Ok(bytes)
 }
 
-const LARGE: Result<u64, ValueFault> = Err(ValueFault::IntegerTooLarge);
+const UNSIGNED: &str = "\
+E8 07 | Ok(1000)
+80 00 | Ok(0)
+FF FF FF FF FF FF FF FF FF 01 | Ok(18446744073709551615)
+FF FF FF FF FF FF FF FF FF 02 | Err(IntegerTooLarge)
+80 80 80 80 80 80 80 80 80 80 00 | Err(IntegerTooLarge)
+80 80 80 80 80 80 80 80 80 | Err(Truncated)
+| Err(Truncated)
+";
+
+fn unsigned_text(alloc: Global, words: &str) -> Result<String, Fail> {
+    let bytes = bytes_of(alloc, words)?;
+    Ok(format!(in alloc; "{:?}", input(&bytes).unsigned())?)
+}
 
 #[test]
 fn small_values(rt: HostRuntime) -> Result<(), Fail> {
-    let unsigned: [(&[u8], Result<u64, ValueFault>); 7] = [
-        (b"\xE8\x07", Ok(1000)),
-        (b"\x80\x00", Ok(0)),
-        (b"\xFF\xFF\xFF\xFF\xFF\xFF\xFF\xFF\xFF\x01", Ok(u64::MAX)),
-        (b"\xFF\xFF\xFF\xFF\xFF\xFF\xFF\xFF\xFF\x02", LARGE),
-        (b"\x80\x80\x80\x80\x80\x80\x80\x80\x80\x80\x00", LARGE),
-        (
-            b"\x80\x80\x80\x80\x80\x80\x80\x80\x80",
-            Err(ValueFault::Truncated),
-        ),
-        (b"", Err(ValueFault::Truncated)),
-    ];
-    for (bytes, want) in unsigned {
-        assert_eq!(rt; input(bytes).unsigned(), want);
+    for row in UNSIGNED.lines() {
+        let (words, want) = cut(row, "| ");
+        check_text(&rt, &unsigned_text(rt.alloc(), words)?, want, row);
     }
     Ok(())
 }
 
+const SIGNED: &str = "\
+0B | Ok(-5)
+03 | Ok(-1)
+02 | Ok(1)
+01 | Ok(0)
+FF FF FF FF FF FF FF FF FF 01 | Ok(-9223372036854775807)
+FE FF FF FF FF FF FF FF FF 01 | Ok(9223372036854775807)
+";
+
+/// A signed integer, if it is the same as a delta.
+fn signed_text(alloc: Global, words: &str) -> Result<String, Fail> {
+    let bytes = bytes_of(alloc, words)?;
+    let signed = input(&bytes).signed();
+    if input(&bytes).one_delta() != signed {
+        return Err(Fail::from("the same delta"));
+    }
+    Ok(format!(in alloc; "{signed:?}")?)
+}
+
 #[test]
 fn small_signed_values(rt: HostRuntime) -> Result<(), Fail> {
-    let signed: [(&[u8], i64); 6] = [
-        (b"\x0B", -5),
-        (b"\x03", -1),
-        (b"\x02", 1),
-        (b"\x01", 0),
-        (b"\xFF\xFF\xFF\xFF\xFF\xFF\xFF\xFF\xFF\x01", -i64::MAX),
-        (b"\xFE\xFF\xFF\xFF\xFF\xFF\xFF\xFF\xFF\x01", i64::MAX),
-    ];
-    for (bytes, want) in signed {
-        assert_eq!(rt; input(bytes).signed(), Ok(want));
-        assert_eq!(rt; input(bytes).one_delta(), Ok(want));
+    for row in SIGNED.lines() {
+        let (words, want) = cut(row, " | ");
+        check_text(&rt, &signed_text(rt.alloc(), words)?, want, row);
     }
     Ok(())
 }
@@ -86,26 +100,30 @@ fn small_deltas(rt: HostRuntime) -> Result<(), Fail> {
     Ok(())
 }
 
+const REALS: &str = "\
+00 E8 07 | Ok(Whole(1000))
+01 05 | Ok(NegWhole(5))
+02 05 | Ok(Reciprocal(5))
+03 05 | Ok(NegReciprocal(5))
+04 02 08 | Ok(Ratio(2, 8))
+05 02 08 | Ok(NegRatio(2, 8))
+06 01 02 03 04 | Ok(Four([1, 2, 3, 4]))
+07 00 00 00 00 00 40 8F 40 | Ok(Eight([0, 0, 0, 0, 0, 64, 143, 64]))
+08 | Err(RealType)
+04 02 80 00 | Err(ZeroDenominator)
+06 01 02 03 | Err(Truncated)
+";
+
+fn real_text(alloc: Global, words: &str) -> Result<String, Fail> {
+    let bytes = bytes_of(alloc, words)?;
+    Ok(format!(in alloc; "{:?}", input(&bytes).real())?)
+}
+
 #[test]
 fn reals(rt: HostRuntime) -> Result<(), Fail> {
-    let rows: [(&[u8], Result<Real, ValueFault>); 11] = [
-        (b"\x00\xE8\x07", Ok(Real::Whole(1000))),
-        (b"\x01\x05", Ok(Real::NegWhole(5))),
-        (b"\x02\x05", Ok(Real::Reciprocal(5))),
-        (b"\x03\x05", Ok(Real::NegReciprocal(5))),
-        (b"\x04\x02\x08", Ok(Real::Ratio(2, 8))),
-        (b"\x05\x02\x08", Ok(Real::NegRatio(2, 8))),
-        (b"\x06\x01\x02\x03\x04", Ok(Real::Four([1, 2, 3, 4]))),
-        (
-            b"\x07\x00\x00\x00\x00\x00\x40\x8F\x40",
-            Ok(Real::Eight([0, 0, 0, 0, 0, 0x40, 0x8F, 0x40])),
-        ),
-        (b"\x08", Err(ValueFault::RealType)),
-        (b"\x04\x02\x80\x00", Err(ValueFault::ZeroDenominator)),
-        (b"\x06\x01\x02\x03", Err(ValueFault::Truncated)),
-    ];
-    for (bytes, want) in rows {
-        assert_eq!(rt; input(bytes).real(), want);
+    for row in REALS.lines() {
+        let (words, want) = cut(row, " | ");
+        check_text(&rt, &real_text(rt.alloc(), words)?, want, row);
     }
     Ok(())
 }
@@ -136,39 +154,48 @@ fn integers_near_powers(rt: HostRuntime) -> Result<(), Fail> {
     Ok(())
 }
 
-/// The string is the rest of the bytes after the first, or that fault.
-fn check_string(
-    rt: &impl Abort,
-    bytes: &[u8],
-    read: &Result<Vec<u8>, Cause<ValueFault>>,
-    fault: Option<ValueFault>,
-) -> Result<(), Fail> {
-    match read {
-        Ok(text) => {
-            assert_eq!(rt; fault, None);
-            assert!(rt; Some(text.as_slice()) == bytes.get(1..));
-        }
-        Err(Cause::Breach(found)) => assert_eq!(rt; Some(*found), fault),
-        Err(Cause::OutOfMemory) => return Err(AllocError.into()),
+/// The kinds of strings, how many bytes each may have, the bytes, and whether they are a string or why not.
+const STRINGS: &str = "\
+A 3 | 03 61 20 62 | whole
+B 2 | 02 00 FF | whole
+N 1 | 01 61 | whole
+N 1 | 00 | StringByte
+N 3 | 03 61 20 62 | StringByte
+A 3 | 01 7F | StringByte
+B 255 | 80 02 | StringByte
+B 2 | 02 61 | Truncated
+";
+
+fn kind_of(letter: &str) -> Text {
+    match letter {
+        "A" => Text::A,
+        "B" => Text::B,
+        _ => Text::N,
     }
-    Ok(())
+}
+
+/// Whether a string is the rest of these bytes after the first, or its fault.
+fn string_text(alloc: Global, bytes: &[u8], kind: Text, most: usize) -> Result<String, AllocError> {
+    match input(bytes).string(alloc, kind, most) {
+        Ok(text) if Some(text.as_slice()) == bytes.get(1..) => String::from_str(alloc, "whole"),
+        Ok(_) => String::from_str(alloc, "another string"),
+        Err(Cause::Breach(fault)) => format!(in alloc; "{fault:?}"),
+        Err(Cause::OutOfMemory) => Err(AllocError),
+    }
+}
+
+fn string_of_row(alloc: Global, kind: &str, words: &str) -> Result<String, Fail> {
+    let (letter, most) = cut(kind, " ");
+    let bytes = bytes_of(alloc, words)?;
+    Ok(string_text(alloc, &bytes, kind_of(letter), most.parse::<usize>()?)?)
 }
 
 #[test]
 fn strings(rt: HostRuntime) -> Result<(), Fail> {
-    let rows: [(Text, &[u8], usize, Option<ValueFault>); 8] = [
-        (Text::A, b"\x03a b", 3, None),
-        (Text::B, b"\x02\x00\xFF", 2, None),
-        (Text::N, b"\x01a", 1, None),
-        (Text::N, b"\x00", 1, Some(ValueFault::StringByte)),
-        (Text::N, b"\x03a b", 3, Some(ValueFault::StringByte)),
-        (Text::A, b"\x01\x7F", 3, Some(ValueFault::StringByte)),
-        (Text::B, b"\x80\x02", 255, Some(ValueFault::StringByte)),
-        (Text::B, b"\x02a", 2, Some(ValueFault::Truncated)),
-    ];
-    for (kind, bytes, most, fault) in rows {
-        let read = input(bytes).string(rt.alloc(), kind, most);
-        check_string(&rt, bytes, &read, fault)?;
+    for row in STRINGS.lines() {
+        let (kind, words) = cut(row, " | ");
+        let (words, want) = cut(words, " | ");
+        check_text(&rt, &string_of_row(rt.alloc(), kind, words)?, want, row);
     }
     Ok(())
 }
@@ -246,12 +273,16 @@ fn check_numbers_failed<R: Read>(rt: &impl Abort, values: &mut Input<R>) {
     assert_eq!(rt; values.g_delta(), Err(failed));
 }
 
+/// Whether this is the answer of a call after a fault.
+fn has_failed<T>(answer: &Result<T, Cause<ValueFault>>) -> bool {
+    matches!(answer, Err(Cause::Breach(ValueFault::Failed)))
+}
+
 /// After a fault each call for a list answers `Failed`.
 fn check_lists_failed<R: Read>(rt: &impl Abort, alloc: Global, values: &mut Input<R>) {
-    let refused = Err(Cause::Breach(ValueFault::Failed));
-    assert_eq!(rt; values.string(alloc, Text::B, 9).map(|_| 0), refused);
-    assert_eq!(rt; values.point_list(alloc, Use::Path).map(|_| 0), refused);
-    assert_eq!(rt; values.repetition(alloc, true).map(|_| 0), refused);
+    assert!(rt; has_failed(&values.string(alloc, Text::B, 9)));
+    assert!(rt; has_failed(&values.point_list(alloc, Use::Path)));
+    assert!(rt; has_failed(&values.repetition(alloc, true)));
 }
 
 /// After a fault each call answers `Failed`, and the offset stays.
