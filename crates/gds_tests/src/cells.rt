@@ -4,6 +4,7 @@
 //! with its cell, whether and how it is turned, where it is, and its shifts.
 use lvl_cells::{Cell, KeptReference, Library, MovedRing, Shapes};
 use lvl_grid::Point;
+use lvl_names::Offsets;
 use std::alloc::{AllocError, Global};
 
 fn add_point(alloc: Global, text: &mut String, point: Point) -> Result<(), AllocError> {
@@ -33,6 +34,15 @@ fn add_shapes(alloc: Global, text: &mut String, shapes: &Shapes) -> Result<(), A
     Ok(())
 }
 
+fn add_shifts(alloc: Global, text: &mut String, shifts: &Offsets) -> Result<(), AllocError> {
+    for k in 0..shifts.len() {
+        if let Some(shift) = shifts.at(k) {
+            add_point(alloc, text, shift)?;
+        }
+    }
+    Ok(())
+}
+
 fn add_reference(
     alloc: Global,
     text: &mut String,
@@ -40,15 +50,9 @@ fn add_reference(
 ) -> Result<(), AllocError> {
     let cell = String::from_utf8_lossy(alloc, reference.cell())?;
     let (flip, turn) = (reference.flip(), reference.turn());
-    text.push_str(&format!(in alloc; " / {cell} {flip} {turn:?}")?)?;
-    add_point(alloc, text, reference.at())?;
-    text.push_str(";")?;
-    for k in 0..reference.shifts().len() {
-        if let Some(shift) = reference.shifts().at(k) {
-            add_point(alloc, text, shift)?;
-        }
-    }
-    Ok(())
+    let Point { x, y } = reference.at();
+    text.push_str(&format!(in alloc; " / {cell} {flip} {turn:?} {x},{y};")?)?;
+    add_shifts(alloc, text, reference.shifts())
 }
 
 fn add_cell(alloc: Global, text: &mut String, cell: &Cell) -> Result<(), AllocError> {

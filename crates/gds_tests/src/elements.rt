@@ -5,7 +5,7 @@
 ghost use Rattle.std.specs.Prelude.{IsTrue};
 ghost use Rattle.gds_elements.specs.inside.Formed.{IsFormed};
 
-use crate::rows::{bytes_of, cut};
+use crate::rows::{bytes_of, check_text, cut};
 use gds_elements::{Drawn, Element, ElementFault, Step};
 use gds_records::record_type as ty;
 use lvl_cells::Reference;
@@ -177,7 +177,7 @@ fn text_of(rt: &impl Abort, alloc: Global, records: &str) -> Result<String, Fail
 fn check_rows(rt: &impl Abort, alloc: Global, rows: &str) -> Result<(), Fail> {
     for row in rows.lines() {
         let (records, want) = cut(row, " | ");
-        assert_eq!(rt; text_of(rt, alloc, records)?.as_str(), want, "{row}");
+        check_text(rt, &text_of(rt, alloc, records)?, want, row);
     }
     Ok(())
 }

@@ -65,7 +65,7 @@ fn begun(k: u64) -> u64 {
 }
 
 /// How it went to read records up to the end or to a fault.
-#[derive(Clone, Copy, Debug, PartialEq, Eq)]
+#[derive(Clone, Copy, PartialEq, Eq)]
 struct Walk {
     records: u32,
     /// Of the types and payloads.
@@ -90,8 +90,7 @@ fn has_failed<R: Read>(records: &mut Records<R>) -> bool {
 /// Every call answers `Failed`, and the offset stays.
 fn check_failed<R: Read>(rt: &impl Abort, records: &mut Records<R>) {
     let offset = records.offset();
-    assert!(rt; has_failed(records));
-    assert_eq!(rt; records.offset(), offset);
+    assert!(rt; has_failed(records) && records.offset() == offset);
 }
 
 /// Reads records up to the end or to a fault, after which every call has to answer `Failed`.
@@ -131,28 +130,24 @@ fn walk_of(rt: &impl Abort, alloc: Global, bytes: &[u8], most: usize) -> Result<
     Ok(read_on(rt, &mut records))
 }
 
-/// The next record begins there, and has this type and a payload of this length.
-fn read_next<R: Read>(
-    rt: &impl Abort,
-    records: &mut Records<R>,
-    (offset, kind, len): (u64, u8, u64),
-) -> Result<(), Fail> {
-    assert_eq!(rt; records.offset(), offset);
-    let record = records.next()?.ok_or("a record stands here")?;
-    assert_eq!(rt; record.offset, offset);
-    assert_eq!(rt; record.kind, kind);
-    assert_eq!(rt; record.payload.len() as u64, len);
-    Ok(())
+/// Where the next record begins, its type, and how long its payload is.
+fn next_of<R: Read>(records: &mut Records<R>) -> Option<(u64, u8, u64)> {
+    let offset = records.offset();
+    match records.next() {
+        Ok(Some(record)) if record.offset == offset => {
+            Some((offset, record.kind, record.payload.len() as u64))
+        }
+        _ => None,
+    }
 }
 
 /// The records are those of `square`, and no more.
-fn read_square<R: Read>(rt: &impl Abort, records: &mut Records<R>) -> Result<(), Fail> {
+fn read_square<R: Read>(rt: &impl Abort, records: &mut Records<R>) {
     for row in SQUARE {
-        read_next(rt, records, row)?;
+        assert!(rt; next_of(records) == Some(row));
     }
     assert!(rt; matches!(records.next(), Ok(None)));
-    assert_eq!(rt; records.offset(), 168);
-    Ok(())
+    assert!(rt; records.offset() == 168);
 }
 
 #[test]
@@ -160,7 +155,8 @@ fn reads_a_square(rt: HostRuntime) -> Result<(), Fail> {
     let bytes = square(rt.alloc())?;
     assert_eq!(rt; bytes.len(), 168);
     let mut records = Records::new(rt.alloc(), Pieces::new(&bytes, 168))?;
-    read_square(&rt, &mut records)
+    read_square(&rt, &mut records);
+    Ok(())
 }
 
 /// A record, which fault it has, and where reading stops: an odd length comes before an unknown type, that
@@ -212,7 +208,7 @@ fn check_cut(rt: &impl Abort, alloc: Global, bytes: &[u8], k: usize) -> Result<(
     let walk = walk_of(rt, alloc, bytes, 100)?;
     let start = begun(k as u64);
     let fault = (start < k as u64).then_some(RecordFault::Truncated);
-    assert_eq!(rt; (walk.fault, walk.offset), (fault, start), "cut to {k}");
+    assert!(rt; walk.fault == fault && walk.offset == start, "cut to {k}");
     Ok(())
 }
 
@@ -245,13 +241,14 @@ const ENDS: &str = "\
 70000 | 01 00 | 70168
 ";
 
-/// After the records of `square` the tail is this, and the reader is at this offset.
-fn read_tail<R: Read>(rt: &impl Abort, records: &mut Records<R>, other: Option<u64>, end: u64) {
+/// Whether the tail after the records of `square` is this, and the reader is at this offset.
+fn is_tail<R: Read>(records: &mut Records<R>, other: Option<u64>, end: u64) -> bool {
     for _ in SQUARE {
-        assert!(rt; matches!(records.next(), Ok(Some(_))));
+        if next_of(records).is_none() {
+            return false;
+        }
     }
-    assert_eq!(rt; records.tail(), Ok(other));
-    assert_eq!(rt; records.offset(), end);
+    records.tail() == Ok(other) && records.offset() == end
 }
 
 /// Checks the tail of the bytes of a row, however they are cut.
@@ -263,7 +260,10 @@ fn check_end(rt: &impl Abort, alloc: Global, row: &str) -> Result<(), Fail> {
     let other = other.parse::<u64>().ok();
     for most in [1, 3, 65_536] {
         let mut records = Records::new(alloc, Pieces::new(&bytes, most))?;
-        read_tail(rt, &mut records, other, zeros.saturating_add(168) as u64);
+        assert!(rt;
+            is_tail(&mut records, other, zeros.saturating_add(168) as u64),
+            "{row}"
+        );
     }
     Ok(())
 }
@@ -279,9 +279,11 @@ fn takes_zero_bytes_alone_after_the_end(rt: HostRuntime) -> Result<(), Fail> {
 /// These bytes, of which one was changed, are records up to the end or to a fault of their own.
 fn check_changed(rt: &impl Abort, alloc: Global, bytes: &[u8]) -> Result<(), Fail> {
     let walk = walk_of(rt, alloc, bytes, 1000)?;
-    assert!(rt; walk.fault != Some(RecordFault::Read));
-    assert!(rt; walk.fault != Some(RecordFault::TooLong));
-    assert!(rt; walk.fault.is_some() || walk.offset == 168);
+    let is_its_own = match walk.fault {
+        Some(fault) => fault != RecordFault::Read && fault != RecordFault::TooLong,
+        None => walk.offset == 168,
+    };
+    assert!(rt; is_its_own);
     Ok(())
 }
 
@@ -321,13 +323,10 @@ fn long(alloc: Global) -> Result<Vec<u8>, AllocError> {
 fn reads_pieces_of_any_size_alike(rt: HostRuntime) -> Result<(), Fail> {
     let bytes = long(rt.alloc())?;
     let want = walk_of(&rt, rt.alloc(), &bytes, 1_000_000)?;
-    assert_eq!(rt;
-        (want.records, want.fault, want.offset),
-        (42, None, 3 * 65_702)
-    );
+    assert!(rt; want.records == 42 && want.fault.is_none() && want.offset == 3 * 65_702);
     for most in [1, 2, 3, 65_535, 65_536] {
         let walk = walk_of(&rt, rt.alloc(), &bytes, most)?;
-        assert_eq!(rt; walk, want, "pieces of {most}");
+        assert!(rt; walk == want, "pieces of {most}");
     }
     Ok(())
 }
@@ -350,23 +349,23 @@ fn reports_a_failed_read_once(rt: HostRuntime) -> Result<(), Fail> {
     for k in 0..=bytes.len() {
         let found = walk_failing(&rt, rt.alloc(), &bytes[..k])?;
         let want = (Some(RecordFault::Read), begun(k as u64), 1);
-        assert_eq!(rt; found, want, "after {k}");
+        assert!(rt; found == want, "after {k}");
     }
     Ok(())
 }
 
-/// The tail fails after the given number of zero bytes, and again at once.
-fn fail_tail<R: Read>(rt: &impl Abort, records: &mut Records<R>, zeros: usize) {
-    assert_eq!(rt; records.tail(), Err(Stopped::Fault(RecordFault::Read)));
-    assert_eq!(rt; records.offset(), zeros as u64);
-    assert_eq!(rt; records.tail(), Err(Stopped::Failed));
+/// Whether the tail fails after the given number of zero bytes, and again at once.
+fn is_tail_failing<R: Read>(records: &mut Records<R>, zeros: usize) -> bool {
+    records.tail() == Err(Stopped::Fault(RecordFault::Read))
+        && records.offset() == zeros as u64
+        && records.tail() == Err(Stopped::Failed)
 }
 
 /// The tail of these zeros fails, and the reader has failed once.
 fn check_failing_tail(rt: &impl Abort, alloc: Global, zeros: &[u8]) -> Result<(), Fail> {
     let mut records = Records::new(alloc, Pieces::failing(zeros, 7))?;
-    fail_tail(rt, &mut records, zeros.len());
-    assert_eq!(rt; records.into_reader().errors, 1);
+    let is_failing = is_tail_failing(&mut records, zeros.len());
+    assert!(rt; is_failing && records.into_reader().errors == 1);
     Ok(())
 }
 
@@ -382,7 +381,10 @@ fn reports_a_failed_read_of_the_tail_once(rt: HostRuntime) -> Result<(), Fail> {
 /// The type of the first record.
 fn first_kind(alloc: Global, bytes: &[u8]) -> Result<Option<u8>, Fail> {
     let mut records = Records::new(alloc, Pieces::new(bytes, usize::MAX))?;
-    Ok(records.next()?.map(|record| record.kind))
+    match records.next()? {
+        Some(record) => Ok(Some(record.kind)),
+        None => Ok(None),
+    }
 }
 
 #[test]

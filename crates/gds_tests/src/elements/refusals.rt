@@ -1,30 +1,30 @@
 //! Which rule is reported, and of which record.
 use super::{Answer, read};
-use crate::rows::cut;
+use crate::rows::{check_text, cut};
 use lvl_refusal::Cause;
-use std::alloc::{AllocError, Global};
+use std::alloc::Global;
 use std::process::Abort;
 use std::test::Fail;
 
 /// Why no element is read, or `-`.
-fn stop_text(alloc: Global, answer: &Answer) -> Result<String, AllocError> {
+fn stop_text(alloc: Global, answer: &Answer) -> Result<String, Fail> {
     match answer {
-        Ok(_) => String::from_str(alloc, "-"),
-        Err((place, Cause::Breach(fault))) => format!(in alloc; "At({place}, {fault:?})"),
-        Err((_, Cause::OutOfMemory)) => Err(AllocError),
+        Ok(_) => Ok(String::from_str(alloc, "-")?),
+        Err((place, Cause::Breach(fault))) => Ok(format!(in alloc; "At({place}, {fault:?})")?),
+        Err((_, Cause::OutOfMemory)) => Err(Fail::from("OutOfMemory")),
     }
 }
 
 fn stop_of(rt: &impl Abort, alloc: Global, records: &str) -> Result<String, Fail> {
     let answer = read(rt, alloc, records)?;
-    Ok(stop_text(alloc, &answer)?)
+    stop_text(alloc, &answer)
 }
 
 /// Checks what is reported, row by row.
 fn check_stops(rt: &impl Abort, alloc: Global, rows: &str) -> Result<(), Fail> {
     for row in rows.lines() {
         let (records, want) = cut(row, " | ");
-        assert_eq!(rt; stop_of(rt, alloc, records)?.as_str(), want, "{row}");
+        check_text(rt, &stop_of(rt, alloc, records)?, want, row);
     }
     Ok(())
 }

@@ -6,12 +6,15 @@ use std::alloc::Global;
 use std::process::Abort;
 use std::test::Fail;
 
-/// It matters not how a reader cuts these bytes, of which the one at a place was set.
-fn check_pieces(rt: &impl Abort, alloc: Global, bytes: &[u8], k: usize, value: u8) {
+/// Whether it matters not how a reader cuts these bytes.
+fn is_alike(alloc: Global, bytes: &[u8]) -> bool {
     let fault = fault_of(alloc, bytes, 1000);
     for most in [1, 2, 3] {
-        assert_eq!(rt; fault_of(alloc, bytes, most), fault, "byte {k} is {value}");
+        if fault_of(alloc, bytes, most) != fault {
+            return false;
+        }
     }
+    true
 }
 
 /// Turns each bit of the byte at a place, one after another, and then leaves it as it was.
@@ -22,7 +25,7 @@ fn turn_bits(rt: &impl Abort, alloc: Global, bytes: &mut [u8], k: usize) {
         if let Some(byte) = bytes.get_mut(k) {
             *byte = value;
         }
-        check_pieces(rt, alloc, bytes, k, value);
+        assert!(rt; is_alike(alloc, bytes), "byte {k} is {value}");
     }
     if let Some(byte) = bytes.get_mut(k) {
         *byte = kept;
@@ -96,7 +99,7 @@ fn set_each(rt: &impl Abort, alloc: Global, bytes: &mut [u8], place: usize, kept
         } else {
             is_reported(place, value, fault)
         };
-        assert!(rt; is_right, "byte {place} is {value}: {fault:?}");
+        assert!(rt; is_right, "byte {place} is {value}");
     }
 }
 
