@@ -198,31 +198,30 @@ fn refused_at_range_edge(rt: HostRuntime) -> Result<(), Fail> {
     Ok(())
 }
 
-/// A quarter of the range.
-const QUARTER: i64 = 1 << 62;
-
-/// A library of a square at the lower end of the range, and of the same square moved by a quarter of it, at two
-/// shifts: the second and that displacement are outside 64 bits together, where no square comes to lie.
-fn moved_far(alloc: Global) -> Result<Checked, Fail> {
-    let low = Point { x: i64::MIN, y: 0 };
-    let high = low.offset(1, 1).ok_or("a corner")?;
+/// Draws the square at the lower end of the range, moved by a quarter of it, at two shifts: the second and that
+/// displacement are outside 64 bits together, where no square comes to lie.
+fn add_moved(alloc: Global, cell: &mut Cell) -> Result<(), Fail> {
+    let least = Point { x: i64::MIN, y: 0 };
+    let low = least.offset(1 << 62, 0).ok_or("a quarter")?;
+    let moved = Ring::rectangle(alloc, low, low.offset(1, 1).ok_or("a corner")?)?;
     let far = Point { x: i64::MAX, y: 0 };
     let shifts = Offsets::new([ORIGIN, far].to_vec(alloc)?).ok_or("shifts")?;
-    let mut cell = drawing(alloc, "A", METAL, low, high)?;
-    let moved = Ring::rectangle(
-        alloc,
-        Point {
-            x: low.x + QUARTER,
-            y: 0,
-        },
-        Point {
-            x: high.x + QUARTER,
-            y: 1,
-        },
-    )?;
     cell.shapes.push_ring(METAL, moved.points(), &shifts)?;
+    Ok(())
+}
+
+/// A cell of a square at the lower end of the range, and of the same square moved.
+fn moved_cell(alloc: Global) -> Result<Cell, Fail> {
+    let low = Point { x: i64::MIN, y: 0 };
+    let high = low.offset(1, 1).ok_or("a corner")?;
+    let mut cell = drawing(alloc, "A", METAL, low, high)?;
+    add_moved(alloc, &mut cell)?;
+    Ok(cell)
+}
+
+fn moved_far(alloc: Global) -> Result<Checked, Fail> {
     let mut cells = Vec::new(alloc);
-    cells.push(cell)?;
+    cells.push(moved_cell(alloc)?)?;
     Ok(check(alloc, Library { cells }, None)?)
 }
 
@@ -245,15 +244,19 @@ const FAR: Layer = Layer {
     datatype: 3,
 };
 
+fn add_layers(alloc: Global, shapes: &mut Shapes) -> Result<(), Fail> {
+    let ring = Ring::rectangle(alloc, ORIGIN, Point { x: 1, y: 1 })?;
+    for (layer, datatype) in [(7, 1), (0, 9), (7, 0), (1, 0)] {
+        let layer = Layer { layer, datatype };
+        shapes.push_ring(layer, ring.points(), &Offsets::single())?;
+    }
+    Ok(())
+}
+
 /// A top that draws a square on four Layers, on one of them twice.
 fn layered_top(alloc: Global) -> Result<Cell, Fail> {
     let mut top = drawing(alloc, "TOP", METAL, ORIGIN, Point { x: 1, y: 1 })?;
-    for (layer, datatype) in [(7, 1), (0, 9), (7, 0), (1, 0)] {
-        let ring = Ring::rectangle(alloc, ORIGIN, Point { x: 1, y: 1 })?;
-        let layer = Layer { layer, datatype };
-        top.shapes
-            .push_ring(layer, ring.points(), &Offsets::single())?;
-    }
+    add_layers(alloc, &mut top.shapes)?;
     Ok(top)
 }
 

@@ -2,7 +2,7 @@
 use crate::rows::{check_text, cut, point};
 use crate::within::{METAL, count, drawn, spread};
 use lvl_cells::Checked;
-use lvl_flat::Fitted;
+use lvl_flat::{Fitted, Flat};
 use lvl_grid::{Point, Window};
 use lvl_names::Offsets;
 use std::alloc::Global;
@@ -17,16 +17,23 @@ const WHOLE: Window = Window {
     y1: 20,
 };
 
-/// How many squares are covered and how many points are held, or `-` if that needs more points than `most`.
-fn held(alloc: Global, checked: Checked, most: usize) -> Result<String, Fail> {
-    let fitted = Fitted::new(alloc, checked)?;
+/// How many squares are covered, and how many points are held.
+fn counts_text(alloc: Global, flat: &Flat) -> Result<String, Fail> {
+    let points = flat.rings(METAL).points().len();
+    Ok(format!(in alloc; "{} {points}", count(flat))?)
+}
+
+/// Those counts, or `-` if they need more points than `most`.
+fn held_text(alloc: Global, fitted: &Fitted, most: usize) -> Result<String, Fail> {
     match fitted.within(alloc, &[METAL], &WHOLE, most) {
-        Ok(flat) => {
-            let points = flat.rings(METAL).points().len();
-            Ok(format!(in alloc; "{} {points}", count(&flat))?)
-        }
+        Ok(flat) => counts_text(alloc, &flat),
         Err(_) => Ok(String::from_str(alloc, "-")?),
     }
+}
+
+fn held(alloc: Global, checked: Checked, most: usize) -> Result<String, Fail> {
+    let fitted = Fitted::new(alloc, checked)?;
+    held_text(alloc, &fitted, most)
 }
 
 /// The step, how often, the most points, and what is covered and held: a rectangle lies on itself again, above

@@ -1,8 +1,7 @@
 //! Made pairs of flat layouts, compared under made maps in made windows.
 ghost use Rattle.std.specs.Prelude.{◌<◌, ◌^◌, pos, ◌<ℤ◌, ◌≤ℤ◌};
 
-use crate::view::{Found, LayerBox, flat_of, numbered, placed};
-use lvl_compare::first_difference_in;
+use crate::view::{Found, LayerBox, flat_of, found_between, placed};
 use lvl_flat::Flat;
 use lvl_grid::Window;
 use lvl_region::Side;
@@ -163,8 +162,7 @@ fn found_to(
 ) -> Result<Found, Fail> {
     let first = flat_of(alloc, first)?;
     let second = flat_to(alloc, second, targets)?;
-    let found = first_difference_in(alloc, &first, &second, Some(window))?;
-    Ok(numbered(found))
+    found_between(alloc, &first, &second, Some(window))
 }
 
 /// A made pair, compared under a made map in a made window and square by square; also whether

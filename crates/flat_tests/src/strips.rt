@@ -74,7 +74,18 @@ fn arrayed(alloc: Global, squares: &str) -> Result<Fitted, Fail> {
     fitted(alloc, builder)
 }
 
-/// What two such tops differ in, with at most `most` points a strip.
+/// What two libraries differ in, with at most `most` points a strip.
+fn apart(
+    alloc: Global,
+    first: &Fitted,
+    second: &Fitted,
+    view: &View,
+    most: usize,
+) -> Result<Option<(Layer, Square, Side)>, Fail> {
+    Ok(difference_by_strips(alloc, first, second, view, most)?)
+}
+
+/// What two tops differ in that draw these squares.
 fn difference(
     alloc: Global,
     ours: &str,
@@ -84,7 +95,7 @@ fn difference(
 ) -> Result<Option<(Layer, Square, Side)>, Fail> {
     let first = arrayed(alloc, ours)?;
     let second = arrayed(alloc, theirs)?;
-    Ok(difference_by_strips(alloc, &first, &second, view, most)?)
+    apart(alloc, &first, &second, view, most)
 }
 
 /// A difference as text, as `1/0 5,5 First`.
@@ -198,12 +209,20 @@ fn layered(alloc: Global, double: u32) -> Result<Fitted, Fail> {
     fitted(alloc, builder)
 }
 
-/// The Layer on which two such tops differ first.
-fn layer_apart(alloc: Global, ours: u32, theirs: u32) -> Result<Option<u32>, Fail> {
-    let whole = View::whole(alloc);
+/// What two such tops differ in.
+fn layered_apart(
+    alloc: Global,
+    ours: u32,
+    theirs: u32,
+) -> Result<Option<(Layer, Square, Side)>, Fail> {
     let first = layered(alloc, ours)?;
     let second = layered(alloc, theirs)?;
-    match difference_by_strips(alloc, &first, &second, &whole, 600_000)? {
+    apart(alloc, &first, &second, &View::whole(alloc), 600_000)
+}
+
+/// The Layer on which two such tops differ first.
+fn layer_apart(alloc: Global, ours: u32, theirs: u32) -> Result<Option<u32>, Fail> {
+    match layered_apart(alloc, ours, theirs)? {
         Some((layer, _, _)) => Ok(Some(layer.layer)),
         None => Ok(None),
     }

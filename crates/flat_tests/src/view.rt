@@ -119,6 +119,16 @@ pub fn numbered(found: Option<(Layer, Square, Side)>) -> Found {
 }
 
 /// What differs first in the window.
+pub fn found_between(
+    alloc: Global,
+    first: &Flat,
+    second: &Flat,
+    window: Option<&Window>,
+) -> Result<Found, Fail> {
+    Ok(numbered(first_difference_in(alloc, first, second, window)?))
+}
+
+/// What differs first in the window of the layouts of these boxes.
 fn found_in(
     alloc: Global,
     first: &[LayerBox],
@@ -127,18 +137,22 @@ fn found_in(
 ) -> Result<Found, Fail> {
     let first = flat_of(alloc, first)?;
     let second = flat_of(alloc, second)?;
-    Ok(numbered(first_difference_in(alloc, &first, &second, window)?))
+    found_between(alloc, &first, &second, window)
 }
 
 /// What differs first by regions of both kinds, if they agree.
-fn found_by_regions(alloc: Global, first: &[LayerBox], second: &[LayerBox]) -> Result<Found, Fail> {
-    let first = flat_of(alloc, first)?;
-    let second = flat_of(alloc, second)?;
-    let found = difference_by::<GridRegion>(alloc, &first, &second)?;
-    if difference_by::<SlabRegion>(alloc, &first, &second)? != found {
+fn found_by_kinds(alloc: Global, first: &Flat, second: &Flat) -> Result<Found, Fail> {
+    let found = difference_by::<GridRegion>(alloc, first, second)?;
+    if difference_by::<SlabRegion>(alloc, first, second)? != found {
         return Err("the kinds of region differ".into());
     }
     Ok(numbered(found))
+}
+
+fn found_by_regions(alloc: Global, first: &[LayerBox], second: &[LayerBox]) -> Result<Found, Fail> {
+    let first = flat_of(alloc, first)?;
+    let second = flat_of(alloc, second)?;
+    found_by_kinds(alloc, &first, &second)
 }
 
 /// The number of a word: the least or the greatest, or one beside it, or as it is written.

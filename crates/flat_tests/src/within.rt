@@ -10,6 +10,10 @@ use std::alloc::Global;
 use std::process::Abort;
 use std::test::Fail;
 
+mod tables;
+
+use tables::{LATTICES, WINDOWS};
+
 pub(crate) const METAL: Layer = Layer {
     layer: 1,
     datatype: 0,
@@ -111,19 +115,6 @@ fn counts(alloc: Global, fitted: &Fitted, window: &Window) -> Result<(u64, usize
     Ok((count(&flat), flat.rings(METAL).len()))
 }
 
-/// Windows, the squares that are covered, and the rings that are held.
-const WINDOWS: &str = "\
-all | -5,-5 60,20 | 56 7
-the whole grid | -9223372036854775808,-9223372036854775808 9223372036854775807,9223372036854775807 | 56 7
-one rectangle | 0,0 4,2 | 8 1
-corners of four | 2,1 12,11 | 8 4
-the turned one | 49,1 60,3 | 2 1
-one square | 23,11 24,12 | 1 1
-beside four | 4,2 10,10 | 0 0
-no square | 1,1 1,2 | 0 0
-turned round | 4,2 0,0 | 0 0
-";
-
 fn counts_text(alloc: Global, fitted: &Fitted, words: &str) -> Result<String, Fail> {
     let (covered, held) = counts(alloc, fitted, &rows::window(words)?)?;
     Ok(format!(in alloc; "{covered} {held}")?)
@@ -223,10 +214,30 @@ fn two_layers(alloc: Global) -> Result<Fitted, Fail> {
     Ok(Fitted::new(alloc, check(alloc, builder.finish(), None)?)?)
 }
 
-/// The rings on METAL and on VIA, where these Layers are drawn.
-fn drawn_on(alloc: Global, fitted: &Fitted, layers: &[Layer]) -> Result<(usize, usize), Fail> {
-    let flat = fitted.within(alloc, layers, &window(0, 0, 9, 9), usize::MAX)?;
-    Ok((flat.rings(METAL).len(), flat.rings(VIA).len()))
+/// How many rings there are on METAL and on VIA.
+fn rings_on(flat: &Flat) -> (usize, usize) {
+    (flat.rings(METAL).len(), flat.rings(VIA).len())
+}
+
+fn check_layers(rt: &impl Abort, alloc: Global, fitted: &Fitted) -> Result<(), Fail> {
+    let nine = window(0, 0, 9, 9);
+    assert_eq!(rt;
+        rings_on(&fitted.within(alloc, &[], &nine, usize::MAX)?),
+        (0, 0)
+    );
+    assert_eq!(rt;
+        rings_on(&fitted.within(alloc, &[METAL], &nine, usize::MAX)?),
+        (1, 0)
+    );
+    assert_eq!(rt;
+        rings_on(&fitted.within(alloc, &[VIA], &nine, usize::MAX)?),
+        (0, 1)
+    );
+    assert_eq!(rt;
+        rings_on(&fitted.within(alloc, &[METAL, VIA], &nine, usize::MAX)?),
+        (1, 1)
+    );
+    Ok(())
 }
 
 #[test]
@@ -236,11 +247,7 @@ fn some_layers(rt: HostRuntime) -> Result<(), Fail> {
         fitted.layers(rt.alloc())?.as_slice(),
         [METAL, VIA].as_slice()
     );
-    assert_eq!(rt; drawn_on(rt.alloc(), &fitted, &[])?, (0, 0));
-    assert_eq!(rt; drawn_on(rt.alloc(), &fitted, &[METAL])?, (1, 0));
-    assert_eq!(rt; drawn_on(rt.alloc(), &fitted, &[VIA])?, (0, 1));
-    assert_eq!(rt; drawn_on(rt.alloc(), &fitted, &[METAL, VIA])?, (1, 1));
-    Ok(())
+    check_layers(&rt, rt.alloc(), &fitted)
 }
 
 /// Whether four rectangles are held in the window, with at most `most` points.
@@ -266,12 +273,16 @@ fn points_at_most(rt: HostRuntime) -> Result<(), Fail> {
     Ok(())
 }
 
-/// A top that places A, which draws a rectangle of 4 by 2, at these shifts.
-pub(crate) fn spread(alloc: Global, shifts: Offsets) -> Result<Checked, Fail> {
+/// Adds a top that places A, which draws a rectangle of 4 by 2, at these shifts.
+fn add_spread(alloc: Global, builder: &mut Builder, shifts: Offsets) -> Result<(), Fail> {
     let placed = to_a(alloc, false, Turn::R0, ORIGIN, shifts)?;
+    add_drawing(alloc, builder, b"A", &Offsets::single())?;
+    add_placing(alloc, builder, b"TOP", placed)
+}
+
+pub(crate) fn spread(alloc: Global, shifts: Offsets) -> Result<Checked, Fail> {
     let mut builder = Builder::new(alloc);
-    add_drawing(alloc, &mut builder, b"A", &Offsets::single())?;
-    add_placing(alloc, &mut builder, b"TOP", placed)?;
+    add_spread(alloc, &mut builder, shifts)?;
     Ok(check(alloc, builder.finish(), None)?)
 }
 
@@ -314,26 +325,6 @@ fn million_places(rt: HostRuntime) -> Result<(), Fail> {
     assert_eq!(rt; million_in(alloc, &window(10_000, 0, 10_010, 10))?, 0);
     Ok(())
 }
-
-/// The steps and counts of a lattice, a window, and how many rectangles of 4 by 2 reach into it, of a shape and of
-/// a reference: also along a diagonal, and with negative steps; rows that begin before the ones above them end;
-/// steps of zero, and lines.
-const LATTICES: &str = "\
-10 0 30 0 10 20 150 -5 154 200 | 20 20
-10 0 30 0 10 20 -5 100 300 102 | 30 30
-10 0 30 0 10 20 4 -5 10 200 | 0 0
-10 0 30 0 10 20 0 0 1 1 | 1 1
-10 0 30 0 10 20 293 191 294 192 | 1 1
-10 10 100 0 0 1 500 500 524 524 | 3 3
--10 -10 20 10 -10 20 0 -100 14 -38 | 7 7
--10 0 20 0 -10 20 -40 -196 -20 -178 | 4 4
-1 0 20 1 0 20 22 0 23 1 | 74 74
-0 0 20 0 10 20 0 50 4 52 | 20 20
-10 0 300 0 0 1 2000 0 2010 2 | 1 1
-10 0 300 0 7 1 2000 0 2010 2 | 1 1
-7 0 1 0 10 300 0 2000 4 2020 | 2 2
-10 0 3 0 10 100 10 500 24 512 | 4 4
-";
 
 fn lattice_text(alloc: Global, words: &str) -> Result<String, Fail> {
     let case = case_in(alloc, words)?;
