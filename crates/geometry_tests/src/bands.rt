@@ -1,57 +1,10 @@
 //! The bands of rings, worked by hand.
-use crate::outlines::{CORNERED, Outline, rings};
 use crate::pairs::{cut, rings_of};
 use lvl_grid::{Ring, Rings};
 use lvl_region::Region;
 use lvl_sweep::{Band, SlabRegion, Sweep};
 use std::alloc::{AllocError, Global};
 use std::test::Fail;
-
-/// A band as it is written down: its rows, and its intervals.
-type Written<'a> = ((i64, i64), &'a [(i64, i64)]);
-
-fn is_written(band: &Band, written: Written) -> bool {
-    band.y0 == written.0.0 && band.y1 == written.0.1 && band.intervals.as_slice() == written.1
-}
-
-fn in_one_piece(alloc: Global, outlines: &[Outline]) -> Result<Rings, Fail> {
-    Ok(Rings::from_slice(alloc, &rings(alloc, outlines)?)?)
-}
-
-/// Whether the sweep gives these bands one at a time, and then none.
-fn gives(sweep: &mut Sweep, bands: &[Written]) -> bool {
-    for written in bands {
-        match sweep.band() {
-            Some(band) if is_written(band, *written) => {}
-            _ => return false,
-        }
-        sweep.advance();
-    }
-    if sweep.band().is_some() {
-        return false;
-    }
-    sweep.advance();
-    sweep.band().is_none()
-}
-
-/// Whether a sweep of the rings gives these bands one at a time, and then none.
-fn sweeps(alloc: Global, outlines: &[Outline], bands: &[Written]) -> Result<bool, Fail> {
-    let mut sweep = Sweep::new(alloc, &in_one_piece(alloc, outlines)?)?;
-    Ok(gives(&mut sweep, bands))
-}
-
-/// Whether the region of the rings has these bands.
-fn keeps(alloc: Global, outlines: &[Outline], bands: &[Written]) -> Result<bool, Fail> {
-    let region = SlabRegion::build(alloc, &rings(alloc, outlines)?)?;
-    Ok(
-        region.bands().len() == bands.len()
-            && region
-                .bands()
-                .iter()
-                .zip(bands)
-                .all(|(band, written)| is_written(band, *written)),
-    )
-}
 
 /// What rings are, their points, and their bands, each by its rows and its intervals.
 const BANDS: &str = "\
@@ -116,10 +69,54 @@ fn bands_of_rings(rt: HostRuntime) -> Result<(), Fail> {
     Ok(())
 }
 
+/// A ring of two bands, the lower of which is wider.
+const CORNERED: &str = "0,0 20,0 20,10 10,10 10,20 0,20";
+
+/// Whether a band has these rows, and one interval from 0 to there.
+fn is_band(band: &Band, low: i64, high: i64, right: i64) -> bool {
+    band.y0 == low && band.y1 == high && band.intervals.as_slice() == [(0, right)].as_slice()
+}
+
+/// Whether the sweep has such a band, from which it goes on to the next.
+fn gives_band(sweep: &mut Sweep, low: i64, high: i64, right: i64) -> bool {
+    let is_there = match sweep.band() {
+        Some(band) => is_band(band, low, high, right),
+        None => false,
+    };
+    sweep.advance();
+    is_there
+}
+
+/// Whether the sweep has no band, nor a next one.
+fn gives_none(sweep: &mut Sweep) -> bool {
+    let is_over = sweep.band().is_none();
+    sweep.advance();
+    is_over && sweep.band().is_none()
+}
+
+/// Whether a sweep of the ring gives its bands one at a time, and then none.
+fn sweeps_cornered(alloc: Global) -> Result<bool, Fail> {
+    let rings = rings_of(alloc, CORNERED)?;
+    let mut sweep = Sweep::new(alloc, &Rings::from_slice(alloc, &rings)?)?;
+    Ok(
+        gives_band(&mut sweep, 0, 10, 20)
+            && gives_band(&mut sweep, 10, 20, 10)
+            && gives_none(&mut sweep),
+    )
+}
+
+/// Whether the region of the ring has its bands.
+fn keeps_cornered(alloc: Global) -> Result<bool, Fail> {
+    let region = SlabRegion::build(alloc, &rings_of(alloc, CORNERED)?)?;
+    Ok(match region.bands() {
+        [lower, upper] => is_band(lower, 0, 10, 20) && is_band(upper, 10, 20, 10),
+        _ => false,
+    })
+}
+
 #[test]
 fn growths_of_bands(rt: HostRuntime) -> Result<(), Fail> {
-    let bands: [Written; 2] = [((0, 10), &[(0, 20)]), ((10, 20), &[(0, 10)])];
-    assert!(rt; sweeps(rt.alloc(), &[&CORNERED], &bands)?);
-    assert!(rt; keeps(rt.alloc(), &[&CORNERED], &bands)?);
+    assert!(rt; sweeps_cornered(rt.alloc())?);
+    assert!(rt; keeps_cornered(rt.alloc())?);
     Ok(())
 }

@@ -1,7 +1,9 @@
 //! Made lists on which columns, halves, windows, the sweep and the grid agree.
 ghost use Rattle.std.specs.Prelude.{◌<◌, ◌^◌, pos, ◌<ℤ◌, ◌≤ℤ◌};
 
-use crate::outlines::{Found, at, differ_at, next_made, rectangle, ring};
+use crate::outlines::{
+    Found, at, differ_at, next_made, push_outline, push_rectangle, rectangle, ring,
+};
 use lvl_columns::{difference_by_columns, first_difference_in};
 use lvl_grid::{Ring, Rings, Window};
 use lvl_region::{GridRegion, Side, difference};
@@ -88,6 +90,16 @@ fn found_in_halves(
     Ok(lesser(first, second))
 }
 
+/// The same, where the second halves are those of `b`, cut there.
+fn found_where_cut(
+    alloc: Global,
+    a: &(Rings, Rings),
+    b: &Rings,
+    at: i64,
+) -> Result<Found, AllocError> {
+    found_in_halves(alloc, a, &b.split_at(alloc, at)?)
+}
+
 /// Whether both halves, cut there, have the lesser of their least differences there.
 fn halves_find(
     alloc: Global,
@@ -96,9 +108,7 @@ fn halves_find(
     at: i64,
     want: Found,
 ) -> Result<bool, AllocError> {
-    let a = a.split_at(alloc, at)?;
-    let b = b.split_at(alloc, at)?;
-    Ok(found_in_halves(alloc, &a, &b)? == want)
+    Ok(found_where_cut(alloc, &a.split_at(alloc, at)?, b, at)? == want)
 }
 
 /// The same for each of nine cuts.
@@ -142,16 +152,21 @@ fn a_thousand_lists(rt: HostRuntime) -> Result<(), Fail> {
     Ok(())
 }
 
-/// Many narrow rectangles, one of which may be moved.
+/// A made narrow rectangle, perhaps moved.
+fn narrow_one(alloc: Global, seed: u64, is_moved: bool) -> Result<Ring, AllocError> {
+    let x = made(seed, 20, 1000) + if is_moved { 2000 } else { 0 };
+    let y = made(seed, 30, 1000);
+    let high = y + 1 + made(seed, 40, 400);
+    rectangle(alloc, (x, x + 3), (y, high))
+}
+
+/// Many of them, one of which may be moved.
 fn narrow(alloc: Global, many: u64, moved: Option<u64>) -> Result<Vec<Ring>, AllocError> {
     let mut rings = Vec::new(alloc);
     let mut seed = 77;
     for number in 0..many {
         seed = next_made(seed);
-        let x = made(seed, 20, 1000) + if moved == Some(number) { 2000 } else { 0 };
-        let y = made(seed, 30, 1000);
-        let high = y + 1 + made(seed, 40, 400);
-        rings.push(rectangle(alloc, (x, x + 3), (y, high))?)?;
+        rings.push(narrow_one(alloc, seed, moved == Some(number))?)?;
     }
     Ok(rings)
 }
@@ -209,8 +224,7 @@ fn push_bracket(alloc: Global, rings: &mut Rings, at: i64) -> Result<(), Fail> {
         (right, middle),
         (right, at),
     ];
-    rings.push_ring(&ring(alloc, &outline)?)?;
-    Ok(())
+    push_outline(alloc, rings, &outline)
 }
 
 /// A thousand brackets, those before the least one at its place.
@@ -222,31 +236,29 @@ fn brackets(alloc: Global, least: i64) -> Result<Rings, Fail> {
     Ok(rings)
 }
 
-/// The brackets within the outermost one, perhaps that one too, and perhaps a square between two.
-fn inner_brackets(alloc: Global, has_outermost: bool, has_square: bool) -> Result<Rings, Fail> {
-    let mut inner = brackets(alloc, 1)?;
-    if has_outermost {
-        push_bracket(alloc, &mut inner, 0)?;
-    }
-    if has_square {
-        inner.push_ring(&rectangle(alloc, (2500, 2501), (3000, 3001))?)?;
-    }
-    Ok(inner)
+/// What differs first in all brackets and in these.
+fn found_in_all(alloc: Global, rings: &Rings) -> Result<Found, Fail> {
+    Ok(difference_by_columns(alloc, &brackets(alloc, 0)?, rings)?)
 }
 
+/// The brackets within the outermost one, then that one too, and then a square between two.
 #[test]
 fn nested_brackets(rt: HostRuntime) -> Result<(), Fail> {
     let alloc = rt.alloc();
-    let all = brackets(alloc, 0)?;
-    for (has_outermost, has_square, want) in [
-        (false, false, at(0, 0, Side::First)),
-        (true, false, None),
-        (true, true, at(2500, 3000, Side::Second)),
-    ] {
-        let inner = inner_brackets(alloc, has_outermost, has_square)?;
-        assert!(rt; difference_by_columns(alloc, &all, &inner)? == want);
-    }
+    let mut inner = brackets(alloc, 1)?;
+    assert!(rt; found_in_all(alloc, &inner)? == at(0, 0, Side::First));
+    push_bracket(alloc, &mut inner, 0)?;
+    assert!(rt; found_in_all(alloc, &inner)?.is_none());
+    push_rectangle(alloc, &mut inner, (2500, 2501), (3000, 3001))?;
+    assert!(rt; found_in_all(alloc, &inner)? == at(2500, 3000, Side::Second));
     Ok(())
+}
+
+/// A rectangle of that height alone.
+fn one_high(alloc: Global, height: i64) -> Result<Vec<Ring>, AllocError> {
+    let mut rings = Vec::new(alloc);
+    rings.push(rectangle(alloc, (0, 10), (0, height))?)?;
+    Ok(rings)
 }
 
 /// What differs first in two rectangles of these heights in the window.
@@ -256,9 +268,8 @@ fn heights_differ(
     second: i64,
     window: Option<&Window>,
 ) -> Result<Found, AllocError> {
-    let first = vec![in alloc; rectangle(alloc, (0, 10), (0, first))?]?;
-    let second = vec![in alloc; rectangle(alloc, (0, 10), (0, second))?]?;
-    first_difference_in(alloc, &first, &second, window)
+    let first = one_high(alloc, first)?;
+    first_difference_in(alloc, &first, &one_high(alloc, second)?, window)
 }
 
 #[test]

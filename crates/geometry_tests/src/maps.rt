@@ -1,19 +1,11 @@
 //! Rings and maps worked by hand.
+use crate::outlines::ring;
 use crate::pairs::{cut, points_of};
 use lvl_grid::{Map, PlaceFault, Point, Ring, Square, Turn};
 use std::alloc::{AllocError, Global};
 use std::test::Fail;
 
 pub const ORIGIN: Point = Point { x: 0, y: 0 };
-
-/// The ring of these vertices; no ring at all where they are none.
-pub fn ring_of(alloc: Global, vertices: &[(i64, i64)]) -> Result<Option<Ring>, AllocError> {
-    let mut points = Vec::with_capacity(alloc, vertices.len())?;
-    for (x, y) in vertices {
-        points.push(Point { x: *x, y: *y })?;
-    }
-    Ok(Ring::new(points).ok())
-}
 
 /// How many squares of the rows and columns -2 to 9 a ring covers, and the least and the
 /// greatest of them.
@@ -47,25 +39,23 @@ an oblique first edge | 0,0 1,1 1,0 | Oblique
 an oblique closing edge | 0,0 1,0 1,1 | Oblique
 ";
 
+/// How many points the ring has, and what it covers.
 fn covered_text(alloc: Global, ring: &Ring) -> Result<String, AllocError> {
+    let points = ring.points().len();
     match covered(ring) {
-        Some((many, first, last)) => {
-            let (x0, y0, x1, y1) = (first.x, first.y, last.x, last.y);
-            format!(in alloc; "{many} squares from {x0},{y0} to {x1},{y1}")
+        Some((squares, Square { x, y }, last)) => {
+            let (x1, y1) = (last.x, last.y);
+            format!(in alloc; "{points} points, {squares} squares from {x},{y} to {x1},{y1}")
         }
-        None => String::from_str(alloc, "no squares"),
+        None => format!(in alloc; "{points} points, no squares"),
     }
 }
 
 /// How many points the ring of these points has, and what it covers; or why there is none.
-fn ring_text(alloc: Global, points: &str) -> Result<String, Fail> {
-    match Ring::new(points_of(alloc, points)?) {
-        Ok(ring) => {
-            let squares = covered_text(alloc, &ring)?;
-            let many = ring.points().len();
-            Ok(format!(in alloc; "{many} points, {squares}")?)
-        }
-        Err(fault) => Ok(format!(in alloc; "{fault:?}")?),
+fn ring_text(alloc: Global, points: Vec<Point>) -> Result<String, AllocError> {
+    match Ring::new(points) {
+        Ok(ring) => covered_text(alloc, &ring),
+        Err(fault) => format!(in alloc; "{fault:?}"),
     }
 }
 
@@ -74,7 +64,8 @@ fn rings_by_their_points(rt: HostRuntime) -> Result<(), Fail> {
     for row in RINGS.lines() {
         let (name, row) = cut(row, " | ");
         let (points, want) = cut(row, " | ");
-        assert!(rt; ring_text(rt.alloc(), points)?.as_str() == want, "{name}");
+        let text = ring_text(rt.alloc(), points_of(rt.alloc(), points)?)?;
+        assert!(rt; text.as_str() == want, "{name}");
     }
     Ok(())
 }
@@ -93,9 +84,8 @@ const TURN_AND_GO: Map = Map {
 
 /// What a rectangle of 3 by 1 covers where the map places it.
 fn covered_by_placed(alloc: Global, by: &Map) -> Result<Covered, Fail> {
-    let rectangle = ring_of(alloc, &[(0, 0), (3, 0), (3, 1), (0, 1)])?.ok_or("a ring")?;
-    let placed = rectangle.placed(alloc, ORIGIN, by)?;
-    Ok(covered(&placed))
+    let rectangle = ring(alloc, &[(0, 0), (3, 0), (3, 1), (0, 1)])?;
+    Ok(covered(&rectangle.placed(alloc, ORIGIN, by)?))
 }
 
 /// Both maps, one after the other.
@@ -132,33 +122,20 @@ pub const EDGE: [(i64, i64); 4] = [
     (-9223372036854775807, 1),
 ];
 
-fn edge(alloc: Global) -> Result<Ring, Fail> {
-    Ok(ring_of(alloc, &EDGE)?.ok_or("a ring")?)
+/// The ring at the edge where the map places it once it is moved.
+fn edge_placed(alloc: Global, shift: Point, by: &Map) -> Result<Ring, Fail> {
+    Ok(ring(alloc, &EDGE)?.placed(alloc, shift, by)?)
 }
 
-/// The first point of the ring at the edge, and of the ring that it is placed as.
-fn first_points(
-    alloc: Global,
-    shift: Point,
-    by: &Map,
-) -> Result<(Option<Point>, Option<Point>), Fail> {
-    let ring = edge(alloc)?;
-    let placed = ring.placed(alloc, shift, by)?;
-    Ok((
-        ring.points().first().copied(),
-        placed.points().first().copied(),
-    ))
-}
-
-/// Whether the ring at the edge covers the square where the map places it.
-fn placed_covers(alloc: Global, by: &Map, square: Square) -> Result<bool, Fail> {
-    let placed = edge(alloc)?.placed(alloc, ORIGIN, by)?;
-    Ok(placed.covers(square))
+/// The first point of that ring.
+fn first_point(alloc: Global, shift: Point, by: &Map) -> Result<Option<Point>, Fail> {
+    let placed = edge_placed(alloc, shift, by)?;
+    Ok(placed.points().first().copied())
 }
 
 /// Why the map cannot place the ring at the edge.
 fn refusal(alloc: Global, by: &Map) -> Result<Option<PlaceFault>, Fail> {
-    Ok(edge(alloc)?.placed(alloc, ORIGIN, by).err())
+    Ok(ring(alloc, &EDGE)?.placed(alloc, ORIGIN, by).err())
 }
 
 const HALF_TURN: Map = Map {
@@ -171,12 +148,11 @@ const LAST: i64 = i64::MAX - 1;
 
 #[test]
 fn edge_of_range(rt: HostRuntime) -> Result<(), Fail> {
-    let (_, first) = first_points(rt.alloc(), ORIGIN, &HALF_TURN)?;
-    assert!(rt; first == Some(Point { x: LAST, y: 0 }));
-    for (x, y, want) in [(LAST, -1, true), (LAST, 0, false), (LAST - 1, -1, false)] {
-        let covers = placed_covers(rt.alloc(), &HALF_TURN, Square { x, y })?;
-        assert!(rt; covers == want, "{x} {y}");
-    }
+    let placed = edge_placed(rt.alloc(), ORIGIN, &HALF_TURN)?;
+    assert!(rt; placed.points().first().copied() == Some(Point { x: LAST, y: 0 }));
+    assert!(rt; placed.covers(Square { x: LAST, y: -1 }));
+    assert!(rt; !placed.covers(Square { x: LAST, y: 0 }));
+    assert!(rt; !placed.covers(Square { x: LAST - 1, y: -1 }));
     Ok(())
 }
 
@@ -199,16 +175,19 @@ fn there_and_back(rt: HostRuntime) -> Result<(), Fail> {
         turn: Turn::R0,
         at: Point { x: 1, y: 0 },
     };
-    let (before, after) = first_points(rt.alloc(), there, &back)?;
-    assert!(rt; after == before);
+    let first = Point {
+        x: i64::MIN + 1,
+        y: 0,
+    };
+    assert!(rt; first_point(rt.alloc(), there, &back)? == Some(first));
     Ok(())
 }
 
 #[test]
 fn growths(rt: HostRuntime) -> Result<(), Fail> {
-    let ring = ring_of(rt.alloc(), &EDGE)?.ok_or("a ring")?;
+    let ring = ring(rt.alloc(), &EDGE)?;
     let result = ring.placed(rt.alloc(), Point { x: 1, y: 0 }, &FLIP_AND_RISE);
-    assert_eq!(rt; ring.points().len(), 4);
-    assert_eq!(rt; result?.points().len(), 4);
+    assert!(rt; ring.points().len() == 4);
+    assert!(rt; result?.points().len() == 4);
     Ok(())
 }

@@ -12,26 +12,17 @@ pub type Outline<'a> = &'a [(i64, i64)];
 /// The least square that one side alone covers.
 pub type Found = Option<(Square, Side)>;
 
-pub const SQUARE: [(i64, i64); 4] = [(0, 0), (10, 0), (10, 10), (0, 10)];
-
-pub const CORNERED: [(i64, i64); 6] = [(0, 0), (20, 0), (20, 10), (10, 10), (10, 20), (0, 20)];
-
-pub const LARGE: [(i64, i64); 4] = [(0, 0), (20, 0), (20, 20), (0, 20)];
-
 pub fn ring(alloc: Global, outline: Outline) -> Result<Ring, Fail> {
-    let mut points = Vec::new(alloc);
+    let mut points = Vec::with_capacity(alloc, outline.len())?;
     for (x, y) in outline {
         points.push(Point { x: *x, y: *y })?;
     }
     Ok(Ring::new(points).ok().ok_or("no ring")?)
 }
 
-pub fn rings(alloc: Global, outlines: &[Outline]) -> Result<Vec<Ring>, Fail> {
-    let mut rings = Vec::new(alloc);
-    for outline in outlines {
-        rings.push(ring(alloc, outline)?)?;
-    }
-    Ok(rings)
+pub fn push_outline(alloc: Global, rings: &mut Rings, outline: Outline) -> Result<(), Fail> {
+    rings.push_ring(&ring(alloc, outline)?)?;
+    Ok(())
 }
 
 pub fn rectangle(alloc: Global, xs: (i64, i64), ys: (i64, i64)) -> Result<Ring, AllocError> {
@@ -43,15 +34,31 @@ pub fn rectangle(alloc: Global, xs: (i64, i64), ys: (i64, i64)) -> Result<Ring, 
 /// A rectangle, by its abscissas and its ordinates.
 pub type Sides = ((i64, i64), (i64, i64));
 
+pub fn push_rectangle(
+    alloc: Global,
+    rings: &mut Rings,
+    xs: (i64, i64),
+    ys: (i64, i64),
+) -> Result<(), AllocError> {
+    rings.push_ring(&rectangle(alloc, xs, ys)?)
+}
+
 pub fn push_rectangles(
     alloc: Global,
     rings: &mut Rings,
     rectangles: &[Sides],
 ) -> Result<(), AllocError> {
     for (xs, ys) in rectangles {
-        rings.push_ring(&rectangle(alloc, *xs, *ys)?)?;
+        push_rectangle(alloc, rings, *xs, *ys)?;
     }
     Ok(())
+}
+
+/// These rectangles alone.
+pub fn rectangles(alloc: Global, sides: &[Sides]) -> Result<Rings, AllocError> {
+    let mut rings = Rings::new(alloc);
+    push_rectangles(alloc, &mut rings, sides)?;
+    Ok(rings)
 }
 
 pub fn at(x: i64, y: i64, side: Side) -> Found {
@@ -108,27 +115,14 @@ pub fn grids_differ_at(
     )
 }
 
-/// The answers of `differ_at` and `grids_differ_at`.
+/// The same by sweeps, by slab lists, by columns and by grids.
 pub fn both_differ_at(
     alloc: Global,
     first: &[Ring],
     second: &[Ring],
     found: Found,
-) -> Result<(bool, bool), AllocError> {
-    let differ = differ_at(alloc, first, second, found)?;
-    Ok((differ, grids_differ_at(alloc, first, second, found)?))
-}
-
-/// Whether the rings of these outlines differ first there, as `differ_at` and as grids say.
-pub fn outlines_differ_at(
-    alloc: Global,
-    first: &[Outline],
-    second: &[Outline],
-    found: Found,
-) -> Result<(bool, bool), Fail> {
-    let first = rings(alloc, first)?;
-    let second = rings(alloc, second)?;
-    Ok(both_differ_at(alloc, &first, &second, found)?)
+) -> Result<bool, AllocError> {
+    Ok(differ_at(alloc, first, second, found)? && grids_differ_at(alloc, first, second, found)?)
 }
 
 /// The next of a row of made numbers.

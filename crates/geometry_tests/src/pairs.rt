@@ -1,8 +1,6 @@
 //! Pairs of lists of rings, and the least square in which they differ, worked by hand.
-use crate::outlines::{
-    CORNERED, Found, LARGE, Outline, SQUARE, at, both_differ_at, differ_at, outlines_differ_at,
-    rectangle, rings,
-};
+use crate::far::corners_of;
+use crate::outlines::{Found, at, both_differ_at, differ_at, rectangle};
 use lvl_grid::{Point, Ring, Square};
 use lvl_region::{GridRegion, Region, Side};
 use std::alloc::{AllocError, Global};
@@ -58,16 +56,17 @@ pub fn points_of(alloc: Global, text: &str) -> Result<Vec<Point>, Fail> {
     Ok(points)
 }
 
-fn ring_of(alloc: Global, corners: &str) -> Result<Ring, Fail> {
+pub fn ring_of(alloc: Global, corners: &str) -> Result<Ring, Fail> {
     let points = points_of(alloc, corners)?;
     Ok(Ring::new(points).ok().ok_or("no ring")?)
 }
 
-/// The rings of a text, with a semicolon between two.
+/// The rings of a text, by their corners or by names of `far`, with a semicolon between two.
 pub fn rings_of(alloc: Global, text: &str) -> Result<Vec<Ring>, Fail> {
     let mut rings = Vec::new(alloc);
-    for corners in text.split(';') {
-        if !corners.trim().is_empty() {
+    for ring in text.split(';') {
+        let corners = corners_of(ring.trim());
+        if !corners.is_empty() {
             rings.push(ring_of(alloc, corners)?)?;
         }
     }
@@ -89,13 +88,12 @@ pub fn found_of(text: &str) -> Result<Found, Fail> {
 }
 
 /// Whether the lists of a row differ where it says, as `differ_at` and as grids say.
-fn row_differs_at(alloc: Global, row: &str) -> Result<bool, Fail> {
+pub fn row_differs_at(alloc: Global, row: &str) -> Result<bool, Fail> {
     let (first, row) = cut(row, " |");
     let (second, found) = cut(row, " | ");
     let first = rings_of(alloc, first)?;
     let second = rings_of(alloc, second)?;
-    let answers = both_differ_at(alloc, &first, &second, found_of(found)?)?;
-    Ok(answers == (true, true))
+    Ok(both_differ_at(alloc, &first, &second, found_of(found)?)?)
 }
 
 #[test]
@@ -107,27 +105,28 @@ fn pairs_of_lists(rt: HostRuntime) -> Result<(), Fail> {
     Ok(())
 }
 
-/// Whether the grid of these outlines covers each of two squares.
-fn grid_covers(
-    alloc: Global,
-    outlines: &[Outline],
-    squares: (Square, Square),
-) -> Result<(bool, bool), Fail> {
-    let region = GridRegion::build(alloc, &rings(alloc, outlines)?)?;
-    Ok((region.covers(squares.0), region.covers(squares.1)))
+/// The corners of rings, a square, and whether their grid covers it.
+const SQUARES: &str = "\
+| 0,0 | false
+| -9223372036854775808,9223372036854775807 | false
+0,0 10,0 10,10 0,10 | 9,9 | true
+0,0 10,0 10,10 0,10 | 10,9 | false
+";
+
+fn grid_covers(alloc: Global, rings: &str, square: Point) -> Result<bool, Fail> {
+    let region = GridRegion::build(alloc, &rings_of(alloc, rings)?)?;
+    let Point { x, y } = square;
+    Ok(region.covers(Square { x, y }))
 }
 
 #[test]
 fn squares_of_a_grid(rt: HostRuntime) -> Result<(), Fail> {
-    let far = Square {
-        x: i64::MIN,
-        y: i64::MAX,
-    };
-    let nothing = grid_covers(rt.alloc(), &[], (Square { x: 0, y: 0 }, far))?;
-    assert_eq!(rt; nothing, (false, false));
-    let ends = (Square { x: 9, y: 9 }, Square { x: 10, y: 9 });
-    let square = grid_covers(rt.alloc(), &[&SQUARE], ends)?;
-    assert_eq!(rt; square, (true, false));
+    for row in SQUARES.lines() {
+        let (rings, square) = cut(row, "| ");
+        let (square, want) = cut(square, " | ");
+        let covers = grid_covers(rt.alloc(), rings, point(square)?)?;
+        assert!(rt; covers == (want == "true"), "{row}");
+    }
     Ok(())
 }
 
@@ -153,9 +152,7 @@ fn the_last_rectangle_missing(rt: HostRuntime) -> Result<(), Fail> {
 
 #[test]
 fn growths_of_pairs(rt: HostRuntime) -> Result<(), Fail> {
-    let found = at(10, 10, Side::Second);
-    let (differ, grids_differ) = outlines_differ_at(rt.alloc(), &[&CORNERED], &[&LARGE], found)?;
-    assert!(rt; differ);
-    assert!(rt; grids_differ);
+    let row = "0,0 20,0 20,10 10,10 10,20 0,20 | 0,0 20,0 20,20 0,20 | second 10,10";
+    assert!(rt; row_differs_at(rt.alloc(), row)?);
     Ok(())
 }

@@ -1,5 +1,5 @@
 //! Lists that have the same rings in another order.
-use crate::outlines::{at, rectangle, ring};
+use crate::outlines::{at, push_rectangle, rectangle, ring};
 use lvl_columns::{Comparison, compare_by_columns};
 use lvl_grid::{Ring, Rings};
 use lvl_region::Side;
@@ -46,13 +46,18 @@ fn listed(alloc: Global, is_reversed: bool) -> Result<Rings, Fail> {
     Ok(rings)
 }
 
+/// The same, and a square at this abscissa.
+fn listed_and_square(alloc: Global, is_reversed: bool, x: i64) -> Result<Rings, Fail> {
+    let mut rings = listed(alloc, is_reversed)?;
+    push_rectangle(alloc, &mut rings, (x, x.saturating_add(1)), (5, 6))?;
+    Ok(rings)
+}
+
 /// What comparing the rings in order with those in reverse gives, where both lists have one more
 /// square: the first has it at (-9, 5), and the second at this abscissa.
 fn compared(alloc: Global, x: i64) -> Result<Comparison, Fail> {
-    let mut first = listed(alloc, false)?;
-    let mut second = listed(alloc, true)?;
-    first.push_ring(&rectangle(alloc, (-9, -8), (5, 6))?)?;
-    second.push_ring(&rectangle(alloc, (x, x.saturating_add(1)), (5, 6))?)?;
+    let first = listed_and_square(alloc, false, -9)?;
+    let second = listed_and_square(alloc, true, x)?;
     Ok(compare_by_columns(alloc, &first, &second)?)
 }
 
@@ -66,17 +71,19 @@ fn rings_in_another_order(rt: HostRuntime) -> Result<(), Fail> {
     Ok(())
 }
 
+/// The rings, and the one with that number once more.
+fn listed_and_again(alloc: Global, is_reversed: bool, number: i64) -> Result<Rings, Fail> {
+    let mut rings = listed(alloc, is_reversed)?;
+    rings.push_ring(&numbered(alloc, number, false)?)?;
+    Ok(rings)
+}
+
 /// As many rings that cover the same squares, but one more often on one side.
 #[test]
 fn a_ring_more_often(rt: HostRuntime) -> Result<(), Fail> {
-    let mut first = listed(rt.alloc(), false)?;
-    let mut second = listed(rt.alloc(), true)?;
-    first.push_ring(&numbered(rt.alloc(), 1, false)?)?;
-    second.push_ring(&numbered(rt.alloc(), 2, false)?)?;
-    assert!(rt;
-        compare_by_columns(rt.alloc(), &first, &second)?
-            .found
-            .is_none()
-    );
+    let first = listed_and_again(rt.alloc(), false, 1)?;
+    let second = listed_and_again(rt.alloc(), true, 2)?;
+    let compared = compare_by_columns(rt.alloc(), &first, &second)?;
+    assert!(rt; compared.found.is_none());
     Ok(())
 }

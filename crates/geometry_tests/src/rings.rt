@@ -1,6 +1,7 @@
 //! Rings in one piece, pushed, placed and clipped.
-use crate::maps::{EDGE, FLIP_AND_RISE, ORIGIN, ring_of};
-use crate::pairs::{cut, point};
+use crate::maps::{EDGE, FLIP_AND_RISE, ORIGIN};
+use crate::outlines::{push_outline, ring};
+use crate::pairs::{cut, point, rings_of};
 use lvl_grid::{Map, Part, PlaceFault, Point, Ring, RingList, Rings, Square, Turn, Window};
 use std::alloc::{AllocError, Global};
 use std::test::Fail;
@@ -27,13 +28,10 @@ const ELL_POINTS: [Point; 6] = [
     Point { x: 0, y: 8 },
 ];
 
-fn ell_and_comb(alloc: Global) -> Result<Rings, AllocError> {
+fn ell_and_comb(alloc: Global) -> Result<Rings, Fail> {
     let mut rings = Rings::new(alloc);
-    for vertices in [ELL.as_slice(), COMB.as_slice()] {
-        if let Some(ring) = ring_of(alloc, vertices)? {
-            rings.push_ring(&ring)?;
-        }
-    }
+    push_outline(alloc, &mut rings, &ELL)?;
+    push_outline(alloc, &mut rings, &COMB)?;
     Ok(rings)
 }
 
@@ -45,15 +43,21 @@ fn is_in(part: &Part, at: Square) -> bool {
     }
 }
 
-/// How many points each of the rings has.
-fn lengths(alloc: Global, rings: &Rings) -> Result<Vec<usize>, AllocError> {
-    let mut lengths = Vec::new(alloc);
-    for i in 0..rings.len() {
-        if let Some(ring) = rings.get(i) {
-            lengths.push(ring.len())?;
-        }
+/// How many points the ring with that number has, or none if there is no such ring.
+fn length(rings: &Rings, number: usize) -> usize {
+    match rings.get(number) {
+        Some(ring) => ring.len(),
+        None => 0,
     }
-    Ok(lengths)
+}
+
+/// How many points each of the rings has.
+fn lengths_text(alloc: Global, rings: &Rings) -> Result<String, AllocError> {
+    let mut text = String::new(alloc);
+    for number in 0..rings.len() {
+        text.push_str(&format!(in alloc; " {}", length(rings, number))?)?;
+    }
+    Ok(text)
 }
 
 /// Whether the clipped rings cover what the rings cover in the part.
@@ -71,36 +75,35 @@ fn is_clipped(clipped: &Rings, rings: &Rings, part: &Part) -> bool {
 
 /// A part, and how many points each ring has that is left of the L and the comb in it.
 const PARTS: &str = "\
-left 8 | [6, 8]
-left 3 | [4, 6]
-left 0 | []
-right 3 | [4, 6]
-right 7 | [4, 4]
-within 3,2 6,6 | [4]
-within 6,6 3,2 | []
+left 8 | 6 8
+left 3 | 4 6
+left 0 |
+right 3 | 4 6
+right 7 | 4 4
+within 3,2 6,6 | 4
+within 6,6 3,2 |
 ";
 
-fn window_of(low: Point, high: Point) -> Window {
-    Window {
+/// The window from the one point to the other.
+fn window_of(text: &str) -> Result<Part, Fail> {
+    let (low, high) = cut(text, " ");
+    let low = point(low)?;
+    let high = point(high)?;
+    Ok(Part::Within(Window {
         x0: low.x,
         y0: low.y,
         x1: high.x,
         y1: high.y,
-    }
+    }))
 }
 
 fn part_of(text: &str) -> Result<Part, Fail> {
     let (kind, place) = cut(text, " ");
-    if kind == "within" {
-        let (low, high) = cut(place, " ");
-        return Ok(Part::Within(window_of(point(low)?, point(high)?)));
+    match kind {
+        "left" => Ok(Part::Left(place.parse::<i64>()?)),
+        "right" => Ok(Part::Right(place.parse::<i64>()?)),
+        _ => window_of(place),
     }
-    let x = place.parse::<i64>()?;
-    Ok(if kind == "left" {
-        Part::Left(x)
-    } else {
-        Part::Right(x)
-    })
 }
 
 /// How many points each ring has that is left of the rings in the part, if they cover what they are to cover.
@@ -109,8 +112,7 @@ fn clipped_text(alloc: Global, rings: &Rings, part: &Part) -> Result<String, All
     if !is_clipped(&clipped, rings, part) {
         return String::from_str(alloc, "other squares");
     }
-    let lengths = lengths(alloc, &clipped)?;
-    format!(in alloc; "{lengths:?}")
+    lengths_text(alloc, &clipped)
 }
 
 fn ell_and_comb_clipped(alloc: Global, part: &str) -> Result<String, Fail> {
@@ -119,14 +121,21 @@ fn ell_and_comb_clipped(alloc: Global, part: &str) -> Result<String, Fail> {
     Ok(clipped_text(alloc, &rings, &part)?)
 }
 
+/// The fourth point of the second of the rings.
+fn fourth_of_comb(rings: &Rings) -> Option<Point> {
+    match rings.get(1) {
+        Some(comb) => comb.get(3).copied(),
+        None => None,
+    }
+}
+
 #[test]
 fn rings_in_one_piece(rt: HostRuntime) -> Result<(), Fail> {
     let alloc = rt.alloc();
     let rings = ell_and_comb(alloc)?;
     assert!(rt; rings.len() == 2);
-    assert!(rt; rings.get(0).map(|ring| ring.len()) == Some(6));
-    assert!(rt; rings.get(1).map(|ring| ring.len()) == Some(8));
-    assert!(rt; rings.get(1).and_then(|ring| ring.get(3).copied()) == Some(Point { x: 6, y: 6 }));
+    assert!(rt; length(&rings, 0) == 6 && length(&rings, 1) == 8);
+    assert!(rt; fourth_of_comb(&rings) == Some(Point { x: 6, y: 6 }));
     assert!(rt; rings.get(2).is_none());
     Ok(())
 }
@@ -134,11 +143,9 @@ fn rings_in_one_piece(rt: HostRuntime) -> Result<(), Fail> {
 #[test]
 fn rings_are_clipped_and_tidied(rt: HostRuntime) -> Result<(), Fail> {
     for row in PARTS.lines() {
-        let (part, want) = cut(row, " | ");
-        assert!(rt;
-            ell_and_comb_clipped(rt.alloc(), part)?.as_str() == want,
-            "{row}"
-        );
+        let (part, want) = cut(row, " |");
+        let text = ell_and_comb_clipped(rt.alloc(), part)?;
+        assert!(rt; text.as_str() == want, "{row}");
     }
     Ok(())
 }
@@ -179,24 +186,26 @@ const LOW: Point = Point { x: -3, y: 2 };
 
 /// A rectangle from `LOW` on and one from the origin on, up to the same corner.
 fn two_rectangles(alloc: Global) -> Result<Vec<Ring>, Fail> {
-    let high = LOW.offset(5, 7).ok_or("a corner")?;
-    let one = Ring::rectangle(alloc, LOW, high)?;
-    Ok(vec![in alloc; one, Ring::rectangle(alloc, ORIGIN, high)?]?)
-}
-
-#[test]
-fn a_slice_of_rings(rt: HostRuntime) -> Result<(), Fail> {
-    let slice = two_rectangles(rt.alloc())?;
-    let rings = Rings::from_slice(rt.alloc(), &slice)?;
-    let listed: &[Ring] = &slice;
-    assert!(rt; RingList::len(&rings) == 2 && RingList::len(&listed) == 2);
-    assert!(rt; RingList::ring(&rings, 1) == RingList::ring(&listed, 1));
-    assert!(rt; rings.points().len() == 8 && !rings.is_empty());
-    Ok(())
+    rings_of(alloc, "-3,2 2,2 2,9 -3,9; 0,0 2,0 2,9 0,9")
 }
 
 fn two_in_one_piece(alloc: Global) -> Result<Rings, Fail> {
     Ok(Rings::from_slice(alloc, &two_rectangles(alloc)?)?)
+}
+
+/// Whether both lists have two rings, of which the second is the same.
+fn are_two(rings: &Rings, listed: &[Ring]) -> bool {
+    RingList::len(rings) == 2
+        && RingList::len(&listed) == 2
+        && RingList::ring(rings, 1) == RingList::ring(&listed, 1)
+}
+
+#[test]
+fn a_slice_of_rings(rt: HostRuntime) -> Result<(), Fail> {
+    let rings = two_in_one_piece(rt.alloc())?;
+    assert!(rt; are_two(&rings, &two_rectangles(rt.alloc())?));
+    assert!(rt; rings.points().len() == 8 && !rings.is_empty());
+    Ok(())
 }
 
 #[test]
@@ -210,16 +219,17 @@ fn rings_that_are_the_same(rt: HostRuntime) -> Result<(), Fail> {
 }
 
 /// The third point of the rectangle from `LOW` on.
-fn third_point(alloc: Global) -> Result<Option<Point>, Fail> {
-    let high = LOW.offset(5, 7).ok_or("a corner")?;
+fn third_point(alloc: Global, high: Point) -> Result<Option<Point>, AllocError> {
     let one = Ring::rectangle(alloc, LOW, high)?;
     Ok(one.points().get(2).copied())
 }
 
 #[test]
 fn corners_of_rectangles(rt: HostRuntime) -> Result<(), Fail> {
-    assert_eq!(rt; third_point(rt.alloc())?, Some(Point { x: 2, y: 9 }));
-    assert!(rt; LOW.offset(u64::MAX, 0).is_some() == false);
+    let high = Point { x: 2, y: 9 };
+    assert!(rt; LOW.offset(5, 7) == Some(high));
+    assert!(rt; third_point(rt.alloc(), high)? == Some(high));
+    assert!(rt; LOW.offset(u64::MAX, 0).is_none());
     let lowest = Point {
         x: i64::MIN,
         y: i64::MIN,
@@ -228,23 +238,22 @@ fn corners_of_rectangles(rt: HostRuntime) -> Result<(), Fail> {
         x: i64::MAX,
         y: i64::MAX,
     };
-    assert_eq!(rt; lowest.offset(u64::MAX, u64::MAX), Some(highest));
+    assert!(rt; lowest.offset(u64::MAX, u64::MAX) == Some(highest));
     Ok(())
 }
 
+/// Whether that square is before the one at (3, 4).
+fn is_before(x: i64, y: i64) -> bool {
+    Square { x, y }.is_before(Square { x: 3, y: 4 })
+}
+
 #[test]
-fn squares_in_order(rt: HostRuntime) -> Result<(), Fail> {
-    let at = Square { x: 3, y: 4 };
-    for (x, y, before) in [
-        (9, 3, true),
-        (2, 4, true),
-        (3, 4, false),
-        (4, 4, false),
-        (-9, 5, false),
-    ] {
-        assert_eq!(rt; Square { x, y }.is_before(at), before, "{x} {y}");
-    }
-    Ok(())
+fn squares_in_order(rt: HostRuntime) {
+    assert!(rt; is_before(9, 3));
+    assert!(rt; is_before(2, 4));
+    assert!(rt; !is_before(3, 4));
+    assert!(rt; !is_before(4, 4));
+    assert!(rt; !is_before(-9, 5));
 }
 
 /// The L and the comb, and the L once more, flipped and risen.
@@ -262,40 +271,40 @@ fn half_turn(at: Point) -> Map {
     }
 }
 
-/// Pushes the ring at the edge as the map places it, if it can be placed.
-fn push_edge(alloc: Global, rings: &mut Rings, by: &Map) -> Result<Result<(), PlaceFault>, Fail> {
-    let ring = ring_of(alloc, &EDGE)?.ok_or("a ring")?;
-    Ok(rings.push_placed(ring.points(), ORIGIN, by))
+/// Pushes the ring at the edge as the map places it, and says why it cannot be placed.
+fn push_edge(alloc: Global, rings: &mut Rings, by: &Map) -> Result<Option<PlaceFault>, Fail> {
+    let ring = ring(alloc, &EDGE)?;
+    Ok(rings.push_placed(ring.points(), ORIGIN, by).err())
 }
 
 /// Whether the fourth of the rings is the one at the edge, as the map places it.
 fn ends_with_edge(alloc: Global, rings: &Rings, by: &Map) -> Result<bool, Fail> {
-    let ring = ring_of(alloc, &EDGE)?.ok_or("a ring")?;
-    let placed = ring.placed(alloc, ORIGIN, by)?;
+    let placed = ring(alloc, &EDGE)?.placed(alloc, ORIGIN, by)?;
     Ok(rings.get(3) == Some(placed.points()))
+}
+
+/// Whether there are three rings, of twenty points.
+fn are_three(rings: &Rings) -> bool {
+    Rings::len(rings) == 3 && rings.points().len() == 20
 }
 
 #[test]
 fn a_ring_is_placed_in_one_piece(rt: HostRuntime) -> Result<(), Fail> {
     let alloc = rt.alloc();
     let mut rings = with_ell_placed(alloc)?;
-    let alone = Rings::len(&rings);
-    let kept = rings.points().len();
-    assert!(rt; alone == 3 && kept == 20);
+    assert!(rt; are_three(&rings));
     let refused = push_edge(alloc, &mut rings, &half_turn(ORIGIN))?;
-    assert_eq!(rt; refused.err(), Some(PlaceFault::OutOfRange));
-    assert!(rt; Rings::len(&rings) == 3 && rings.points().len() == kept);
+    assert!(rt; refused == Some(PlaceFault::OutOfRange) && are_three(&rings));
     let by = half_turn(Point { x: -1, y: 0 });
-    let pushed = push_edge(alloc, &mut rings, &by)?;
-    pushed?;
+    assert!(rt; push_edge(alloc, &mut rings, &by)?.is_none());
     assert!(rt; ends_with_edge(alloc, &rings, &by)?);
     Ok(())
 }
 
-/// How many rings each half has, where the rings are split at 3.
-fn halves_at_three(alloc: Global, rings: &Rings) -> Result<(usize, usize), AllocError> {
-    let (left, right) = rings.split_at(alloc, 3)?;
-    Ok((left.len(), right.len()))
+/// Whether both halves have three rings, where the rings are split at 3.
+fn splits_at_three(alloc: Global, rings: &Rings) -> Result<bool, AllocError> {
+    let halves = rings.split_at(alloc, 3)?;
+    Ok(Rings::len(&halves.0) == 3 && Rings::len(&halves.1) == 3)
 }
 
 #[test]
@@ -307,6 +316,6 @@ fn growths_in_one_piece(rt: HostRuntime) -> Result<(), Fail> {
     let many = if pushed.is_ok() { 20 } else { before };
     assert!(rt; rings.points().len() == many);
     pushed?;
-    assert_eq!(rt; halves_at_three(alloc, &rings)?, (3, 3));
+    assert!(rt; splits_at_three(alloc, &rings)?);
     Ok(())
 }

@@ -1,6 +1,6 @@
 //! Rings made simpler, and what their outlines are.
 
-use crate::outlines::{Found, push_rectangles, rectangle};
+use crate::outlines::{Found, push_rectangle};
 use crate::pairs::{cut, points_of};
 use crate::spirals::winding;
 use lvl_columns::difference_by_columns;
@@ -21,8 +21,7 @@ const ROWS: &str = "\
 fn rows(alloc: Global, ordinates: &str) -> Result<Rings, Fail> {
     let mut rings = Rings::new(alloc);
     for pair in &points_of(alloc, ordinates)? {
-        let (low, high) = (pair.x, pair.y);
-        rings.push_ring(&rectangle(alloc, (0, 9), (low, high))?)?;
+        push_rectangle(alloc, &mut rings, (0, 9), (pair.x, pair.y))?;
     }
     Ok(rings)
 }
@@ -51,14 +50,15 @@ fn rows_that_overlap_or_touch(rt: HostRuntime) -> Result<(), Fail> {
 /// A row, a square within it, and a rectangle that reaches above it.
 fn row_and_two(alloc: Global) -> Result<Rings, Fail> {
     let mut rings = rows(alloc, "0,9")?;
-    push_rectangles(alloc, &mut rings, &[((2, 4), (2, 4)), ((2, 4), (8, 12))])?;
+    push_rectangle(alloc, &mut rings, (2, 4), (2, 4))?;
+    push_rectangle(alloc, &mut rings, (2, 4), (8, 12))?;
     Ok(rings)
 }
 
 #[test]
 fn what_lies_within_a_row_is_dropped(rt: HostRuntime) -> Result<(), Fail> {
-    let rings = row_and_two(rt.alloc())?;
-    assert_eq!(rt; simplified(rt.alloc(), rings)?.len(), 2);
+    let simpler = simplified(rt.alloc(), row_and_two(rt.alloc())?)?;
+    assert!(rt; simpler.len() == 2);
     Ok(())
 }
 
@@ -115,14 +115,19 @@ fn measured(alloc: Global, teeth: i64) -> Result<String, AllocError> {
     format!(in alloc; "{left} {right} {edges} {heights} {widths} {folds} {is_folded}")
 }
 
+/// How many teeth a comb has, and how it is measured.
+const COMBS: &str = "\
+1 | 0 10 2 2 20 1 false
+15 | 0 10 30 58 300 15 false
+16 | 0 10 32 62 320 16 true
+";
+
 #[test]
 fn outlines_of_combs(rt: HostRuntime) -> Result<(), Fail> {
-    for (teeth, want) in [
-        (1, "0 10 2 2 20 1 false"),
-        (15, "0 10 30 58 300 15 false"),
-        (16, "0 10 32 62 320 16 true"),
-    ] {
-        assert_eq!(rt; measured(rt.alloc(), teeth)?.as_str(), want);
+    for row in COMBS.lines() {
+        let (teeth, want) = cut(row, " | ");
+        let text = measured(rt.alloc(), teeth.parse::<i64>()?)?;
+        assert!(rt; text.as_str() == want, "{row}");
     }
     Ok(())
 }

@@ -1,6 +1,6 @@
 //! Long rings that go round and round, against the same masks drawn by rectangles.
 
-use crate::outlines::{Found, Sides, at, push_rectangles, rectangle};
+use crate::outlines::{Found, Sides, at, push_rectangle, push_rectangles, rectangles};
 use lvl_columns::difference_by_columns;
 use lvl_grid::{Point, Ring, Rings};
 use lvl_region::Side;
@@ -56,8 +56,7 @@ const LAST: Sides = ((599, 600), (-600, -599));
 const BEYOND: Sides = ((-600, -599), (-2, -1));
 
 fn mask_with(alloc: Global, more: &[Sides]) -> Result<Rings, AllocError> {
-    let mut mask = Rings::new(alloc);
-    push_rectangles(alloc, &mut mask, &MASK)?;
+    let mut mask = rectangles(alloc, &MASK)?;
     push_rectangles(alloc, &mut mask, more)?;
     Ok(mask)
 }
@@ -137,31 +136,37 @@ fn turns(alloc: Global) -> Result<Rings, AllocError> {
     Ok(mask)
 }
 
-/// What differs first in the wire and in its turns with a square between two of them.
-fn found_with_square(alloc: Global, spiral: &Rings) -> Result<Found, AllocError> {
-    let mut mask = turns(alloc)?;
-    mask.push_ring(&rectangle(alloc, (101, 102), (0, 1))?)?;
-    difference_by_columns(alloc, spiral, &mask)
+/// What differs first in the wire and in its turns.
+fn found_in_wire(alloc: Global, turns: &Rings) -> Result<Found, Fail> {
+    Ok(difference_by_columns(alloc, &wire(alloc, 200)?, turns)?)
 }
 
+/// What differs first in its turns and in the wire.
+fn found_in_turns(alloc: Global, turns: &Rings) -> Result<Found, Fail> {
+    Ok(difference_by_columns(alloc, turns, &wire(alloc, 200)?)?)
+}
+
+/// The last has a square between two of the turns.
 #[test]
 fn a_wire_that_winds(rt: HostRuntime) -> Result<(), Fail> {
     let alloc = rt.alloc();
-    let spiral = wire(alloc, 200)?;
-    let mask = turns(alloc)?;
-    assert!(rt; difference_by_columns(alloc, &spiral, &mask)?.is_none());
-    assert!(rt; difference_by_columns(alloc, &mask, &spiral)?.is_none());
-    assert!(rt; found_with_square(alloc, &spiral)? == at(101, 0, Side::Second));
+    let mut turns = turns(alloc)?;
+    assert!(rt; found_in_wire(alloc, &turns)?.is_none());
+    assert!(rt; found_in_turns(alloc, &turns)?.is_none());
+    push_rectangle(alloc, &mut turns, (101, 102), (0, 1))?;
+    assert!(rt; found_in_wire(alloc, &turns)? == at(101, 0, Side::Second));
     Ok(())
+}
+
+/// What differs first in the ring that winds 260 times and in these rectangles.
+fn found_in_winding(alloc: Global, sides: &[Sides]) -> Result<Found, Fail> {
+    let spiral = winding(alloc, 260)?;
+    Ok(difference_by_columns(alloc, &spiral, &rectangles(alloc, sides)?)?)
 }
 
 #[test]
 fn growths_of_spirals(rt: HostRuntime) -> Result<(), Fail> {
-    let alloc = rt.alloc();
-    let spiral = winding(alloc, 260)?;
-    let mut mask = Rings::new(alloc);
-    mask.push_ring(&rectangle(alloc, (-260, 260), (-1, 260))?)?;
-    let found = difference_by_columns(alloc, &spiral, &mask)?;
+    let found = found_in_winding(rt.alloc(), &[((-260, 260), (-1, 260))])?;
     assert!(rt; found == at(-259, -260, Side::First));
     Ok(())
 }
