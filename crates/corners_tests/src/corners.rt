@@ -1,4 +1,5 @@
 //! Corners of rings, worked by hand.
+use crate::texts::{cut, rings};
 use lvl_corners::{Corner, corners_of, cover_same, send_corners};
 use lvl_grid::{Point, Ring, Rings};
 use std::alloc::Global;
@@ -15,296 +16,165 @@ fn example(rt: HostRuntime) -> Result<(), Fail> {
     Ok(())
 }
 
-pub(crate) type Outline<'a> = &'a [(i64, i64)];
+/// What rings are, the rings, and their corners, each by x, y and the change. The hole is in the middle of a
+/// square of 30, which is cut open along the hole's lower side.
+const RINGS: &str = "\
+nothing | |
+no area | 0,0 10,0 5,0 |
+a square | 0,0 10,0 10,10 0,10 | 0,0:1 0,10:-1 10,0:-1 10,10:1
+a reversed ring does not cancel | 0,0 10,0 10,10 0,10; 0,0 0,10 10,10 10,0 | 0,0:1 0,10:-1 10,0:-1 10,10:1
+a ring wound twice | 0,0 10,0 10,10 0,10 0,0 10,0 10,10 0,10 | 0,0:1 0,10:-1 10,0:-1 10,10:1
+an L | 0,0 20,0 20,10 10,10 10,20 0,20 | 0,0:1 0,20:-1 10,10:-1 10,20:1 20,0:-1 20,10:1
+a hole | 0,0 30,0 30,30 0,30 0,10 10,10 10,20 20,20 20,10 0,10 | \
+    0,0:1 0,30:-1 10,10:-1 10,20:1 20,10:1 20,20:-1 30,0:-1 30,30:1
+squares that touch at a corner, one right above the other | 0,0 10,0 10,10 0,10; 10,10 20,10 20,20 10,20 | \
+    0,0:1 0,10:-1 10,0:-1 10,10:2 10,20:-1 20,10:-1 20,20:1
+squares that touch at a corner, one left above the other | 0,0 10,0 10,10 0,10; -10,10 0,10 0,20 -10,20 | \
+    -10,10:1 -10,20:-1 0,0:1 0,10:-2 0,20:1 10,0:-1 10,10:1
+squares that share a side | 0,0 10,0 10,10 0,10; 0,10 10,10 10,20 0,20 | 0,0:1 0,20:-1 10,0:-1 10,20:1
+the whole grid | -9223372036854775808,-9223372036854775808 9223372036854775807,-9223372036854775808 \
+    9223372036854775807,9223372036854775807 -9223372036854775808,9223372036854775807 | \
+    -9223372036854775808,-9223372036854775808:1 -9223372036854775808,9223372036854775807:-1 \
+    9223372036854775807,-9223372036854775808:-1 9223372036854775807,9223372036854775807:1
+both ends of the grid | 9223372036854775806,9223372036854775806 9223372036854775807,9223372036854775806 \
+    9223372036854775807,9223372036854775807 9223372036854775806,9223372036854775807; \
+    -9223372036854775808,-9223372036854775808 -9223372036854775807,-9223372036854775808 \
+    -9223372036854775807,-9223372036854775807 -9223372036854775808,-9223372036854775807 | \
+    -9223372036854775808,-9223372036854775808:1 -9223372036854775808,-9223372036854775807:-1 \
+    -9223372036854775807,-9223372036854775808:-1 -9223372036854775807,-9223372036854775807:1 \
+    9223372036854775806,9223372036854775806:1 9223372036854775806,9223372036854775807:-1 \
+    9223372036854775807,9223372036854775806:-1 9223372036854775807,9223372036854775807:1
+";
 
-/// A corner as it is written down: x, y, and the change.
-type Written = (i64, i64, i8);
-
-pub(crate) const LOW: i64 = i64::MIN;
-
-pub(crate) const HIGH: i64 = i64::MAX;
-
-const SQUARE: [(i64, i64); 4] = [(0, 0), (10, 0), (10, 10), (0, 10)];
-
-const REVERSED: [(i64, i64); 4] = [(0, 0), (0, 10), (10, 10), (10, 0)];
-
-const TWICE: [(i64, i64); 8] = [
-    (0, 0),
-    (10, 0),
-    (10, 10),
-    (0, 10),
-    (0, 0),
-    (10, 0),
-    (10, 10),
-    (0, 10),
-];
-
-pub(crate) const CORNERED: [(i64, i64); 6] = [
-    (0, 0),
-    (20, 0),
-    (20, 10),
-    (10, 10),
-    (10, 20),
-    (0, 20),
-];
-
-/// A square of 30 with a hole of 10 in the middle, cut open along the hole's lower side.
-const HOLED: [(i64, i64); 10] = [
-    (0, 0),
-    (30, 0),
-    (30, 30),
-    (0, 30),
-    (0, 10),
-    (10, 10),
-    (10, 20),
-    (20, 20),
-    (20, 10),
-    (0, 10),
-];
-
-pub(crate) const NEXT: [(i64, i64); 4] = [(10, 10), (20, 10), (20, 20), (10, 20)];
-
-const OTHER_NEXT: [(i64, i64); 4] = [(-10, 10), (0, 10), (0, 20), (-10, 20)];
-
-const ABOVE: [(i64, i64); 4] = [(0, 10), (10, 10), (10, 20), (0, 20)];
-
-const ALL: [(i64, i64); 4] = [(LOW, LOW), (HIGH, LOW), (HIGH, HIGH), (LOW, HIGH)];
-
-const FIRST: [(i64, i64); 4] = [
-    (LOW, LOW),
-    (LOW + 1, LOW),
-    (LOW + 1, LOW + 1),
-    (LOW, LOW + 1),
-];
-
-const LAST: [(i64, i64); 4] = [
-    (HIGH - 1, HIGH - 1),
-    (HIGH, HIGH - 1),
-    (HIGH, HIGH),
-    (HIGH - 1, HIGH),
-];
-
-const FLAT: [(i64, i64); 3] = [(0, 0), (10, 0), (5, 0)];
-
-pub(crate) fn rings(alloc: Global, outlines: &[Outline]) -> Result<Rings, Fail> {
-    let mut rings = Rings::new(alloc);
-    for outline in outlines {
-        let mut points = Vec::new(alloc);
-        for (x, y) in *outline {
-            points.push(Point { x: *x, y: *y })?;
-        }
-        rings.push_ring(&Ring::new(points)?)?;
+/// Each corner by x, y and the change, as `0,10:-1`.
+fn text_of(alloc: Global, corners: &[Corner]) -> Result<String, Fail> {
+    let mut text = String::new(alloc);
+    for corner in corners {
+        write!(text, " {},{}:{}", corner.x, corner.y, corner.change)?;
     }
-    Ok(rings)
+    Ok(text)
 }
 
-fn are_written(corners: &[Corner], written: &[Written]) -> bool {
-    corners.len() == written.len()
-        && corners.iter().zip(written).all(|(corner, row)| (corner.x, corner.y, corner.change)
-            == *row)
-}
-
-fn has(alloc: Global, outlines: &[Outline], written: &[Written]) -> Result<bool, Fail> {
+/// The corners of the rings of a text.
+fn corners_text(alloc: Global, text: &str) -> Result<String, Fail> {
     let mut corners: Vec<Corner> = Vec::new(alloc);
-    send_corners(alloc, &rings(alloc, outlines)?, &mut corners)?;
-    Ok(are_written(&corners, written))
+    send_corners(alloc, &rings(alloc, text)?, &mut corners)?;
+    text_of(alloc, &corners)
 }
 
 #[test]
 fn corners_of_rings(rt: HostRuntime) -> Result<(), Fail> {
-    let square: [Written; 4] = [(0, 0, 1), (0, 10, -1), (10, 0, -1), (10, 10, 1)];
-    let rows: [(&str, &[Outline], &[Written]); 12] = [
-        ("nothing", &[], &[]),
-        ("no area", &[&FLAT], &[]),
-        ("a square", &[&SQUARE], &square),
-        (
-            "a reversed ring does not cancel",
-            &[&SQUARE, &REVERSED],
-            &square,
-        ),
-        ("a ring wound twice", &[&TWICE], &square),
-        (
-            "an L",
-            &[&CORNERED],
-            &[
-                (0, 0, 1),
-                (0, 20, -1),
-                (10, 10, -1),
-                (10, 20, 1),
-                (20, 0, -1),
-                (20, 10, 1),
-            ],
-        ),
-        (
-            "a hole",
-            &[&HOLED],
-            &[
-                (0, 0, 1),
-                (0, 30, -1),
-                (10, 10, -1),
-                (10, 20, 1),
-                (20, 10, 1),
-                (20, 20, -1),
-                (30, 0, -1),
-                (30, 30, 1),
-            ],
-        ),
-        (
-            "squares that touch at a corner, one right above the other",
-            &[&SQUARE, &NEXT],
-            &[
-                (0, 0, 1),
-                (0, 10, -1),
-                (10, 0, -1),
-                (10, 10, 2),
-                (10, 20, -1),
-                (20, 10, -1),
-                (20, 20, 1),
-            ],
-        ),
-        (
-            "squares that touch at a corner, one left above the other",
-            &[&SQUARE, &OTHER_NEXT],
-            &[
-                (-10, 10, 1),
-                (-10, 20, -1),
-                (0, 0, 1),
-                (0, 10, -2),
-                (0, 20, 1),
-                (10, 0, -1),
-                (10, 10, 1),
-            ],
-        ),
-        (
-            "squares that share a side",
-            &[&SQUARE, &ABOVE],
-            &[(0, 0, 1), (0, 20, -1), (10, 0, -1), (10, 20, 1)],
-        ),
-        (
-            "the whole grid",
-            &[&ALL],
-            &[
-                (LOW, LOW, 1),
-                (LOW, HIGH, -1),
-                (HIGH, LOW, -1),
-                (HIGH, HIGH, 1),
-            ],
-        ),
-        (
-            "both ends of the grid",
-            &[&LAST, &FIRST],
-            &[
-                (LOW, LOW, 1),
-                (LOW, LOW + 1, -1),
-                (LOW + 1, LOW, -1),
-                (LOW + 1, LOW + 1, 1),
-                (HIGH - 1, HIGH - 1, 1),
-                (HIGH - 1, HIGH, -1),
-                (HIGH, HIGH - 1, -1),
-                (HIGH, HIGH, 1),
-            ],
-        ),
-    ];
-    for (name, outlines, written) in rows {
-        assert!(rt; has(rt.alloc(), outlines, written)?, "{name}");
+    for row in RINGS.lines() {
+        let (name, row) = cut(row, " |");
+        let (rings, want) = cut(row, " |");
+        let found = corners_text(rt.alloc(), rings)?;
+        assert!(rt; found.as_str() == want, "{name}");
     }
     Ok(())
+}
+
+/// Whether the rings of two texts cover the same.
+fn are_same(alloc: Global, first: &str, second: &str) -> Result<bool, Fail> {
+    let first = rings(alloc, first)?;
+    Ok(cover_same(alloc, &first, &rings(alloc, second)?)?)
 }
 
 #[test]
 fn lists_that_cover_the_same(rt: HostRuntime) -> Result<(), Fail> {
-    let alloc = rt.alloc();
-    let one = rings(alloc, &[&SQUARE, &ABOVE])?;
-    let other = rings(alloc, &[&[(0, 0), (10, 0), (10, 20), (0, 20)]])?;
-    assert!(rt; cover_same(alloc, &one, &other)?);
-    assert!(rt; !cover_same(alloc, &one, &rings(alloc, &[&SQUARE])?)?);
+    let squares = "0,0 10,0 10,10 0,10; 0,10 10,10 10,20 0,20";
+    assert!(rt; are_same(rt.alloc(), squares, "0,0 10,0 10,20 0,20")?);
+    assert!(rt; !are_same(rt.alloc(), squares, "0,0 10,0 10,10 0,10")?);
     Ok(())
 }
 
-/// The lower left corner of the bar of this number: bars are side by side, with a space of one square
-/// between them, and each begins at another ordinate.
-fn foot(number: u16) -> Point {
+/// The lower left and the upper right corner of a rectangle.
+type Ends = (Point, Point);
+
+/// The bar of this number: bars are side by side, with a space of one square between them, and each begins at
+/// another ordinate.
+fn bar(number: u16) -> Ends {
     let number = i64::from(number);
-    Point {
-        x: 2 * number,
-        y: number * 7919 % 10_007,
-    }
+    let (x, y) = (2 * number, number * 7919 % 10_007);
+    let high = Point {
+        x: x.saturating_add(1),
+        y: y.saturating_add(5000),
+    };
+    (Point { x, y }, high)
 }
 
-/// How high a bar is.
-const HEIGHT: i64 = 5000;
+/// The square of this number of a stair, in which each is right above the one before: no sweep of them is much
+/// work.
+fn step(number: u16) -> Ends {
+    let at = 2 * i64::from(number);
+    let end = at.saturating_add(1);
+    (Point { x: at, y: at }, Point { x: end, y: end })
+}
 
-fn bars(alloc: Global, count: u16) -> Result<Rings, Fail> {
+/// The rectangle of this number, of bars or of a stair.
+fn rectangle(number: u16, is_stair: bool) -> Ends {
+    if is_stair { step(number) } else { bar(number) }
+}
+
+fn rectangles(alloc: Global, count: u16, is_stair: bool) -> Result<Rings, Fail> {
     let mut rings = Rings::new(alloc);
     for number in 0..count {
-        let low = foot(number);
-        let high = Point {
-            x: low.x.saturating_add(1),
-            y: low.y.saturating_add(HEIGHT),
-        };
+        let (low, high) = rectangle(number, is_stair);
         rings.push_ring(&Ring::rectangle(alloc, low, high)?)?;
     }
     Ok(rings)
 }
 
-/// The corners of a bar.
-fn written_bar(number: u16) -> [Written; 4] {
-    let Point { x, y } = foot(number);
-    let (right, top) = (x.saturating_add(1), y.saturating_add(HEIGHT));
-    [(x, y, 1), (x, top, -1), (right, y, -1), (right, top, 1)]
+/// Whether there is a corner with this index, and what it is.
+fn is_at(corners: &[Corner], index: usize, at: Point, change: i8) -> bool {
+    match corners.get(index) {
+        Some(corner) => corner.x == at.x && corner.y == at.y && corner.change == change,
+        None => false,
+    }
+}
+
+/// Whether the corners from this index on are those of the rectangle.
+fn has_ends(corners: &[Corner], index: usize, (low, high): Ends) -> bool {
+    let upper = Point {
+        x: low.x,
+        y: high.y,
+    };
+    let lower = Point {
+        x: high.x,
+        y: low.y,
+    };
+    is_at(corners, index, low, 1)
+        && is_at(corners, index.saturating_add(1), upper, -1)
+        && is_at(corners, index.saturating_add(2), lower, -1)
+        && is_at(corners, index.saturating_add(3), high, 1)
+}
+
+/// Whether the corners are those of so many rectangles.
+fn are_corners(corners: &[Corner], count: u16, is_stair: bool) -> bool {
+    for number in 0..count {
+        let index = usize::from(number).saturating_mul(4);
+        if !has_ends(corners, index, rectangle(number, is_stair)) {
+            return false;
+        }
+    }
+    corners.len() == usize::from(count).saturating_mul(4)
+}
+
+/// Whether the corners of so many rectangles are sent, and column by column.
+fn are_sent(alloc: Global, count: u16, is_stair: bool) -> Result<bool, Fail> {
+    let mut corners: Vec<Corner> = Vec::new(alloc);
+    let columns = send_corners(alloc, &rectangles(alloc, count, is_stair)?, &mut corners)?;
+    Ok(columns > 0 && are_corners(&corners, count, is_stair))
 }
 
 #[test]
 fn corners_by_columns(rt: HostRuntime) -> Result<(), Fail> {
-    let mut corners: Vec<Corner> = Vec::new(rt.alloc());
-    let columns = send_corners(rt.alloc(), &bars(rt.alloc(), 3000)?, &mut corners)?;
-    assert!(rt; columns > 0);
-    assert_eq!(rt; corners.len(), 12_000);
-    for (number, four) in (0u16..).zip(corners.as_slice().chunks(4)) {
-        assert!(rt; are_written(four, &written_bar(number)), "bar {number}");
-    }
+    assert!(rt; are_sent(rt.alloc(), 3000, false)?);
     Ok(())
-}
-
-/// Squares of which each is right above the one before: no sweep of them is much work.
-fn stair(alloc: Global, count: u16) -> Result<Rings, Fail> {
-    let mut rings = Rings::new(alloc);
-    for number in 0..count {
-        let at = 2 * i64::from(number);
-        let low = Point { x: at, y: at };
-        let high = Point {
-            x: at.saturating_add(1),
-            y: at.saturating_add(1),
-        };
-        rings.push_ring(&Ring::rectangle(alloc, low, high)?)?;
-    }
-    Ok(rings)
-}
-
-/// The corners of a square of the stair.
-fn written_stair(number: u16) -> [Written; 4] {
-    let low = 2 * i64::from(number);
-    let high = low.saturating_add(1);
-    [
-        (low, low, 1),
-        (low, high, -1),
-        (high, low, -1),
-        (high, high, 1),
-    ]
 }
 
 /// A column of many points is cut though a sweep of it is little work.
 #[test]
 fn corners_of_many_squares(rt: HostRuntime) -> Result<(), Fail> {
-    let mut corners: Vec<Corner> = Vec::new(rt.alloc());
-    let columns = send_corners(rt.alloc(), &stair(rt.alloc(), 40_000)?, &mut corners)?;
-    assert!(rt; columns > 0);
-    assert_eq!(rt; corners.len(), 160_000);
-    for (number, four) in (0u16..).zip(corners.as_slice().chunks(4)) {
-        assert!(rt;
-            are_written(four, &written_stair(number)),
-            "square {number}"
-        );
-    }
+    assert!(rt; are_sent(rt.alloc(), 40_000, true)?);
     Ok(())
 }

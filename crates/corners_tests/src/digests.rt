@@ -1,20 +1,21 @@
 //! Digests of Layers, against those that `tools/digest_check.py` finds from a raster.
-use crate::corners::{CORNERED, HIGH, LOW, NEXT, rings};
+use crate::texts::{cut, point, rings};
 use lvl_corners::{LayerDigest, MaskHash, cover_same};
-use lvl_grid::{Point, Ring, Rings};
+use lvl_grid::{Ring, Rings};
 use lvl_names::Layer;
 use std::alloc::Global;
 use std::test::Fail;
 
-/// A rectangle by its least and its greatest coordinates.
-type Rectangle = (i64, i64, i64, i64);
+/// The rectangle of a text, by its lower left and its upper right corner.
+fn rectangle(alloc: Global, text: &str) -> Result<Ring, Fail> {
+    let (low, high) = cut(text, " ");
+    Ok(Ring::rectangle(alloc, point(low)?, point(high)?)?)
+}
 
-fn rectangles(alloc: Global, corners: &[Rectangle]) -> Result<Rings, Fail> {
+fn rectangles(alloc: Global, text: &str) -> Result<Rings, Fail> {
     let mut rings = Rings::new(alloc);
-    for (x, y, right, top) in corners {
-        let low = Point { x: *x, y: *y };
-        let high = Point { x: *right, y: *top };
-        rings.push_ring(&Ring::rectangle(alloc, low, high)?)?;
+    for corners in text.split(';') {
+        rings.push_ring(&rectangle(alloc, corners.trim())?)?;
     }
     Ok(rings)
 }
@@ -27,35 +28,18 @@ fn hex(alloc: Global, bytes: &[u8]) -> Result<String, Fail> {
     Ok(text)
 }
 
-/// The rectangles of Layers, how many corners they have, and their digests; the first Layer is 1, and all
-/// have datatype 0.
-const LAYERS: [(&[Rectangle], u64, &str); 5] = [
-    (
-        &[(0, 0, 10, 10)],
-        4,
-        "c5483bbfa6d27cf601d87a9d6e74b9350c2dcde72a70bab5f8615769e8fc5728",
-    ),
-    (
-        &[(0, 0, 10, 10), (10, 10, 20, 20)],
-        7,
-        "0a9cd4a09b923778c23b8781d814b9aa31701b7fa656a8c942104a49d734239d",
-    ),
-    (
-        &[(0, 0, 4, 9), (2, 3, 7, 5), (2, 3, 7, 5), (-5, -5, 0, 0)],
-        11,
-        "88dd5c008e2d7515cdccd3f65cbe113461c0c02efc7013a25fcc509e19b1b9a2",
-    ),
-    (
-        &[(LOW, LOW, HIGH, HIGH)],
-        4,
-        "0cdee7a55509d2dee77af4e5c28bf13c4acc7e3818f28aa2762aa6abdc14e737",
-    ),
-    (
-        &[(LOW, LOW, LOW + 1, HIGH), (HIGH - 1, LOW, HIGH, LOW + 1)],
-        8,
-        "f771974c1a0ebdd94620e2f4df39a79bac0ec4fe5c3ee5e2be56d00f40ddb3f3",
-    ),
-];
+/// The numbers of Layers, which all have datatype 0, their rectangles, how many corners they have, and their
+/// digests.
+const LAYERS: &str = "\
+1 | 0,0 10,10 | 4 c5483bbfa6d27cf601d87a9d6e74b9350c2dcde72a70bab5f8615769e8fc5728
+2 | 0,0 10,10; 10,10 20,20 | 7 0a9cd4a09b923778c23b8781d814b9aa31701b7fa656a8c942104a49d734239d
+3 | 0,0 4,9; 2,3 7,5; 2,3 7,5; -5,-5 0,0 | 11 88dd5c008e2d7515cdccd3f65cbe113461c0c02efc7013a25fcc509e19b1b9a2
+4 | -9223372036854775808,-9223372036854775808 9223372036854775807,9223372036854775807 | \
+    4 0cdee7a55509d2dee77af4e5c28bf13c4acc7e3818f28aa2762aa6abdc14e737
+5 | -9223372036854775808,-9223372036854775808 -9223372036854775807,9223372036854775807; \
+    9223372036854775806,-9223372036854775808 9223372036854775807,-9223372036854775807 | \
+    8 f771974c1a0ebdd94620e2f4df39a79bac0ec4fe5c3ee5e2be56d00f40ddb3f3
+";
 
 /// The digest of all these Layers together.
 const MASK: &str = "b367464dda2f33f3ecb2b712ead41b8b6346959dc46b75cb26d1d525fa210659";
@@ -64,19 +48,19 @@ fn layer(layer: u32) -> Layer {
     Layer { layer, datatype: 0 }
 }
 
-/// The digest of a Layer of these rectangles, which are hashed.
-fn pushed(
-    alloc: Global,
-    mask: &mut MaskHash,
-    layer: Layer,
-    corners: &[Rectangle],
-) -> Result<LayerDigest, Fail> {
-    let rings = rectangles(alloc, corners)?;
-    Ok(mask.push(alloc, layer, &rings)?.ok_or("nothing")?)
+/// How many corners there are, and the digest.
+fn digest_text(alloc: Global, digest: &LayerDigest) -> Result<String, Fail> {
+    let sha256 = hex(alloc, &digest.sha256)?;
+    Ok(format!(in alloc; "{} {sha256}", digest.corners)?)
 }
 
-fn is_hex(alloc: Global, bytes: &[u8], text: &str) -> Result<bool, Fail> {
-    Ok(hex(alloc, bytes)?.as_str() == text)
+/// The same of a Layer of these rectangles, which are hashed.
+fn pushed(alloc: Global, mask: &mut MaskHash, number: &str, corners: &str) -> Result<String, Fail> {
+    let layer = layer(number.parse::<u32>()?);
+    match mask.push(alloc, layer, &rectangles(alloc, corners)?)? {
+        Some(digest) => digest_text(alloc, &digest),
+        None => Ok(String::from_str(alloc, "nothing")?),
+    }
 }
 
 #[test]
@@ -85,12 +69,14 @@ fn digests_of_layers(rt: HostRuntime) -> Result<(), Fail> {
     let mut mask = MaskHash::new();
     let nothing = mask.push(alloc, layer(0), &Rings::new(alloc))?;
     assert!(rt; nothing.is_none());
-    for (number, (corners, count, sha256)) in (1u32..).zip(LAYERS) {
-        let digest = pushed(alloc, &mut mask, layer(number), corners)?;
-        assert_eq!(rt; digest.corners, count);
-        assert!(rt; is_hex(alloc, &digest.sha256, sha256)?);
+    for row in LAYERS.lines() {
+        let (number, row) = cut(row, " | ");
+        let (corners, want) = cut(row, " | ");
+        let found = pushed(alloc, &mut mask, number, corners)?;
+        assert!(rt; found.as_str() == want, "{number}");
     }
-    assert!(rt; is_hex(alloc, &mask.finish(), MASK)?);
+    let found = hex(alloc, &mask.finish())?;
+    assert!(rt; found.as_str() == MASK);
     Ok(())
 }
 
@@ -98,7 +84,8 @@ fn digests_of_layers(rt: HostRuntime) -> Result<(), Fail> {
 fn growths_of_digests(rt: HostRuntime) -> Result<(), Fail> {
     let alloc = rt.alloc();
     let mut mask = MaskHash::new();
-    let rings = rings(alloc, &[&CORNERED, &NEXT])?;
+    let text = "0,0 20,0 20,10 10,10 10,20 0,20; 10,10 20,10 20,20 10,20";
+    let rings = rings(alloc, text)?;
     assert!(rt; mask.push(alloc, layer(1), &rings)?.is_some());
     assert!(rt; cover_same(alloc, &rings, &rings)?);
     Ok(())

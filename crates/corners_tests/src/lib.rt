@@ -7,3 +7,5 @@
 mod corners;
 #[cfg(test)]
 mod digests;
+#[cfg(test)]
+mod texts;
