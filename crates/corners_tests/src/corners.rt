@@ -62,21 +62,29 @@ fn corners_text(alloc: Global, text: &str) -> Result<String, Fail> {
     text_of(alloc, &corners)
 }
 
+/// Whether the rings of a row have its corners.
+fn row_has_corners(alloc: Global, row: &str) -> Result<bool, Fail> {
+    let (_, row) = cut(row, " |");
+    let (rings, want) = cut(row, " |");
+    Ok(corners_text(alloc, rings)?.as_str() == want)
+}
+
 #[test]
 fn corners_of_rings(rt: HostRuntime) -> Result<(), Fail> {
     for row in RINGS.lines() {
-        let (name, row) = cut(row, " |");
-        let (rings, want) = cut(row, " |");
-        let found = corners_text(rt.alloc(), rings)?;
-        assert!(rt; found.as_str() == want, "{name}");
+        assert!(rt; row_has_corners(rt.alloc(), row)?, "{row}");
     }
     Ok(())
 }
 
+/// Whether the rings of a text cover the same as these.
+fn are_covered(alloc: Global, by: &Rings, text: &str) -> Result<bool, Fail> {
+    Ok(cover_same(alloc, by, &rings(alloc, text)?)?)
+}
+
 /// Whether the rings of two texts cover the same.
 fn are_same(alloc: Global, first: &str, second: &str) -> Result<bool, Fail> {
-    let first = rings(alloc, first)?;
-    Ok(cover_same(alloc, &first, &rings(alloc, second)?)?)
+    are_covered(alloc, &rings(alloc, first)?, second)
 }
 
 #[test]

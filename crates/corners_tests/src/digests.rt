@@ -12,10 +12,15 @@ fn rectangle(alloc: Global, text: &str) -> Result<Ring, Fail> {
     Ok(Ring::rectangle(alloc, point(low)?, point(high)?)?)
 }
 
+fn push_rectangle(alloc: Global, rings: &mut Rings, text: &str) -> Result<(), Fail> {
+    rings.push_ring(&rectangle(alloc, text.trim())?)?;
+    Ok(())
+}
+
 fn rectangles(alloc: Global, text: &str) -> Result<Rings, Fail> {
     let mut rings = Rings::new(alloc);
     for corners in text.split(';') {
-        rings.push_ring(&rectangle(alloc, corners.trim())?)?;
+        push_rectangle(alloc, &mut rings, corners)?;
     }
     Ok(rings)
 }
@@ -63,6 +68,17 @@ fn pushed(alloc: Global, mask: &mut MaskHash, number: &str, corners: &str) -> Re
     }
 }
 
+/// Whether the Layer of a row has its digest, which is hashed.
+fn row_is_pushed(alloc: Global, mask: &mut MaskHash, row: &str) -> Result<bool, Fail> {
+    let (number, row) = cut(row, " | ");
+    let (corners, want) = cut(row, " | ");
+    Ok(pushed(alloc, mask, number, corners)?.as_str() == want)
+}
+
+fn is_hex(alloc: Global, bytes: &[u8], text: &str) -> Result<bool, Fail> {
+    Ok(hex(alloc, bytes)?.as_str() == text)
+}
+
 #[test]
 fn digests_of_layers(rt: HostRuntime) -> Result<(), Fail> {
     let alloc = rt.alloc();
@@ -70,13 +86,9 @@ fn digests_of_layers(rt: HostRuntime) -> Result<(), Fail> {
     let nothing = mask.push(alloc, layer(0), &Rings::new(alloc))?;
     assert!(rt; nothing.is_none());
     for row in LAYERS.lines() {
-        let (number, row) = cut(row, " | ");
-        let (corners, want) = cut(row, " | ");
-        let found = pushed(alloc, &mut mask, number, corners)?;
-        assert!(rt; found.as_str() == want, "{number}");
+        assert!(rt; row_is_pushed(alloc, &mut mask, row)?, "{row}");
     }
-    let found = hex(alloc, &mask.finish())?;
-    assert!(rt; found.as_str() == MASK);
+    assert!(rt; is_hex(alloc, &mask.finish(), MASK)?);
     Ok(())
 }
 

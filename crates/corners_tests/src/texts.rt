@@ -24,12 +24,18 @@ fn ring(alloc: Global, corners: &str) -> Result<Ring, Fail> {
     Ok(Ring::new(points)?)
 }
 
+/// Appends the ring of these corners, if there are any.
+fn push(alloc: Global, rings: &mut Rings, corners: &str) -> Result<(), Fail> {
+    if !corners.trim().is_empty() {
+        rings.push_ring(&ring(alloc, corners)?)?;
+    }
+    Ok(())
+}
+
 pub(crate) fn rings(alloc: Global, text: &str) -> Result<Rings, Fail> {
     let mut rings = Rings::new(alloc);
     for corners in text.split(';') {
-        if !corners.trim().is_empty() {
-            rings.push_ring(&ring(alloc, corners)?)?;
-        }
+        push(alloc, &mut rings, corners)?;
     }
     Ok(rings)
 }

@@ -127,27 +127,47 @@ fn cuts_find(
     Ok(true)
 }
 
+/// The same for lists.
+fn lists_find(
+    alloc: Global,
+    first: &[Ring],
+    second: &[Ring],
+    from: i64,
+    want: Found,
+) -> Result<bool, AllocError> {
+    let first = Rings::from_slice(alloc, first)?;
+    cuts_find(
+        alloc,
+        &first,
+        &Rings::from_slice(alloc, second)?,
+        from,
+        want,
+    )
+}
+
 /// Whether the least difference is that of the grids, however it is looked for.
 fn all_find(alloc: Global, first: &[Ring], second: &[Ring], from: i64) -> Result<bool, AllocError> {
     let want = difference::<GridRegion>(alloc, first, second)?;
-    let a = Rings::from_slice(alloc, first)?;
-    let b = Rings::from_slice(alloc, second)?;
-    Ok(cuts_find(alloc, &a, &b, from, want)? && differ_at(alloc, first, second, want)?)
+    Ok(lists_find(alloc, first, second, from, want)? && differ_at(alloc, first, second, want)?)
+}
+
+/// The same for two made lists.
+fn made_lists_find(alloc: Global, number: u64, at: i64) -> Result<bool, Fail> {
+    let first = made_rings(alloc, number.wrapping_mul(7919), number % 5, at)?;
+    let second = made_rings(alloc, number.wrapping_mul(104_729), number % 4, at)?;
+    Ok(all_find(alloc, &first, &second, at)?)
 }
 
 /// Made lists: about 0, and at both ends of the range.
 #[test]
 fn a_thousand_lists(rt: HostRuntime) -> Result<(), Fail> {
-    let alloc = rt.alloc();
     for n in 0..1000u64 {
         let at = match n % 4 {
             0 => i64::MIN,
             1 => i64::MAX - 20,
             _ => -4,
         };
-        let first = made_rings(alloc, n.wrapping_mul(7919), n % 5, at)?;
-        let second = made_rings(alloc, n.wrapping_mul(104_729), n % 4, at)?;
-        assert!(rt; all_find(alloc, &first, &second, at)?, "{n}");
+        assert!(rt; made_lists_find(rt.alloc(), n, at)?, "{n}");
     }
     Ok(())
 }
@@ -190,21 +210,30 @@ fn moved_by_sweep(alloc: Global) -> Result<Found, AllocError> {
     first_difference_of(alloc, &first, &moved)
 }
 
-/// The same by columns.
-fn moved_by_columns(alloc: Global, first: &Rings) -> Result<Found, AllocError> {
-    difference_by_columns(alloc, first, &in_order(alloc, Some(1234))?)
+/// The same by columns, where those that are not moved may be turned.
+fn moved_by_columns(alloc: Global, is_turned: bool) -> Result<Found, AllocError> {
+    let first = if is_turned {
+        turned(alloc)?
+    } else {
+        in_order(alloc, None)?
+    };
+    difference_by_columns(alloc, &first, &in_order(alloc, Some(1234))?)
+}
+
+/// What differs first in those in order and in those turned.
+fn found_in_turned(alloc: Global) -> Result<Found, AllocError> {
+    let first = in_order(alloc, None)?;
+    difference_by_columns(alloc, &first, &turned(alloc)?)
 }
 
 #[test]
 fn lists_that_are_cut(rt: HostRuntime) -> Result<(), Fail> {
     let alloc = rt.alloc();
-    let first = in_order(alloc, None)?;
-    let second = turned(alloc)?;
-    assert!(rt; difference_by_columns(alloc, &first, &second)?.is_none());
+    assert!(rt; found_in_turned(alloc)?.is_none());
     let want = moved_by_sweep(alloc)?;
     assert!(rt; want.is_some());
-    assert!(rt; moved_by_columns(alloc, &first)? == want);
-    assert!(rt; moved_by_columns(alloc, &second)? == want);
+    assert!(rt; moved_by_columns(alloc, false)? == want);
+    assert!(rt; moved_by_columns(alloc, true)? == want);
     Ok(())
 }
 
@@ -236,21 +265,30 @@ fn brackets(alloc: Global, least: i64) -> Result<Rings, Fail> {
     Ok(rings)
 }
 
-/// What differs first in all brackets and in these.
-fn found_in_all(alloc: Global, rings: &Rings) -> Result<Found, Fail> {
-    Ok(difference_by_columns(alloc, &brackets(alloc, 0)?, rings)?)
+/// The brackets within the outermost one, perhaps that one too, and perhaps a square between two.
+fn inner_brackets(alloc: Global, has_outermost: bool, has_square: bool) -> Result<Rings, Fail> {
+    let mut inner = brackets(alloc, 1)?;
+    if has_outermost {
+        push_bracket(alloc, &mut inner, 0)?;
+    }
+    if has_square {
+        push_rectangle(alloc, &mut inner, (2500, 2501), (3000, 3001))?;
+    }
+    Ok(inner)
 }
 
-/// The brackets within the outermost one, then that one too, and then a square between two.
+/// What differs first in all brackets and in those.
+fn found_in_all(alloc: Global, has_outermost: bool, has_square: bool) -> Result<Found, Fail> {
+    let inner = inner_brackets(alloc, has_outermost, has_square)?;
+    Ok(difference_by_columns(alloc, &brackets(alloc, 0)?, &inner)?)
+}
+
 #[test]
 fn nested_brackets(rt: HostRuntime) -> Result<(), Fail> {
     let alloc = rt.alloc();
-    let mut inner = brackets(alloc, 1)?;
-    assert!(rt; found_in_all(alloc, &inner)? == at(0, 0, Side::First));
-    push_bracket(alloc, &mut inner, 0)?;
-    assert!(rt; found_in_all(alloc, &inner)?.is_none());
-    push_rectangle(alloc, &mut inner, (2500, 2501), (3000, 3001))?;
-    assert!(rt; found_in_all(alloc, &inner)? == at(2500, 3000, Side::Second));
+    assert!(rt; found_in_all(alloc, false, false)? == at(0, 0, Side::First));
+    assert!(rt; found_in_all(alloc, true, false)?.is_none());
+    assert!(rt; found_in_all(alloc, true, true)? == at(2500, 3000, Side::Second));
     Ok(())
 }
 
@@ -272,23 +310,25 @@ fn heights_differ(
     first_difference_in(alloc, &first, &one_high(alloc, second)?, window)
 }
 
+const LOW: Window = Window {
+    x0: 0,
+    y0: 0,
+    x1: 10,
+    y1: 9,
+};
+
+const THIN: Window = Window {
+    x0: 3,
+    y0: -5,
+    x1: 4,
+    y1: 20,
+};
+
 #[test]
 fn a_window(rt: HostRuntime) -> Result<(), Fail> {
     let alloc = rt.alloc();
-    let mut window = Window {
-        x0: 0,
-        y0: 0,
-        x1: 10,
-        y1: 9,
-    };
-    assert!(rt; heights_differ(alloc, 10, 9, Some(&window))?.is_none());
-    window = Window {
-        x0: 3,
-        y0: -5,
-        x1: 4,
-        y1: 20,
-    };
-    assert!(rt; heights_differ(alloc, 10, 9, Some(&window))? == at(3, 9, Side::First));
+    assert!(rt; heights_differ(alloc, 10, 9, Some(&LOW))?.is_none());
+    assert!(rt; heights_differ(alloc, 10, 9, Some(&THIN))? == at(3, 9, Side::First));
     assert!(rt; heights_differ(alloc, 9, 10, None)? == at(0, 9, Side::Second));
     Ok(())
 }

@@ -74,18 +74,22 @@ fn exchanged(found: Found) -> Found {
     }
 }
 
+/// What differs first, by columns.
+fn found_by_columns(alloc: Global, first: &[Ring], second: &[Ring]) -> Result<Found, AllocError> {
+    let first = Rings::from_slice(alloc, first)?;
+    difference_by_columns(alloc, &first, &Rings::from_slice(alloc, second)?)
+}
+
 fn all_find(
     alloc: Global,
     first: &[Ring],
     second: &[Ring],
     found: Found,
 ) -> Result<bool, AllocError> {
-    let a = Rings::from_slice(alloc, first)?;
-    let b = Rings::from_slice(alloc, second)?;
     Ok(
         first_difference_of(alloc, first, second)? == found
             && difference::<SlabRegion>(alloc, first, second)? == found
-            && difference_by_columns(alloc, &a, &b)? == found
+            && found_by_columns(alloc, first, second)? == found
             && first_difference_in(alloc, first, second, None)? == found,
     )
 }

@@ -56,19 +56,24 @@ pub fn points_of(alloc: Global, text: &str) -> Result<Vec<Point>, Fail> {
     Ok(points)
 }
 
-pub fn ring_of(alloc: Global, corners: &str) -> Result<Ring, Fail> {
+fn ring_of(alloc: Global, corners: &str) -> Result<Ring, Fail> {
     let points = points_of(alloc, corners)?;
     Ok(Ring::new(points).ok().ok_or("no ring")?)
+}
+
+/// Appends the ring of these corners, if there are any.
+fn push_ring(alloc: Global, rings: &mut Vec<Ring>, corners: &str) -> Result<(), Fail> {
+    if !corners.is_empty() {
+        rings.push(ring_of(alloc, corners)?)?;
+    }
+    Ok(())
 }
 
 /// The rings of a text, by their corners or by names of `far`, with a semicolon between two.
 pub fn rings_of(alloc: Global, text: &str) -> Result<Vec<Ring>, Fail> {
     let mut rings = Vec::new(alloc);
     for ring in text.split(';') {
-        let corners = corners_of(ring.trim());
-        if !corners.is_empty() {
-            rings.push(ring_of(alloc, corners)?)?;
-        }
+        push_ring(alloc, &mut rings, corners_of(ring.trim()))?;
     }
     Ok(rings)
 }
@@ -119,13 +124,17 @@ fn grid_covers(alloc: Global, rings: &str, square: Point) -> Result<bool, Fail> 
     Ok(region.covers(Square { x, y }))
 }
 
+/// Whether the grid of a row covers its square where it says so.
+fn row_is_covered(alloc: Global, row: &str) -> Result<bool, Fail> {
+    let (rings, row) = cut(row, "| ");
+    let (square, want) = cut(row, " | ");
+    Ok(grid_covers(alloc, rings, point(square)?)? == (want == "true"))
+}
+
 #[test]
 fn squares_of_a_grid(rt: HostRuntime) -> Result<(), Fail> {
     for row in SQUARES.lines() {
-        let (rings, square) = cut(row, "| ");
-        let (square, want) = cut(square, " | ");
-        let covers = grid_covers(rt.alloc(), rings, point(square)?)?;
-        assert!(rt; covers == (want == "true"), "{row}");
+        assert!(rt; row_is_covered(rt.alloc(), row)?, "{row}");
     }
     Ok(())
 }

@@ -52,10 +52,10 @@ fn length(rings: &Rings, number: usize) -> usize {
 }
 
 /// How many points each of the rings has.
-fn lengths_text(alloc: Global, rings: &Rings) -> Result<String, AllocError> {
+fn lengths_text(alloc: Global, rings: &Rings) -> Result<String, Fail> {
     let mut text = String::new(alloc);
     for number in 0..rings.len() {
-        text.push_str(&format!(in alloc; " {}", length(rings, number))?)?;
+        write!(text, " {}", length(rings, number))?;
     }
     Ok(text)
 }
@@ -107,18 +107,20 @@ fn part_of(text: &str) -> Result<Part, Fail> {
 }
 
 /// How many points each ring has that is left of the rings in the part, if they cover what they are to cover.
-fn clipped_text(alloc: Global, rings: &Rings, part: &Part) -> Result<String, AllocError> {
+fn clipped_text(alloc: Global, rings: &Rings, part: &Part) -> Result<String, Fail> {
     let clipped = Rings::clipped(alloc, rings, part)?;
     if !is_clipped(&clipped, rings, part) {
-        return String::from_str(alloc, "other squares");
+        return Ok(String::from_str(alloc, "other squares")?);
     }
     lengths_text(alloc, &clipped)
 }
 
-fn ell_and_comb_clipped(alloc: Global, part: &str) -> Result<String, Fail> {
+/// Whether the L and the comb are clipped as the row says.
+fn row_is_clipped(alloc: Global, row: &str) -> Result<bool, Fail> {
+    let (part, want) = cut(row, " |");
     let part = part_of(part)?;
     let rings = ell_and_comb(alloc)?;
-    Ok(clipped_text(alloc, &rings, &part)?)
+    Ok(clipped_text(alloc, &rings, &part)?.as_str() == want)
 }
 
 /// The fourth point of the second of the rings.
@@ -143,9 +145,7 @@ fn rings_in_one_piece(rt: HostRuntime) -> Result<(), Fail> {
 #[test]
 fn rings_are_clipped_and_tidied(rt: HostRuntime) -> Result<(), Fail> {
     for row in PARTS.lines() {
-        let (part, want) = cut(row, " |");
-        let text = ell_and_comb_clipped(rt.alloc(), part)?;
-        assert!(rt; text.as_str() == want, "{row}");
+        assert!(rt; row_is_clipped(rt.alloc(), row)?, "{row}");
     }
     Ok(())
 }
@@ -208,13 +208,17 @@ fn a_slice_of_rings(rt: HostRuntime) -> Result<(), Fail> {
     Ok(())
 }
 
+/// Whether the two rectangles are the same as the rings.
+fn are_same(alloc: Global, rings: &Rings) -> Result<bool, Fail> {
+    Ok(two_in_one_piece(alloc)?.is_same(rings))
+}
+
 #[test]
 fn rings_that_are_the_same(rt: HostRuntime) -> Result<(), Fail> {
     let alloc = rt.alloc();
-    let rings = two_in_one_piece(alloc)?;
-    assert!(rt; rings.is_same(&two_in_one_piece(alloc)?));
-    assert!(rt; !rings.is_same(&ell_and_comb(alloc)?));
-    assert!(rt; !rings.is_same(&Rings::new(alloc)));
+    assert!(rt; are_same(alloc, &two_in_one_piece(alloc)?)?);
+    assert!(rt; !are_same(alloc, &ell_and_comb(alloc)?)?);
+    assert!(rt; !are_same(alloc, &Rings::new(alloc))?);
     Ok(())
 }
 

@@ -33,7 +33,9 @@ fn are_rows(alloc: Global, rings: &Rings, ordinates: &str) -> Result<bool, Fail>
     Ok(rings.len() == wanted.len() && found.is_none())
 }
 
-fn become_rows(alloc: Global, given: &str, joined: &str) -> Result<bool, Fail> {
+/// Whether the rectangles of a row become those that it says.
+fn become_rows(alloc: Global, row: &str) -> Result<bool, Fail> {
+    let (given, joined) = cut(row, "|");
     let simpler = simplified(alloc, rows(alloc, given)?)?;
     are_rows(alloc, &simpler, joined)
 }
@@ -41,8 +43,7 @@ fn become_rows(alloc: Global, given: &str, joined: &str) -> Result<bool, Fail> {
 #[test]
 fn rows_that_overlap_or_touch(rt: HostRuntime) -> Result<(), Fail> {
     for row in ROWS.lines() {
-        let (given, joined) = cut(row, "|");
-        assert!(rt; become_rows(rt.alloc(), given, joined)?, "{row}");
+        assert!(rt; become_rows(rt.alloc(), row)?, "{row}");
     }
     Ok(())
 }
@@ -122,12 +123,16 @@ const COMBS: &str = "\
 16 | 0 10 32 62 320 16 true
 ";
 
+/// Whether the comb of a row is measured as it says.
+fn is_measured(alloc: Global, row: &str) -> Result<bool, Fail> {
+    let (teeth, want) = cut(row, " | ");
+    Ok(measured(alloc, teeth.parse::<i64>()?)?.as_str() == want)
+}
+
 #[test]
 fn outlines_of_combs(rt: HostRuntime) -> Result<(), Fail> {
     for row in COMBS.lines() {
-        let (teeth, want) = cut(row, " | ");
-        let text = measured(rt.alloc(), teeth.parse::<i64>()?)?;
-        assert!(rt; text.as_str() == want, "{row}");
+        assert!(rt; is_measured(rt.alloc(), row)?, "{row}");
     }
     Ok(())
 }

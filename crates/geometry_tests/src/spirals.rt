@@ -61,25 +61,24 @@ fn mask_with(alloc: Global, more: &[Sides]) -> Result<Rings, AllocError> {
     Ok(mask)
 }
 
-/// What differs first in the rings and in the mask with these rectangles.
-fn found_with(alloc: Global, rings: &Rings, more: &[Sides]) -> Result<Found, AllocError> {
-    difference_by_columns(alloc, rings, &mask_with(alloc, more)?)
+/// What differs first in the ring that winds 600 times and in the mask with these rectangles.
+fn found_with(alloc: Global, more: &[Sides]) -> Result<Found, Fail> {
+    let mask = mask_with(alloc, more)?;
+    Ok(difference_by_columns(alloc, &winding(alloc, 600)?, &mask)?)
 }
 
-/// What differs first in the whole mask and in the rings.
-fn found_from_mask(alloc: Global, rings: &Rings) -> Result<Found, AllocError> {
-    difference_by_columns(alloc, &mask_with(alloc, &[LAST])?, rings)
+/// What differs first in the whole mask and in the ring.
+fn found_from_mask(alloc: Global) -> Result<Found, Fail> {
+    let mask = mask_with(alloc, &[LAST])?;
+    Ok(difference_by_columns(alloc, &mask, &winding(alloc, 600)?)?)
 }
 
 #[test]
 fn a_ring_that_winds(rt: HostRuntime) -> Result<(), Fail> {
-    let alloc = rt.alloc();
-    let spiral = winding(alloc, 600)?;
-    assert!(rt; found_with(alloc, &spiral, &[])? == at(599, -600, Side::First));
-    assert!(rt; found_with(alloc, &spiral, &[LAST])?.is_none());
-    assert!(rt; found_from_mask(alloc, &spiral)?.is_none());
-    let found = found_with(alloc, &spiral, &[LAST, BEYOND])?;
-    assert!(rt; found == at(-600, -2, Side::Second));
+    assert!(rt; found_with(rt.alloc(), &[])? == at(599, -600, Side::First));
+    assert!(rt; found_with(rt.alloc(), &[LAST])?.is_none());
+    assert!(rt; found_from_mask(rt.alloc())?.is_none());
+    assert!(rt; found_with(rt.alloc(), &[LAST, BEYOND])? == at(-600, -2, Side::Second));
     Ok(())
 }
 
@@ -136,25 +135,33 @@ fn turns(alloc: Global) -> Result<Rings, AllocError> {
     Ok(mask)
 }
 
-/// What differs first in the wire and in its turns.
-fn found_in_wire(alloc: Global, turns: &Rings) -> Result<Found, Fail> {
-    Ok(difference_by_columns(alloc, &wire(alloc, 200)?, turns)?)
+/// The turns, and perhaps a square between two of them.
+fn turns_and_square(alloc: Global, has_square: bool) -> Result<Rings, AllocError> {
+    let mut rings = turns(alloc)?;
+    if has_square {
+        push_rectangle(alloc, &mut rings, (101, 102), (0, 1))?;
+    }
+    Ok(rings)
 }
 
-/// What differs first in its turns and in the wire.
-fn found_in_turns(alloc: Global, turns: &Rings) -> Result<Found, Fail> {
-    Ok(difference_by_columns(alloc, turns, &wire(alloc, 200)?)?)
+/// What differs first in the wire and in those.
+fn found_in_wire(alloc: Global, has_square: bool) -> Result<Found, Fail> {
+    let rings = turns_and_square(alloc, has_square)?;
+    Ok(difference_by_columns(alloc, &wire(alloc, 200)?, &rings)?)
 }
 
-/// The last has a square between two of the turns.
+/// What differs first in the turns and in the wire.
+fn found_in_turns(alloc: Global) -> Result<Found, Fail> {
+    let turns = turns(alloc)?;
+    Ok(difference_by_columns(alloc, &turns, &wire(alloc, 200)?)?)
+}
+
 #[test]
 fn a_wire_that_winds(rt: HostRuntime) -> Result<(), Fail> {
     let alloc = rt.alloc();
-    let mut turns = turns(alloc)?;
-    assert!(rt; found_in_wire(alloc, &turns)?.is_none());
-    assert!(rt; found_in_turns(alloc, &turns)?.is_none());
-    push_rectangle(alloc, &mut turns, (101, 102), (0, 1))?;
-    assert!(rt; found_in_wire(alloc, &turns)? == at(101, 0, Side::Second));
+    assert!(rt; found_in_wire(alloc, false)?.is_none());
+    assert!(rt; found_in_turns(alloc)?.is_none());
+    assert!(rt; found_in_wire(alloc, true)? == at(101, 0, Side::Second));
     Ok(())
 }
 
