@@ -59,13 +59,17 @@ a cell that is not placed | T 1/0:1*1x1; X 1/0:1*4x1 2/0:1*4x1 | 1/0=1
 a cell placed by one that is not placed | T A*2x1; X A*9x9; A 1/0:1*1x1 | 1/0=2
 ";
 
+/// Whether the library of a row places as many rings as it says.
+fn row_is_counted(alloc: Global, row: &str) -> Result<bool, Fail> {
+    let (_, row) = cut(row, " | ");
+    let (text, want) = cut(row, " |");
+    Ok(counted(alloc, text)?.as_str() == want)
+}
+
 #[test]
 fn counts(rt: HostRuntime) -> Result<(), Fail> {
     for row in COUNTS.lines() {
-        let (name, row) = cut(row, " | ");
-        let (text, want) = cut(row, " |");
-        let line = counted(rt.alloc(), text)?;
-        check_text(&rt, &line, want, name);
+        assert!(rt; row_is_counted(rt.alloc(), row)?, "{row}");
     }
     Ok(())
 }

@@ -37,28 +37,39 @@ fn squares(alloc: Global, count: &str) -> Result<Vec<Ring>, Fail> {
     Ok(rings)
 }
 
-/// Draws the squares of a word, as `2*3x2`.
-fn add_squares(alloc: Global, cells: &mut Builder, layer: Layer, word: &str) -> Result<(), Fail> {
-    let (count, places) = cut(word, "*");
+/// Draws the rings at each place of a word, as `3x2`.
+fn add_rings(cells: &mut Builder, layer: Layer, rings: &[Ring], places: &str) -> Result<(), Fail> {
     let shifts = lattice(places)?;
-    cells.add_rings(layer, &squares(alloc, count)?, &shifts)?;
+    cells.add_rings(layer, rings, &shifts)?;
     Ok(())
 }
 
-/// What places the cell of that name at each of the shifts.
-fn placing(alloc: Global, name: &str, shifts: Offsets) -> Result<Reference, Fail> {
+/// Draws the squares of a word, as `2*3x2`.
+fn add_squares(alloc: Global, cells: &mut Builder, layer: Layer, word: &str) -> Result<(), Fail> {
+    let (count, places) = cut(word, "*");
+    let rings = squares(alloc, count)?;
+    add_rings(cells, layer, &rings, places)
+}
+
+/// What places the cell of a word, as `A*3x2`.
+fn placing(alloc: Global, word: &str) -> Result<Reference, Fail> {
+    let (name, places) = cut(word, "*");
+    let shifts = lattice(places)?;
     let name = Name::of(alloc, name.as_bytes())?;
     Ok(Reference::new(name, false, Turn::R0, ORIGIN, shifts).ok_or("places")?)
 }
 
+fn add_reference(alloc: Global, cells: &mut Builder, word: &str) -> Result<(), Fail> {
+    cells.add_reference(placing(alloc, word)?)?;
+    Ok(())
+}
+
 fn add_word(alloc: Global, cells: &mut Builder, word: &str) -> Result<(), Fail> {
     let (on, squares) = cut(word, ":");
-    if !squares.is_empty() {
-        return add_squares(alloc, cells, layer(on)?, squares);
+    if squares.is_empty() {
+        return add_reference(alloc, cells, word);
     }
-    let (name, places) = cut(word, "*");
-    cells.add_reference(placing(alloc, name, lattice(places)?)?)?;
-    Ok(())
+    add_squares(alloc, cells, layer(on)?, squares)
 }
 
 /// Adds the cell that a text says, or none if it has no words.

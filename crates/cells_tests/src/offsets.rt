@@ -23,13 +23,23 @@ fn lattice(text: &str) -> Result<Option<Offsets>, Fail> {
     Ok(Offsets::lattice(a, m, b, n))
 }
 
+/// The lattice of a text that is one.
+fn lattice_of(text: &str) -> Result<Offsets, Fail> {
+    Ok(lattice(text)?.ok_or("a lattice")?)
+}
+
 /// The list of a text, if it is one.
-pub(crate) fn list(alloc: Global, text: &str) -> Result<Option<Offsets>, Fail> {
+fn list(alloc: Global, text: &str) -> Result<Option<Offsets>, Fail> {
     let mut shifts = Vec::new(alloc);
     for word in text.split_whitespace() {
         shifts.push(point(word)?)?;
     }
     Ok(Offsets::new(shifts))
+}
+
+/// The list of a text that is one.
+pub(crate) fn list_of(alloc: Global, text: &str) -> Result<Offsets, Fail> {
+    Ok(list(alloc, text)?.ok_or("a list")?)
 }
 
 fn place_text(alloc: Global, place: Option<Point>) -> Result<String, AllocError> {
@@ -48,10 +58,14 @@ pub(crate) fn places(alloc: Global, shifts: &Offsets) -> Result<String, AllocErr
     Ok(text)
 }
 
+fn lattice_places(alloc: Global, text: &str) -> Result<String, Fail> {
+    let shifts = lattice_of(text)?;
+    Ok(places(alloc, &shifts)?)
+}
+
 #[test]
 fn places_of_a_lattice(rt: HostRuntime) -> Result<(), Fail> {
-    let shifts = lattice("4611686018427387904,0*2 0,1*3")?.ok_or("a lattice")?;
-    let found = places(rt.alloc(), &shifts)?;
+    let found = lattice_places(rt.alloc(), "4611686018427387904,0*2 0,1*3")?;
     let want = "0,0 4611686018427387904,0 0,1 4611686018427387904,1 0,2 4611686018427387904,2 none";
     check_text(&rt, &found, want, "a lattice");
     Ok(())
@@ -70,27 +84,39 @@ const LATTICES: &str = "\
 0,0*18446744073709551615 0,0*18446744073709551615 | false
 ";
 
+/// Whether the steps of a row are a lattice where it says so.
+fn row_is_lattice(row: &str) -> Result<bool, Fail> {
+    let (text, want) = cut(row, " | ");
+    Ok(lattice(text)?.is_some() == (want == "true"))
+}
+
 #[test]
 fn lattices(rt: HostRuntime) -> Result<(), Fail> {
     for row in LATTICES.lines() {
-        let (text, want) = cut(row, " | ");
-        let is_made = lattice(text)?.is_some();
-        assert!(rt; is_made == (want == "true"), "{row}");
+        assert!(rt; row_is_lattice(row)?, "{row}");
     }
     Ok(())
 }
 
+fn is_list(alloc: Global, text: &str) -> Result<bool, Fail> {
+    Ok(list(alloc, text)?.is_some())
+}
+
 #[test]
 fn no_lists_of_shifts(rt: HostRuntime) -> Result<(), Fail> {
-    assert!(rt; list(rt.alloc(), "")?.is_none());
-    assert!(rt; list(rt.alloc(), "1,0 0,0")?.is_none());
+    assert!(rt; !is_list(rt.alloc(), "")?);
+    assert!(rt; !is_list(rt.alloc(), "1,0 0,0")?);
     Ok(())
+}
+
+fn list_places(alloc: Global, text: &str) -> Result<String, Fail> {
+    let shifts = list_of(alloc, text)?;
+    Ok(places(alloc, &shifts)?)
 }
 
 #[test]
 fn lists_of_shifts(rt: HostRuntime) -> Result<(), Fail> {
-    let shifts = list(rt.alloc(), "0,0 1,0")?.ok_or("a list")?;
-    let found = places(rt.alloc(), &shifts)?;
+    let found = list_places(rt.alloc(), "0,0 1,0")?;
     check_text(&rt, &found, "0,0 1,0 none", "a list");
     Ok(())
 }
@@ -101,9 +127,11 @@ fn reach(alloc: Global, shifts: &Offsets) -> Result<String, AllocError> {
     format!(in alloc; "{},{} {},{}", low.x, low.y, high.x, high.y)
 }
 
-fn reach_of_lattice(alloc: Global, text: &str) -> Result<String, Fail> {
-    let shifts = lattice(text)?.ok_or("a lattice")?;
-    Ok(reach(alloc, &shifts)?)
+/// Whether the lattice of a row reaches as far as it says.
+fn row_reaches(alloc: Global, row: &str) -> Result<bool, Fail> {
+    let (text, want) = cut(row, " | ");
+    let shifts = lattice_of(text)?;
+    Ok(reach(alloc, &shifts)?.as_str() == want)
 }
 
 /// A lattice, and the least and the greatest coordinates of its shifts.
@@ -117,26 +145,27 @@ const REACHES: &str = "\
 #[test]
 fn reaches(rt: HostRuntime) -> Result<(), Fail> {
     for row in REACHES.lines() {
-        let (text, want) = cut(row, " | ");
-        let found = reach_of_lattice(rt.alloc(), text)?;
-        check_text(&rt, &found, want, text);
+        assert!(rt; row_reaches(rt.alloc(), row)?, "{row}");
     }
     Ok(())
 }
 
-/// The least and the greatest coordinates of a list, and of the same list once it is shared.
-fn reaches_of_list(alloc: Global, text: &str) -> Result<[(Point, Point); 2], Fail> {
-    let mut shifts = list(alloc, text)?.ok_or("a list")?;
-    let owned = shifts.reach();
+/// Whether the shifts reach from (-1, -2) to (5, 7).
+fn reach_from_to(shifts: &Offsets) -> bool {
+    shifts.reach() == (Point { x: -1, y: -2 }, Point { x: 5, y: 7 })
+}
+
+/// The same of a list, and of the same list once it is shared.
+fn list_reaches(alloc: Global, text: &str) -> Result<bool, Fail> {
+    let mut shifts = list_of(alloc, text)?;
+    let owned = reach_from_to(&shifts);
     shifts.share()?;
-    Ok([owned, shifts.reach()])
+    Ok(owned && reach_from_to(&shifts))
 }
 
 #[test]
 fn reaches_of_lists(rt: HostRuntime) -> Result<(), Fail> {
-    let want = (point("-1,-2")?, point("5,7")?);
-    let found = reaches_of_list(rt.alloc(), "0,0 5,-2 -1,7")?;
-    assert_eq!(rt; found, [want, want]);
+    assert!(rt; list_reaches(rt.alloc(), "0,0 5,-2 -1,7")?);
     Ok(())
 }
 
@@ -156,7 +185,7 @@ fn is_kept(reference: &Reference) -> bool {
 
 /// What places a cell at the lattice, if it fits.
 fn reference(alloc: Global, text: &str) -> Result<Option<Reference>, Fail> {
-    let shifts = lattice(text)?.ok_or("a lattice")?;
+    let shifts = lattice_of(text)?;
     let name = Name::of(alloc, b"A")?;
     Ok(Reference::new(name, true, Turn::R90, LAST_CORNER, shifts))
 }
@@ -187,14 +216,19 @@ const PLACED: &str = "\
 fn references(rt: HostRuntime) -> Result<(), Fail> {
     for row in PLACED.lines() {
         let (text, want) = cut(row, " | ");
-        check_text(&rt, placed(rt.alloc(), text)?, want, text);
+        assert!(rt; placed(rt.alloc(), text)? == want, "{row}");
     }
     Ok(())
 }
 
+/// Whether no reference is made of the list.
+fn is_refused(alloc: Global, text: &str) -> Result<bool, Fail> {
+    let shifts = list_of(alloc, text)?;
+    Ok(Reference::new(Name::empty(), false, Turn::R0, LAST_CORNER, shifts).is_none())
+}
+
 #[test]
 fn references_of_a_list(rt: HostRuntime) -> Result<(), Fail> {
-    let shifts = list(rt.alloc(), "0,0 4,0")?.ok_or("a list")?;
-    assert!(rt; Reference::new(Name::empty(), false, Turn::R0, LAST_CORNER, shifts).is_none());
+    assert!(rt; is_refused(rt.alloc(), "0,0 4,0")?);
     Ok(())
 }

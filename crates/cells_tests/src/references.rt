@@ -2,11 +2,11 @@
 use lvl_cells::{KeptReference, Reference, References};
 use lvl_grid::{Point, Turn};
 use lvl_names::{Name, Offsets};
-use std::alloc::Global;
+use std::alloc::{AllocError, Global};
 use std::test::Fail;
 
 /// How a row places its cell: once, by an array of that many columns, or at two places of a list.
-#[derive(Clone, Copy, Debug)]
+#[derive(Clone, Copy)]
 enum Places {
     Once,
     Columns(u64),
@@ -29,16 +29,18 @@ static ROWS: [Row; 10] = [
     ("B", true, Turn::R90, 9, Places::Columns(1)),
 ];
 
-fn shifts_of(alloc: Global, places: Places) -> Result<Offsets, Fail> {
-    let right = Point { x: 5, y: 0 };
-    let up = Point { x: 0, y: 5 };
+const RIGHT: Point = Point { x: 5, y: 0 };
+
+/// A list of the origin and of a step to the right.
+fn listed(alloc: Global) -> Result<Option<Offsets>, AllocError> {
+    Ok(Offsets::new([Point { x: 0, y: 0 }, RIGHT].to_vec(alloc)?))
+}
+
+fn shifts_of(alloc: Global, places: Places) -> Result<Option<Offsets>, AllocError> {
     match places {
-        Places::Once => Ok(Offsets::single()),
-        Places::Columns(count) => Ok(Offsets::lattice(right, count, up, 1).ok_or("a lattice")?),
-        Places::Listed => {
-            let list = vec![in alloc; Point { x: 0, y: 0 }, right]?;
-            Ok(Offsets::new(list).ok_or("a list")?)
-        }
+        Places::Once => Ok(Some(Offsets::single())),
+        Places::Columns(count) => Ok(Offsets::lattice(RIGHT, count, Point { x: 0, y: 5 }, 1)),
+        Places::Listed => listed(alloc),
     }
 }
 
@@ -50,12 +52,16 @@ fn count_of(places: Places) -> u64 {
     }
 }
 
+/// What places the cell of the row at these shifts, if it fits.
+fn placing(alloc: Global, row: &Row, shifts: Offsets) -> Result<Option<Reference>, AllocError> {
+    let (cell, flip, turn, x, _) = *row;
+    let name = Name::of(alloc, cell.as_bytes())?;
+    Ok(Reference::new(name, flip, turn, Point { x, y: 0 }, shifts))
+}
+
 fn reference_of(alloc: Global, row: &Row) -> Result<Reference, Fail> {
-    let (cell, flip, turn, x, places) = *row;
-    let name = Name::new(Vec::from_slice(alloc, cell.as_bytes())?)?;
-    let shifts = shifts_of(alloc, places)?;
-    let made = Reference::new(name, flip, turn, Point { x, y: 0 }, shifts);
-    Ok(made.ok_or("places")?)
+    let shifts = shifts_of(alloc, row.4)?.ok_or("shifts")?;
+    Ok(placing(alloc, row, shifts)?.ok_or("places")?)
 }
 
 fn add_row(alloc: Global, references: &mut References, row: &Row) -> Result<(), Fail> {
@@ -109,7 +115,7 @@ fn kept_references(rt: HostRuntime) -> Result<(), Fail> {
 #[test]
 fn growths_of_references(rt: HostRuntime) -> Result<(), Fail> {
     let references = references(rt.alloc(), &ROWS)?;
-    assert_eq!(rt; references.len(), ROWS.len());
+    assert!(rt; references.len() == ROWS.len());
     Ok(())
 }
 
@@ -142,6 +148,6 @@ fn many(alloc: Global) -> Result<References, Fail> {
 #[test]
 fn memory_of_references(rt: HostRuntime) -> Result<(), Fail> {
     let references = many(rt.alloc())?;
-    assert_eq!(rt; references.len(), 1000);
+    assert!(rt; references.len() == 1000);
     Ok(())
 }

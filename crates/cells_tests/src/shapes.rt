@@ -33,14 +33,18 @@ fn listed(alloc: Global) -> Result<Offsets, Fail> {
 fn four_shapes(alloc: Global) -> Result<Shapes, Fail> {
     let mut shapes = Shapes::new(alloc);
     add_square(alloc, &mut shapes, &Offsets::single())?;
-    add_three_shapes(alloc, &mut shapes)?;
+    add_lattices(alloc, &mut shapes)?;
+    add_list(alloc, &mut shapes)?;
     Ok(shapes)
 }
 
-fn add_three_shapes(alloc: Global, shapes: &mut Shapes) -> Result<(), Fail> {
+fn add_lattices(alloc: Global, shapes: &mut Shapes) -> Result<(), Fail> {
     let lattice = Offsets::lattice(RIGHT, 2, UP, 3).ok_or("shifts")?;
     add_two_squares(alloc, shapes, &lattice)?;
-    add_square(alloc, shapes, &lattice)?;
+    add_square(alloc, shapes, &lattice)
+}
+
+fn add_list(alloc: Global, shapes: &mut Shapes) -> Result<(), Fail> {
     let list = listed(alloc)?;
     add_square(alloc, shapes, &list)
 }
@@ -67,34 +71,43 @@ fn counts(shapes: &Shapes, i: usize) -> Option<(usize, u64)> {
     Some((shapes.ring_count(i), shapes.shift_count(i)))
 }
 
+/// Whether there are four shapes, of these counts.
+fn have_counts(shapes: &Shapes) -> bool {
+    shapes.len() == 4
+        && counts(shapes, 0) == Some((1, 1))
+        && counts(shapes, 1) == Some((2, 6))
+        && counts(shapes, 2) == Some((1, 6))
+        && counts(shapes, 3) == Some((1, 2))
+}
+
 #[test]
 fn shapes(rt: HostRuntime) -> Result<(), Fail> {
-    let shapes = four_shapes(rt.alloc())?;
-    assert_eq!(rt; shapes.len(), 4);
-    let found = [
-        counts(&shapes, 0),
-        counts(&shapes, 1),
-        counts(&shapes, 2),
-        counts(&shapes, 3),
-    ];
-    let want = [Some((1, 1)), Some((2, 6)), Some((1, 6)), Some((1, 2))];
-    assert_eq!(rt; found, want);
+    assert!(rt; have_counts(&four_shapes(rt.alloc())?));
     Ok(())
+}
+
+/// Whether the second of four shapes has the rectangle far up.
+fn have_rectangle(shapes: &Shapes) -> bool {
+    shapes.len() == 4
+        && shapes.ring_count(1) == 2
+        && shapes.ring(1, 1).get(2) == Some(Point { x: 5, y: 7 })
 }
 
 #[test]
 fn points_of_shapes(rt: HostRuntime) -> Result<(), Fail> {
-    let shapes = four_shapes(rt.alloc())?;
-    assert!(rt; shapes.len() == 4 && shapes.ring_count(1) == 2);
-    assert_eq!(rt; shapes.ring(1, 1).get(2), Some(Point { x: 5, y: 7 }));
+    assert!(rt; have_rectangle(&four_shapes(rt.alloc())?));
     Ok(())
+}
+
+/// Whether the third of four shapes has the last shift of the lattice, and the first has one shift.
+fn have_shifts(shapes: &Shapes) -> bool {
+    shapes.len() == 4
+        && shapes.shift(2, 5) == Some(Point { x: 1, y: 2 })
+        && shapes.shift(0, 1).is_none()
 }
 
 #[test]
 fn shifts_of_shapes(rt: HostRuntime) -> Result<(), Fail> {
-    let shapes = four_shapes(rt.alloc())?;
-    assert!(rt; shapes.len() == 4);
-    assert_eq!(rt; shapes.shift(2, 5), Some(Point { x: 1, y: 2 }));
-    assert_eq!(rt; shapes.shift(0, 1), None);
+    assert!(rt; have_shifts(&four_shapes(rt.alloc())?));
     Ok(())
 }

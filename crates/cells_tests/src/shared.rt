@@ -1,4 +1,5 @@
 //! Shapes that draw the points of the shape before them, moved: these are kept once.
+use crate::words::{cut, point};
 use lvl_cells::Shapes;
 use lvl_grid::{Point, Ring};
 use lvl_names::{Layer, Offsets};
@@ -10,96 +11,119 @@ const METAL: Layer = Layer {
     datatype: 0,
 };
 
-/// Boxes by their corners: squares that are the one before, moved as far as 64 bits go, and boxes that are not.
-static BOXES: [[i64; 4]; 10] = [
-    [0, 0, 10, 10],
-    [3, 4, 13, 14],
-    [3, 4, 13, 14],
-    [0, 0, 10, 11],
-    [-7, 5, 3, 15],
-    [i64::MIN, 5, i64::MIN + 10, 15],
-    [i64::MAX - 10, 5, i64::MAX, 15],
-    [0, i64::MIN, 10, i64::MIN + 10],
-    [0, i64::MIN, 11, i64::MIN + 10],
-    [0, 0, 10, 10],
-];
+/// Boxes by their lower left and upper right corners: squares that are the one before, moved as far as 64 bits
+/// go, and boxes that are not.
+const BOXES: &str = "\
+0,0 10,10
+3,4 13,14
+3,4 13,14
+0,0 10,11
+-7,5 3,15
+-9223372036854775808,5 -9223372036854775798,15
+9223372036854775797,5 9223372036854775807,15
+0,-9223372036854775808 10,-9223372036854775798
+0,-9223372036854775808 11,-9223372036854775798
+0,0 10,10
+";
+
+/// The corners of a box.
+fn corners(text: &str) -> Result<(Point, Point), Fail> {
+    let (low, high) = cut(text.trim(), " ");
+    Ok((point(low)?, point(high)?))
+}
 
 /// The rectangle of a box.
-fn rectangle(alloc: Global, corners: [i64; 4]) -> Result<Ring, Fail> {
-    let [left, low, right, high] = corners;
-    Ok(Ring::rectangle(
-        alloc,
-        Point { x: left, y: low },
-        Point { x: right, y: high },
-    )?)
+fn rectangle(alloc: Global, text: &str) -> Result<Ring, Fail> {
+    let (low, high) = corners(text)?;
+    Ok(Ring::rectangle(alloc, low, high)?)
 }
 
-/// The corners of a rectangle of a shape, if it has one at this index.
-fn corners(shapes: &Shapes, i: usize, j: usize) -> Option<[i64; 4]> {
+/// Whether a rectangle of a shape, at these indexes, has these corners.
+fn has_corners(shapes: &Shapes, i: usize, j: usize, low: Point, high: Point) -> bool {
     if i >= shapes.len() || j >= shapes.ring_count(i) {
-        return None;
+        return false;
     }
     let ring = shapes.ring(i, j);
-    if ring.len() != 4 {
-        return None;
-    }
-    let low = ring.get(0)?;
-    let high = ring.get(2)?;
-    Some([low.x, low.y, high.x, high.y])
+    ring.len() == 4 && ring.get(0) == Some(low) && ring.get(2) == Some(high)
 }
 
-fn add_box(alloc: Global, shapes: &mut Shapes, corners: [i64; 4]) -> Result<(), Fail> {
-    let ring = rectangle(alloc, corners)?;
-    shapes.push_ring(METAL, ring.points(), &Offsets::single())?;
+/// Whether the shape with this index has so many rings.
+fn has_rings(shapes: &Shapes, i: usize, count: usize) -> bool {
+    i < shapes.len() && shapes.ring_count(i) == count
+}
+
+fn add_ring(shapes: &mut Shapes, ring: &Ring) -> Result<(), AllocError> {
+    shapes.push_ring(METAL, ring.points(), &Offsets::single())
+}
+
+fn add_box(alloc: Global, shapes: &mut Shapes, row: &str) -> Result<(), Fail> {
+    let ring = rectangle(alloc, row)?;
+    add_ring(shapes, &ring)?;
     Ok(())
-}
-
-/// The corners of the first two rectangles of a shape.
-fn both_corners(shapes: &Shapes, i: usize) -> [Option<[i64; 4]>; 2] {
-    [corners(shapes, i, 0), corners(shapes, i, 1)]
 }
 
 /// A shape of one ring for each box.
 fn boxes(alloc: Global) -> Result<Shapes, Fail> {
     let mut shapes = Shapes::new(alloc);
-    for corners in &BOXES {
-        add_box(alloc, &mut shapes, *corners)?;
+    for row in BOXES.lines() {
+        add_box(alloc, &mut shapes, row)?;
     }
     Ok(shapes)
 }
 
+/// Whether the shape with this index is of the box alone.
+fn is_box(shapes: &Shapes, i: usize, row: &str) -> Result<bool, Fail> {
+    let (low, high) = corners(row)?;
+    Ok(has_rings(shapes, i, 1) && has_corners(shapes, i, 0, low, high))
+}
+
+/// The index of the first shape that is of another box than it should be, or how many shapes there are.
+fn first_other_box(shapes: &Shapes) -> Result<usize, Fail> {
+    for (i, row) in BOXES.lines().enumerate() {
+        if !is_box(shapes, i, row)? {
+            return Ok(i);
+        }
+    }
+    Ok(shapes.len())
+}
+
 #[test]
 fn moved_rings(rt: HostRuntime) -> Result<(), Fail> {
-    let shapes = boxes(rt.alloc())?;
-    assert_eq!(rt; shapes.len(), BOXES.len());
-    for (i, want) in BOXES.iter().enumerate() {
-        assert_eq!(rt; both_corners(&shapes, i), [Some(*want), None], "{i}");
-    }
+    let first = first_other_box(&boxes(rt.alloc())?)?;
+    assert!(rt; first == 10, "{first}");
     Ok(())
 }
 
-/// The points of the ring that the second of the boxes is.
+/// The points of the ring that the second of the shapes is, or none if there is no such ring.
+fn second_points(alloc: Global, shapes: &Shapes) -> Result<Vec<Point>, AllocError> {
+    if shapes.len() < 2 || shapes.ring_count(1) == 0 {
+        return Ok(Vec::new(alloc));
+    }
+    shapes.ring(1, 0).to_points(alloc)
+}
+
 fn moved_points(alloc: Global) -> Result<Vec<Point>, Fail> {
     let shapes = boxes(alloc)?;
-    if shapes.len() < 2 || shapes.ring_count(1) == 0 {
-        return Err("no second ring".into());
-    }
-    Ok(shapes.ring(1, 0).to_points(alloc)?)
+    Ok(second_points(alloc, &shapes)?)
+}
+
+/// Whether there are four points, of which the first is (3, 4).
+fn are_moved(points: &[Point]) -> bool {
+    points.len() == 4 && points.first().copied() == Some(Point { x: 3, y: 4 })
 }
 
 #[test]
 fn points_of_a_moved_ring(rt: HostRuntime) -> Result<(), Fail> {
-    let points = moved_points(rt.alloc())?;
-    assert_eq!(rt; points.len(), 4);
-    assert_eq!(rt; points.first(), Some(&Point { x: 3, y: 4 }));
+    assert!(rt; are_moved(&moved_points(rt.alloc())?));
     Ok(())
 }
 
-/// The rectangles of two boxes.
-fn rectangles(alloc: Global, [first, second]: [[i64; 4]; 2]) -> Result<Vec<Ring>, Fail> {
+/// The rectangles of boxes, with a semicolon between two.
+fn rectangles(alloc: Global, row: &str) -> Result<Vec<Ring>, Fail> {
     let mut rings = Vec::new(alloc);
-    rings.push(rectangle(alloc, first)?)?;
-    rings.push(rectangle(alloc, second)?)?;
+    for text in row.split(';') {
+        rings.push(rectangle(alloc, text)?)?;
+    }
     Ok(rings)
 }
 
@@ -107,43 +131,70 @@ fn add_rings(shapes: &mut Shapes, rings: &[Ring]) -> Result<(), AllocError> {
     shapes.push_rings(METAL, rings, &Offsets::single())
 }
 
-fn add_pair(alloc: Global, shapes: &mut Shapes, pair: [[i64; 4]; 2]) -> Result<(), Fail> {
-    let rings = rectangles(alloc, pair)?;
+fn add_pair(alloc: Global, shapes: &mut Shapes, row: &str) -> Result<(), Fail> {
+    let rings = rectangles(alloc, row)?;
     add_rings(shapes, &rings)?;
     Ok(())
+}
+
+/// Adds two shapes of no ring.
+fn add_none(shapes: &mut Shapes) -> Result<(), AllocError> {
+    add_rings(shapes, &[])?;
+    add_rings(shapes, &[])
 }
 
 /// A shape of two rings for each pair of boxes that follow each other, and then one of no ring.
 fn pairs(alloc: Global) -> Result<Shapes, Fail> {
     let mut shapes = Shapes::new(alloc);
-    for pair in &PAIRS {
-        add_pair(alloc, &mut shapes, *pair)?;
+    for row in PAIRS.lines() {
+        add_pair(alloc, &mut shapes, row)?;
     }
-    add_rings(&mut shapes, &[])?;
-    add_rings(&mut shapes, &[])?;
+    add_none(&mut shapes)?;
     Ok(shapes)
 }
 
 /// Two boxes each: both moved alike, the second alone, and the two exchanged.
-static PAIRS: [[[i64; 4]; 2]; 4] = [
-    [[0, 0, 4, 4], [9, 0, 12, 4]],
-    [[1, 2, 5, 6], [10, 2, 13, 6]],
-    [[1, 2, 5, 6], [10, 3, 13, 7]],
-    [[10, 3, 13, 7], [1, 2, 5, 6]],
-];
+const PAIRS: &str = "\
+0,0 4,4; 9,0 12,4
+1,2 5,6; 10,2 13,6
+1,2 5,6; 10,3 13,7
+10,3 13,7; 1,2 5,6
+";
+
+/// Whether the first rings of the shape with this index are both boxes.
+fn is_pair(shapes: &Shapes, i: usize, row: &str) -> Result<bool, Fail> {
+    let (first, second) = cut(row, ";");
+    let (low, high) = corners(first)?;
+    let (other_low, other_high) = corners(second)?;
+    Ok(has_corners(shapes, i, 0, low, high) && has_corners(shapes, i, 1, other_low, other_high))
+}
+
+/// The index of the first shape that is of another pair than it should be, or how many shapes there are if the
+/// last has no ring.
+fn first_other_pair(shapes: &Shapes) -> Result<usize, Fail> {
+    for (i, row) in PAIRS.lines().enumerate() {
+        if !is_pair(shapes, i, row)? {
+            return Ok(i);
+        }
+    }
+    Ok(if has_rings(shapes, 5, 0) {
+        shapes.len()
+    } else {
+        5
+    })
+}
 
 #[test]
 fn moved_paths(rt: HostRuntime) -> Result<(), Fail> {
-    let shapes = pairs(rt.alloc())?;
-    assert_eq!(rt; shapes.len(), PAIRS.len() + 2);
-    for (i, [first, second]) in PAIRS.iter().enumerate() {
-        assert_eq!(rt;
-            both_corners(&shapes, i),
-            [Some(*first), Some(*second)],
-            "{i}"
-        );
-    }
-    assert_eq!(rt; corners(&shapes, 5, 0), None);
+    let first = first_other_pair(&pairs(rt.alloc())?)?;
+    assert!(rt; first == 6, "{first}");
+    Ok(())
+}
+
+/// Appends two points at this ordinate.
+fn push_two(points: &mut Vec<Point>, first: i64, second: i64, y: i64) -> Result<(), AllocError> {
+    points.push(Point { x: first, y })?;
+    points.push(Point { x: second, y })?;
     Ok(())
 }
 
@@ -152,24 +203,16 @@ fn stair(alloc: Global, right: i64) -> Result<Ring, Fail> {
     let mut points = Vec::new(alloc);
     for y in 0..1000 {
         let x = right.saturating_add(y);
-        points.push(Point { x, y })?;
-        points.push(Point {
-            x: x.saturating_add(1),
-            y,
-        })?;
+        push_two(&mut points, x, x.saturating_add(1), y)?;
     }
-    points.push(Point {
-        x: right.saturating_add(1000),
-        y: 1000,
-    })?;
-    points.push(Point { x: right, y: 1000 })?;
+    push_two(&mut points, right.saturating_add(1000), right, 1000)?;
     Ok(Ring::new(points)?)
 }
 
 /// Adds a shape of each of two rings.
 fn push_both(shapes: &mut Shapes, first: &Ring, second: &Ring) -> Result<(), AllocError> {
-    shapes.push_ring(METAL, first.points(), &Offsets::single())?;
-    shapes.push_ring(METAL, second.points(), &Offsets::single())
+    add_ring(shapes, first)?;
+    add_ring(shapes, second)
 }
 
 /// A thousand shapes, one ring after the other in turn.
@@ -190,6 +233,6 @@ fn stairs(alloc: Global) -> Result<Shapes, Fail> {
 #[test]
 fn memory_of_moved_rings(rt: HostRuntime) -> Result<(), Fail> {
     let shapes = stairs(rt.alloc())?;
-    assert_eq!(rt; shapes.len(), 1000);
+    assert!(rt; shapes.len() == 1000);
     Ok(())
 }

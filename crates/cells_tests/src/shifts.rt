@@ -1,12 +1,13 @@
 //! A list of shifts and the same list shared, where all of its shifts fit and where they don't.
-use crate::offsets::{list, places};
+use crate::offsets::{list_of, places};
 use crate::words::{check_text, cut, point};
+use lvl_grid::Point;
 use lvl_names::Offsets;
 use std::alloc::Global;
 use std::test::Fail;
 
 fn shifts(alloc: Global) -> Result<Offsets, Fail> {
-    Ok(list(alloc, "0,0 3,-1 -2,4")?.ok_or("a list")?)
+    list_of(alloc, "0,0 3,-1 -2,4")
 }
 
 /// The list after it was shared with another.
@@ -27,22 +28,28 @@ const PLACES: &str = "\
 0,-9223372036854775808 false
 ";
 
-/// Whether the shifts of the list all fit at a place, and whether those of the list that is shared do.
-fn fit_at(alloc: Global, at: &str) -> Result<(bool, bool), Fail> {
-    let at = point(at)?;
-    let list = shifts(alloc)?;
-    let fits = list.all_fit_at(at);
-    let shared = shared_twice(alloc)?;
-    Ok((fits, shared.all_fit_at(at)))
+/// Whether the shifts of the list all fit at a place.
+fn fit_at(alloc: Global, at: Point) -> Result<bool, Fail> {
+    Ok(shifts(alloc)?.all_fit_at(at))
+}
+
+/// Whether those of the list that is shared do.
+fn shared_fit_at(alloc: Global, at: Point) -> Result<bool, Fail> {
+    Ok(shared_twice(alloc)?.all_fit_at(at))
+}
+
+/// Whether both answer as the row says.
+fn row_is_answered(alloc: Global, row: &str) -> Result<bool, Fail> {
+    let (at, want) = cut(row, " ");
+    let (at, fits) = (point(at)?, want == "true");
+    Ok(fit_at(alloc, at)? == fits && shared_fit_at(alloc, at)? == fits)
 }
 
 /// A list that is shared answers as the list itself.
 #[test]
 fn shared_lists(rt: HostRuntime) -> Result<(), Fail> {
     for row in PLACES.lines() {
-        let (at, want) = cut(row, " ");
-        let fits = want == "true";
-        assert!(rt; fit_at(rt.alloc(), at)? == (fits, fits), "{row}");
+        assert!(rt; row_is_answered(rt.alloc(), row)?, "{row}");
     }
     Ok(())
 }
