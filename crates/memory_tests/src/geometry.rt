@@ -57,31 +57,63 @@ fn no_growths_of_sweeps(rt: HostRuntime) -> Result<(), Fail> {
         sweep.advance();
     }
     fence(alloc)?;
-    assert_eq!(rt; bands, 301);
+    assert!(rt; bands == 301);
     Ok(())
+}
+
+/// The regions of two lists, by grids.
+fn grids(
+    alloc: Global,
+    first: &[Ring],
+    second: &[Ring],
+) -> Result<(GridRegion, GridRegion), AllocError> {
+    let region = GridRegion::build(alloc, first)?;
+    Ok((region, GridRegion::build(alloc, second)?))
+}
+
+/// The same by slabs.
+fn slabs(
+    alloc: Global,
+    first: &[Ring],
+    second: &[Ring],
+) -> Result<(SlabRegion, SlabRegion), AllocError> {
+    let region = SlabRegion::build(alloc, first)?;
+    Ok((region, SlabRegion::build(alloc, second)?))
+}
+
+fn are_grids(first: &GridRegion, second: &GridRegion) -> bool {
+    first.covers(INSIDE) && first.first_difference(second).is_some()
+}
+
+fn are_slabs(first: &SlabRegion, second: &SlabRegion) -> bool {
+    first.covers(INSIDE)
+        && first.bands().len() == 31
+        && first.first_difference(second) == Some((Square { x: 34, y: 30 }, Side::Second))
+}
+
+/// Whether the regions answer as they should, between two fences.
+fn are_regions(
+    alloc: Global,
+    grids: &(GridRegion, GridRegion),
+    slabs: &(SlabRegion, SlabRegion),
+) -> Result<bool, AllocError> {
+    fence(alloc)?;
+    let are_regions = are_grids(&grids.0, &grids.1) && are_slabs(&slabs.0, &slabs.1);
+    fence(alloc)?;
+    Ok(are_regions)
 }
 
 #[test]
 fn no_growths_of_regions(rt: HostRuntime) -> Result<(), Fail> {
     let alloc = rt.alloc();
-    let (few, more) = (stairs(alloc, 30)?, stairs(alloc, 31)?);
-    let (grid, other) = (
-        GridRegion::build(alloc, &few)?,
-        GridRegion::build(alloc, &more)?,
+    let few = stairs(alloc, 30)?;
+    let more = stairs(alloc, 31)?;
+    assert!(rt;
+        are_regions(
+            alloc,
+            &grids(alloc, &few, &more)?,
+            &slabs(alloc, &few, &more)?
+        )?
     );
-    let (slabs, others) = (
-        SlabRegion::build(alloc, &few)?,
-        SlabRegion::build(alloc, &more)?,
-    );
-    fence(alloc)?;
-    let is_covered = grid.covers(INSIDE) && slabs.covers(INSIDE);
-    let bands = slabs.bands().len();
-    let by_grid = grid.first_difference(&other);
-    let by_slabs = slabs.first_difference(&others);
-    fence(alloc)?;
-    assert!(rt; is_covered);
-    assert_eq!(rt; bands, 31);
-    assert!(rt; by_grid.is_some());
-    assert_eq!(rt; by_slabs, Some((Square { x: 34, y: 30 }, Side::Second)));
     Ok(())
 }
