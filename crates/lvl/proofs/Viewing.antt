@@ -139,6 +139,23 @@ kept_verdict view a b s t first second v h = record {
       (moved_same view.pairs (TopCovers t) (Places t second.top) (top_places t second.top second.is_top)) v h;
 }
 
+-- the refusal of the first library, if the second passes the check of cells
+pub first_fault : (a b : Kept) (s t : Settled) → IsCheckedAs a s → IsCheckedAs b t → (r : Refusal)
+    → IsFlattenRefusal First s r → IsKeptRefusal a b r
+first_fault a b s t first second (FileRefusal side f) h = absurd h
+first_fault a b s t first second (CellsRefusal side f) h = absurd h
+first_fault a b s t first second (FlatRefusal First f) h =
+    (record { settled = s; checked = first; reported = h.1 }, (t, second))
+first_fault a b s t first second (FlatRefusal Second f) h = cc
+first_fault a b s t first second OutOfMemory h = tt
+
+pub first_reported : (a b : Kept) (s t : Settled) → IsCheckedAs a s → IsCheckedAs b t → (e : Refusal)
+    → IsFlattenRefusal First s e → (res : Result Verdict Refusal) → IsErr res × IsErrAnd res (λ r. r ≡ e)
+    → IfErr res (IsKeptRefusal a b)
+first_reported a b s t first second e h (Ok v) is = tt
+first_reported a b s t first second e h (Err r) is =
+    subst (IsKeptRefusal a b) (sym is.1) (first_fault a b s t first second e h)
+
 -- the refusal of the second library, if the first is in range
 pub second_fault : (a b : Kept) (s t : Settled) → IsInRangeAs a s → IsCheckedAs b t → (r : Refusal)
     → IsFlattenRefusal Second t r → IsKeptRefusal a b r

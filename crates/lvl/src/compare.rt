@@ -11,7 +11,7 @@ ghost use Rattle.lvl.specs.declared.layout.FileFault.{FileFault as FaultOfFile};
 ghost use Rattle.lvl.specs.declared.verdict.Verdict.TheVariants.{Same, Differ};
 ghost use Rattle.lvl.specs.declared.verdict.Refusal.TheVariants.{File as FileRefused};
 ghost use Rattle.lvl.specs.Accepted.{AreSame, AreDifferent, IsUnaccepted, IsVerdict};
-ghost use Rattle.lvl.specs.Kept.{IsKeptVerdict, IsKeptRefusal};
+ghost use Rattle.lvl.specs.Kept.{Kept, IsCheckedAs, IsKeptVerdict, IsKeptRefusal};
 ghost use Rattle.lvl.specs.Answers.{Blames, HasPassed, IsEarlyOf, IsHopeless, IsRefusalOf, IsReported, is_read_of};
 ghost use Rattle.lvl.specs.Sides.{file, library_of};
 ghost use Rattle.lvl.specs.Views.{IsComparedIn, IsViewVerdict};
@@ -19,7 +19,7 @@ ghost use Rattle.lvl.specs.Views.{IsComparedIn, IsViewVerdict};
 use crate::fitted::compare_fitted;
 use crate::side::{check_side, fit_side, read_side};
 use crate::verdict::{Comparison, Refusal, Tops, Verdict};
-use lvl_cells::Library;
+use lvl_cells::{Checked, Library};
 use lvl_ignore::Ignore;
 use lvl_io::Read;
 use lvl_region::Side;
@@ -41,6 +41,21 @@ fn compare_libraries(
 {
     let ours = check_side(alloc, Side::First, ours, &tops.first)?;
     let theirs = check_side(alloc, Side::Second, theirs, &tops.second)?;
+    compare_checked(alloc, ours, theirs, view)
+}
+
+/// Compares two sound libraries under the view.
+fn compare_checked(
+    alloc: Global,
+    ours: Checked,
+    theirs: Checked,
+    view: &View,
+) -> Result<Verdict, Refusal>
+    ensures verdict { (a b : Kept) → IsCheckedAs a ours → IsCheckedAs b theirs
+        → IfOk result (IsKeptVerdict view.now a b) }
+    ensures refused { (a b : Kept) → IsCheckedAs a ours → IsCheckedAs b theirs
+        → IfErr result (IsKeptRefusal a b) }
+{
     let ours = fit_side(alloc, Side::First, ours)?;
     let theirs = fit_side(alloc, Side::Second, theirs)?;
     match compare_fitted(alloc, &ours, &theirs, view) {
