@@ -39,6 +39,7 @@ mod builder;
 mod checked;
 mod counts;
 mod fault;
+mod forms;
 mod layers;
 mod library;
 mod moved;

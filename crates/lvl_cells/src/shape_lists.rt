@@ -7,6 +7,7 @@ ghost use Rattle.lvl_names.specs.Shifts.{one_place};
 ghost use Rattle.lvl_cells.specs.Cells.{shape_at};
 ghost use Rattle.lvl_cells.specs.inside.Spans.{IsPrefixOf, HasNumber};
 
+use crate::forms::Forms;
 use crate::moved::MovedRing;
 use crate::shared::{figure_of_ring, figure_of_rings, move_of, number_of_move};
 use lvl_grid::{Point, Ring, Rings};
@@ -26,12 +27,14 @@ pub(crate) struct Span {
     pub shifts: u32,
 }
 
-/// Shapes in file order. A shape has no allocation of its own. Consecutive shapes that draw the
-/// same points, moved, share them, and those with the same lattice share one list of shifts. A
-/// shared list is never copied.
+/// Shapes in file order. A shape has no allocation of its own. A shape shares the points of the
+/// shape before it if it draws them, moved. A shape of one ring shares those of any earlier ring
+/// that the table of forms finds, too. Consecutive shapes with the same lattice share one list of
+/// shifts. A shared list is never copied.
 #[derive(Debug, Drop)]
 pub(crate) struct ShapeLists {
     rings: Rings,
+    forms: Forms,
     spans: Vec<Span>,
     moves: Vec<Point>,
     shifts: Vec<Offsets>,
@@ -91,6 +94,7 @@ impl ShapeLists {
     {
         ShapeLists {
             rings: Rings::new(alloc),
+            forms: Forms::new(alloc),
             spans: Vec::new(alloc),
             moves: Vec::new(alloc),
             shifts: Vec::new(alloc),
@@ -157,7 +161,8 @@ impl ShapeLists {
             ++ record { layer = layer; figure = ring.now ∷ []; shifts = shifts.now } ∷ []) }
         ensures kept { OnErr result (self.new ≡ self.old) }
     {
-        let figure = figure_of_ring(&mut self.rings, self.spans.last(), ring)?;
+        let last = self.spans.last();
+        let figure = figure_of_ring(&mut self.rings, &mut self.forms, last, ring)?;
         let moved = number_of_move(&mut self.moves, figure.by)?;
         let number = number_of(&mut self.shifts, shifts)?;
         self.spans.push(Span {

@@ -16,10 +16,11 @@ use std::marker::Model;
 /// of shifts.
 ///
 /// A boundary, a polygon or a rectangle is a shape of one ring, a path a shape of the rings of its
-/// bands. An empty list takes 16 bytes. A boundary at one place takes 32 bytes and its points, or 40
-/// bytes if its points are those of the shape before, moved: then both shapes share them.
-/// Consecutive shapes with the same lattice share one list of shifts, and a shared list is never
-/// copied.
+/// bands. An empty list takes 16 bytes. A boundary at one place takes 32 bytes and its points, and up
+/// to 16 bytes in a table of points. If an earlier shape has its points, moved, both share them, and
+/// it takes 40 bytes; but the table forgets some of them, so not all that could be shared are. A path
+/// shares the points of the shape before it alone. Consecutive shapes with the same lattice share one
+/// list of shifts, and a shared list is never copied.
 #[derive(Debug, Drop)]
 pub struct Shapes {
     alloc: Global,

@@ -1,8 +1,9 @@
-//! Shared figures: rings that are those of the shape before, moved, are kept once.
+//! Shared figures: rings that are kept already, moved, aren't kept again.
 ghost use Rattle.std.specs.Prelude.{◌≡◌, ◌<◌, ◌+◌, ◌∷◌, [], length, IsTrue, IfOk, IfSome};
 ghost use Rattle.lvl_grid.specs.Winding.{IsRing};
 ghost use Rattle.lvl_cells.specs.inside.Spans.{displaced, IsPrefixOf, HasMove, IsAgain, IsFigure, IsStretch};
 
+use crate::forms::Forms;
 use crate::moved::{ORIGIN, moved};
 use crate::shape_lists::{Span, kept_count, kept_sum};
 use lvl_grid::{Point, Ring, Rings};
@@ -53,20 +54,16 @@ fn displacement(kept: &[Point], ring: &[Point]) -> Option<Point>
     Some(by)
 }
 
-/// The figure of one ring, if it is the only ring of the last shape, moved.
-fn ring_again(rings: &Rings, last: &Span, ring: &[Point]) -> Option<KeptFigure>
-    requires { IsStretch rings.now last.now }
+/// The figure of one ring, if it is the last of the kept rings with an index below `end`, moved.
+fn ring_again(rings: &Rings, end: u32, ring: &[Point]) -> Option<KeptFigure>
     ensures { IfSome result (λ f. IsFigure rings.now f (ring.now ∷ [])) }
 {
-    if last.end - last.begin != 1 {
+    let begin = end.checked_sub(1)?;
+    if end as usize > rings.len() {
         return None;
     }
-    let by = displacement(rings.ring(last.begin as usize), ring)?;
-    Some(KeptFigure {
-        begin: last.begin,
-        end: last.end,
-        by,
-    })
+    let by = displacement(rings.ring(begin as usize), ring)?;
+    Some(KeptFigure { begin, end, by })
 }
 
 /// The figure of several rings, if they are those of the last shape, all moved by the same
@@ -93,23 +90,29 @@ fn rings_again(rings: &Rings, last: &Span, figure: &[Ring]) -> Option<KeptFigure
     })
 }
 
-/// The figure of one ring. Keeps the ring, unless it is that of the last shape, moved.
+/// The figure of one ring. Keeps the ring, unless it is the last ring of the last shape or one that
+/// is found in the table, moved.
 pub(crate) fn figure_of_ring(
     rings: &mut Rings,
+    forms: &mut Forms,
     last: Option<&Span>,
     ring: &[Point],
 ) -> Result<KeptFigure, AllocError>
-    requires last { IfSome last (λ s. IsStretch rings.old s.now) }
-    requires ring { IsRing ring.now }
+    requires { IsRing ring.now }
     ensures figure { IfOk result (λ f. IsFigure rings.new f (ring.now ∷ [])) }
     ensures before { IsPrefixOf rings.old rings.new }
 {
     if let Some(last) = last {
-        if let Some(figure) = ring_again(rings, last, ring) {
+        if let Some(figure) = ring_again(rings, last.end, ring) {
             return Ok(figure);
         }
     }
-    keep_ring(rings, ring)
+    if let Some(figure) = ring_again(rings, forms.candidate(ring), ring) {
+        return Ok(figure);
+    }
+    let figure = keep_ring(rings, ring)?;
+    forms.keep(ring, figure.end)?;
+    Ok(figure)
 }
 
 /// The figure of several rings. Keeps the rings, unless they are those of the last shape, moved.
