@@ -1,5 +1,5 @@
 //! Reads a library from a reader.
-ghost use Rattle.std.specs.Prelude.{◌≡◌, ◌≢◌, List, ℕ, OnOk, Some, Err, IfErr, IfOk, false};
+ghost use Rattle.std.specs.Prelude.{◌≡◌, ◌≢◌, List, [], ℕ, OnOk, Some, Err, IfErr, IfOk, false};
 ghost use Rattle.lvl_io.specs.Bytes.{CountsFailure};
 ghost use Rattle.lvl_refusal.specs.Refused.{Says};
 ghost use Rattle.lvl_grammar.specs.Refused.{IsHopeless};
@@ -11,7 +11,7 @@ ghost use Rattle.gds_library.specs.Ends.{Reports, ReportsUnread, IsExcused, IsEa
 ghost use Rattle.gds_library.specs.inside.Holds.{HasReadBy};
 ghost use Rattle.lvl_ignore.specs.Ignored.{nothing};
 ghost use Rattle.gds_library.specs.inside.Refuses.{Refuses};
-ghost use Rattle.gds_library.specs.declared.stage.LibraryStage.TheVariants.{Fill};
+ghost use Rattle.gds_library.specs.declared.stage.LibraryStage.TheVariants.{Fill, Header};
 
 use crate::fault::{GdsFault, GdsKind};
 use crate::head::GdsHead;
@@ -123,7 +123,8 @@ fn read_library<R: Read>(
         (R.read_errors (records_reader records.new)) (is_read result) }
     ensures same { R.lent (records_reader records.new) ≡ R.lent (records_reader records.old) }
 {
-    let reading = read_all(alloc, records, ignore)?;
+    let mut reading = WithIgnored::new(alloc, ignore);
+    read_all(alloc, records, &mut reading, ignore)?;
     match records.tail() {
         Ok(None) => Ok(reading.finish()),
         Ok(Some(offset)) => Err(refuse(offset, GdsKind::AfterEnd)),
@@ -138,20 +139,24 @@ fn refuse(offset: u64, kind: GdsKind) -> Cause<GdsFault>
     Cause::Breach(GdsFault { offset, kind })
 }
 
-// Reads records up to ENDLIB.
+// Reads records up to ENDLIB, when none was read before.
 fn read_all<R: Read>(
     alloc: Global,
     records: &mut Records<R>,
+    reading: &mut WithIgnored,
     ignore: Ignore,
-) -> Result<WithIgnored, Cause<GdsFault>>
+) -> Result<(), Cause<GdsFault>>
+    requires none { HasReadBy ignore reading.old [] }
+    requires stage { reading.old.reading.builder.stage ≡ Header }
+    requires reading { reading.old.ignore ≡ ignore }
     requires ignore { records_ignore records.old ≡ ignore }
     requires fresh { has_failed records.old ≡ false }
     requires start { records_offset records.old ≡ 0 }
     ensures refused { (xs : List ℕ) → bytes_left R.remaining records.old ≡ Some xs
         → IfErr result (λ refusal. Says refusal (Refuses ignore xs (R.remaining (records_reader records.new)))) }
-    ensures whole { IfOk result (λ x. (x.reading.builder.stage ≡ Fill) × (x.ignore ≡ ignore)
+    ensures whole { OnOk result ((reading.new.reading.builder.stage ≡ Fill) × (reading.new.ignore ≡ ignore)
         × ((xs : List ℕ) → bytes_left R.remaining records.old ≡ Some xs
-        → ReadTo (gds ignore) xs (records_offset records.new) (HasReadBy ignore x)
+        → ReadTo (gds ignore) xs (records_offset records.new) (HasReadBy ignore reading.new)
         (bytes_left R.remaining records.new))) }
     ensures fresh { OnOk result (has_failed records.new ≡ false) }
     ensures ignore { OnOk result (records_ignore records.new ≡ ignore) }
@@ -159,7 +164,6 @@ fn read_all<R: Read>(
         (R.read_errors (records_reader records.new)) (is_read result) }
     ensures same { R.lent (records_reader records.new) ≡ R.lent (records_reader records.old) }
 {
-    let mut reading = WithIgnored::new(alloc, ignore);
     for _ in 0..u64::MAX {
         let offset = records.offset();
         match records.next() {
@@ -173,7 +177,7 @@ fn read_all<R: Read>(
             Err(Stopped::Failed) => unreachable!(),
         }
         if reading.is_whole() {
-            return Ok(reading);
+            return Ok(());
         }
     }
     unreachable!()

@@ -26,17 +26,17 @@ use Rattle.gds_library.proofs.read.read_all.Goals as goal
 pub loop-init : goal.loop-init
 loop-init g c = (
   c.requires.fresh,
-  λ z. (let y : Header ≡ Fill = sym c.new-reading.ensures.stage ∙ z in cc),
-  λ xs k. subst (λ i. ReadTo (gds c.args.ignore) xs i (HasReadBy c.args.ignore c.new-reading.result)
+  λ z. (let y : Header ≡ Fill = sym c.requires.stage ∙ z in cc),
+  λ xs k. subst (λ i. ReadTo (gds c.args.ignore) xs i (HasReadBy c.args.ignore c.args.reading.now)
       (bytes_left g.R.Read.remaining c.args.records.now))
       (sym c.requires.start) (reads_begin (gds c.args.ignore) xs
-      (HasReadBy c.args.ignore c.new-reading.result) _ k c.new-reading.ensures.none),
+      (HasReadBy c.args.ignore c.args.reading.now) _ k c.requires.none),
   omega arith,
   refl,
   refl,
   [],
-  c.new-reading.ensures.none,
-  c.new-reading.ensures.ignore,
+  c.requires.none,
+  c.requires.reading,
   c.requires.ignore,
 )
 
