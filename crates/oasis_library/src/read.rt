@@ -1,5 +1,5 @@
 //! Reads a library from a reader.
-ghost use Rattle.std.specs.Prelude.{◌≡◌, ◌≢◌, List, ℕ, OnOk, Some, Err, IfErr, IfOk, false};
+ghost use Rattle.std.specs.Prelude.{◌≡◌, ◌≢◌, List, [], ℕ, OnOk, Some, Err, IfErr, IfOk, false};
 ghost use Rattle.lvl_io.specs.Bytes.{CountsFailure};
 ghost use Rattle.lvl_refusal.specs.Refused.{Says};
 ghost use Rattle.lvl_grammar.specs.Refused.{IsHopeless};
@@ -12,7 +12,7 @@ ghost use Rattle.oasis_stream.specs.Items.{IsEnded};
 ghost use Rattle.oasis_library.specs.inside.Holds.{is_end};
 ghost use Rattle.oasis_library.specs.Ends.{Reports, ReportsUnread, IsExcused, IsEarly, is_read};
 ghost use Rattle.oasis_library.specs.Library.{IsRead, SpellsNone};
-ghost use Rattle.oasis_library.specs.inside.Holds.{is_end, HasWhole};
+ghost use Rattle.oasis_library.specs.inside.Holds.{Holds, HasWhole};
 ghost use Rattle.oasis_library.specs.inside.Ended.{is_truncated};
 ghost use Rattle.oasis_library.specs.inside.Refuses.{Refuses, refused_at};
 
@@ -127,7 +127,8 @@ fn read_library<R: Read>(
         (R.read_errors (input_reader input.new)) (is_read result) }
     ensures same { R.lent (input_reader input.new) ≡ R.lent (input_reader input.old) }
 {
-    let reading = read_records(alloc, input)?;
+    let mut reading = Reading::new(alloc);
+    read_records(alloc, input, &mut reading)?;
     read_nothing(input)?;
     match reading.finish(alloc) {
         Ok(read) => Ok(read),
@@ -136,15 +137,20 @@ fn read_library<R: Read>(
     }
 }
 
-// Reads the magic string, and records up to END.
-fn read_records<R: Read>(alloc: Global, input: &mut Input<R>) -> Result<Reading, Cause<OasisFault>>
+// Reads the magic string, and records up to END, when none was read before.
+fn read_records<R: Read>(
+    alloc: Global,
+    input: &mut Input<R>,
+    reading: &mut Reading,
+) -> Result<(), Cause<OasisFault>>
+    requires none { Holds reading.old [] }
     requires fresh { has_failed input.old ≡ false }
     requires start { input_offset input.old ≡ 0 }
     ensures refused { (xs : List ℕ) → bytes_left R.remaining input.old ≡ Some xs
         → IfErr result (λ refusal. Says refusal (Refuses (input_ignore input.old) xs
         (R.remaining (input_reader input.new)))) }
-    ensures whole { IfOk result (λ x. (xs : List ℕ) → bytes_left R.remaining input.old ≡ Some xs
-        → ReadTo (oasis (input_ignore input.old)) xs (input_offset input.new) (HasWhole x)
+    ensures whole { OnOk result ((xs : List ℕ) → bytes_left R.remaining input.old ≡ Some xs
+        → ReadTo (oasis (input_ignore input.old)) xs (input_offset input.new) (HasWhole reading.new)
         (bytes_left R.remaining input.new)) }
     ensures fresh { OnOk result (has_failed input.new ≡ false) }
     ensures ignore { OnOk result (input_ignore input.new ≡ input_ignore input.old) }
@@ -156,7 +162,6 @@ fn read_records<R: Read>(alloc: Global, input: &mut Input<R>) -> Result<Reading,
         Ok(()) => {}
         Err(kind) => return Err(refuse(0, kind)),
     }
-    let mut reading = Reading::new(alloc);
     for _ in 0..MOST_RECORDS {
         let offset = input.offset();
         let record = match read_next(input, alloc, reading.order()) {
@@ -169,7 +174,7 @@ fn read_records<R: Read>(alloc: Global, input: &mut Input<R>) -> Result<Reading,
             Err(refusal) => return Err(refused_at(offset, refusal)),
         }
         if is_end {
-            return Ok(reading);
+            return Ok(());
         }
     }
     Err(refuse(input.offset(), OasisKind::Value(ValueFault::TooLong)))

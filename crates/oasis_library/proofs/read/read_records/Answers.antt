@@ -16,10 +16,10 @@ returns-in-Err-clause-refused g c =
 pub loop-init : goal.loop-init
 loop-init g c = (
   c.in-Ok.ensures.reads.failed,
-  ([], c.new-reading.ensures),
+  ([], c.requires.none),
   (λ xs k. (
-    first_on (input_ignore c.args.input.now) xs c.new-reading.result c.requires.fresh refl c.requires.start k
-        c.new-reading.ensures c.in-Ok.ensures.reads,
+    first_on (input_ignore c.args.input.now) xs c.args.reading.now c.requires.fresh refl c.requires.start k
+        c.requires.none c.in-Ok.ensures.reads,
     first_takes (input_ignore c.args.input.now) xs magic c.requires.fresh refl k c.in-Ok.ensures.reads,
   )),
   c.in-Ok.ensures.reads.counted,
