@@ -12,18 +12,18 @@ const FEWEST: usize = 64;
 /// A table has at most this number of slots, which take 1 MB.
 const MOST: usize = 262_144;
 
-/// The slot of each form has one more than the index of the last ring that was kept with it, or 0 if
-/// there is none. Forms may have the same slot, so a ring that is found need not have the form: what
-/// a slot has only guides the search, and is tested where it is used.
+/// A form has two slots, one after the other. A slot has one more than the index of the last ring that
+/// was kept there, or 0 if there is none. Other forms may have the same slots, so a ring that is found
+/// need not have the form: what a slot has only guides the search, and is tested where it is used.
 #[derive(Debug, Drop)]
 pub(crate) struct Forms {
     slots: Vec<u32>,
 }
 
-/// The slot of a ring in a table of this size, or None if there is no table. It depends only on the
-/// differences between successive points, so it is the same for the ring moved.
-fn slot_of(ring: &[Point], slots: usize) -> Option<usize>
-    ensures { IfSome result (λ slot. slot < slots) }
+/// The slots of a ring in a table of this size, or None if there is no table. They depend only on the
+/// differences between successive points, so they are the same for the ring moved.
+fn slots_of(ring: &[Point], slots: usize) -> Option<(usize, usize)>
+    ensures { IfSome result (λ found. (found.0 < slots) × (found.1 < slots)) }
 {
     if slots == 0 {
         return None;
@@ -35,7 +35,8 @@ fn slot_of(ring: &[Point], slots: usize) -> Option<usize>
         hasher.write_i64(point.y.saturating_sub(last.y));
         last = *point;
     }
-    Some(hasher.finish() as usize % slots)
+    let slot = hasher.finish() as usize % slots;
+    Some((slot, (slot + 1) % slots))
 }
 
 impl Forms {
@@ -46,19 +47,20 @@ impl Forms {
         }
     }
 
-    /// One more than the index of a kept ring that may have the form of this one, or 0.
-    pub(crate) fn candidate(&self, ring: &[Point]) -> u32 {
-        match slot_of(ring, self.slots.len()) {
-            Some(slot) => self.slots[slot],
-            None => 0,
+    /// For each of two kept rings that may have the form of this one, one more than its index, or 0.
+    pub(crate) fn candidates(&self, ring: &[Point]) -> (u32, u32) {
+        match slots_of(ring, self.slots.len()) {
+            Some((slot, next)) => (self.slots[slot], self.slots[next]),
+            None => (0, 0),
         }
     }
 
     /// Notes a ring that was kept. `kept` is the number of kept rings, of which it is the last.
     pub(crate) fn keep(&mut self, ring: &[Point], kept: u32) -> Result<(), AllocError> {
         self.grow(kept as usize)?;
-        if let Some(slot) = slot_of(ring, self.slots.len()) {
-            self.slots[slot] = kept;
+        if let Some((slot, next)) = slots_of(ring, self.slots.len()) {
+            let free = if self.slots[slot] == 0 { slot } else { next };
+            self.slots[free] = kept;
         }
         Ok(())
     }

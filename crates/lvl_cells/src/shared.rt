@@ -66,6 +66,16 @@ fn ring_again(rings: &Rings, end: u32, ring: &[Point]) -> Option<KeptFigure>
     Some(KeptFigure { begin, end, by })
 }
 
+/// The figure of one ring, if it is one of two kept ones, moved.
+fn ring_found(rings: &Rings, ends: (u32, u32), ring: &[Point]) -> Option<KeptFigure>
+    ensures { IfSome result (λ f. IsFigure rings.now f (ring.now ∷ [])) }
+{
+    match ring_again(rings, ends.0, ring) {
+        Some(figure) => Some(figure),
+        None => ring_again(rings, ends.1, ring),
+    }
+}
+
 /// The figure of several rings, if they are those of the last shape, all moved by the same
 /// displacement.
 fn rings_again(rings: &Rings, last: &Span, figure: &[Ring]) -> Option<KeptFigure>
@@ -107,7 +117,7 @@ pub(crate) fn figure_of_ring(
             return Ok(figure);
         }
     }
-    if let Some(figure) = ring_again(rings, forms.candidate(ring), ring) {
+    if let Some(figure) = ring_found(rings, forms.candidates(ring), ring) {
         return Ok(figure);
     }
     let figure = keep_ring(rings, ring)?;
