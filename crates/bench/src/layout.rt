@@ -1,12 +1,6 @@
 //! Times the steps that a layout goes through before it is compared.
-//!
-//! `layout_bench STEP COUNT` prints how long a step took: `records` and `library` read a stream of
-//! COUNT boundaries that is held in memory, record by record and as a library, beside plain reads of
-//! the same bytes; `cells` and `chain` check COUNT cells side by side and one below the other;
-//! `flatten` flattens COUNT rectangles that an array of arrays places. Without words each step runs
-//! once on a few, and nothing is printed.
-#![tactic(auto)]
 
+use crate::made;
 use anyhow::{Context, Result, ensure};
 use gds_library::read_gds;
 use gds_records::Records;
@@ -15,15 +9,12 @@ use lvl_flat::flatten;
 use lvl_io::Read;
 use lvl_io::fake::Pieces;
 use std::alloc::Global;
-use std::env;
-use std::rt::{Clock, Env};
+use std::rt::Clock;
 use std::time::Instant;
-
-mod made;
 
 /// What is timed.
 #[derive(Clone, Copy, Debug, PartialEq, Eq)]
-enum Step {
+pub enum Step {
     Records,
     Library,
     Cells,
@@ -31,7 +22,8 @@ enum Step {
     Flatten,
 }
 
-fn step_of(word: &str) -> Option<Step> {
+/// The step of this name.
+pub fn step_of(word: &str) -> Option<Step> {
     match word {
         "records" => Some(Step::Records),
         "library" => Some(Step::Library),
@@ -129,14 +121,16 @@ fn time_library(rt: &(impl Clock + Print), alloc: Global, step: Step, count: u32
     Ok(())
 }
 
-fn time(rt: &(impl Clock + Print), alloc: Global, step: Step, count: u32) -> Result<()> {
+/// Times a step on `count` boundaries, cells or rectangles.
+pub fn time(rt: &(impl Clock + Print), alloc: Global, step: Step, count: u32) -> Result<()> {
     match step {
         Step::Records | Step::Library => time_stream(rt, alloc, step, count),
         Step::Cells | Step::Chain | Step::Flatten => time_library(rt, alloc, step, count),
     }
 }
 
-fn run_each(alloc: Global) -> Result<()> {
+/// Runs each step on a few.
+pub fn run_each(alloc: Global) -> Result<()> {
     let bytes = made::stream(alloc, 10)?;
     ensure!(read_plainly(alloc, &bytes)? == bytes.len(), "bytes lost");
     ensure!(count_records(alloc, &bytes)? == 58, "records lost");
@@ -144,18 +138,4 @@ fn run_each(alloc: Global) -> Result<()> {
     check_library(alloc, made::flat_library(alloc, 10)?)?;
     check_library(alloc, made::chain_library(alloc, 10)?)?;
     flatten_library(alloc, made::array_library(alloc, 3, 4)?)
-}
-
-fn main(rt: HostRuntime) -> Result<()> {
-    let alloc = rt.alloc();
-    let mut words = env::args(&rt)?;
-    let _ = words.next();
-    match (words.next(), words.next()) {
-        (Some(step), Some(count)) => {
-            let step = step_of(step.as_str()).context("records, library, cells, chain or flatten")?;
-            let count = count.as_str().parse::<u32>().context("a number")?;
-            time(&rt, alloc, step, count)
-        }
-        _ => run_each(alloc),
-    }
 }

@@ -1,16 +1,10 @@
 //! Times the reading of OASIS values that are held in memory.
-//!
-//! `values_bench COUNT` prints for unsigned integers of one to ten bytes how fast COUNT of them are
-//! read, beside a plain loop over their bytes, and how long a repetition of a million g-deltas takes.
-//! Without words each step runs once on a few, and nothing is printed.
-#![tactic(auto)]
 
 use anyhow::{Context, Result, ensure};
 use lvl_ignore::Ignore;
 use lvl_io::fake::Pieces;
 use oasis_values::{Input, Repetition};
 use std::alloc::Global;
-use std::env;
 use std::rt::Clock;
 use std::time::Instant;
 
@@ -84,7 +78,8 @@ fn micros(rt: &impl Clock, since: Instant) -> Result<u128> {
     Ok(since.elapsed(rt)?.as_micros())
 }
 
-fn time(rt: &(impl Clock + Print), alloc: Global, count: u32) -> Result<()> {
+/// Times `count` integers of each length, and a repetition.
+pub fn time(rt: &(impl Clock + Print), alloc: Global, count: u32) -> Result<()> {
     for len in 1..=10_u32 {
         let bytes = integers(alloc, count, len)?;
         let start = Instant::now(rt)?;
@@ -105,7 +100,8 @@ fn time(rt: &(impl Clock + Print), alloc: Global, count: u32) -> Result<()> {
     Ok(())
 }
 
-fn run_each(alloc: Global) -> Result<()> {
+/// Reads a few integers and a repetition.
+pub fn run_each(alloc: Global) -> Result<()> {
     let bytes = integers(alloc, 9, 10)?;
     ensure!(
         read_values(&bytes, 9)? == read_plainly(&bytes),
@@ -114,17 +110,4 @@ fn run_each(alloc: Global) -> Result<()> {
     let bytes = repetition(alloc, 300)?;
     ensure!(read_repetition(alloc, &bytes)? == 300, "places lost");
     Ok(())
-}
-
-fn main(rt: HostRuntime) -> Result<()> {
-    let alloc = rt.alloc();
-    let mut words = env::args(&rt)?;
-    let _ = words.next();
-    match words.next() {
-        Some(count) => {
-            let count = count.as_str().parse::<u32>().context("a number")?;
-            time(&rt, alloc, count)
-        }
-        None => run_each(alloc),
-    }
 }

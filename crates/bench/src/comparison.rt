@@ -1,10 +1,4 @@
 //! Times the comparison of two lists of rings that cover the same squares and are made up otherwise.
-//!
-//! `sweep_bench WAY KIND COUNT`, with the way `columns` or `sweep`, prints how long it took to make
-//! the lists, to compare them, and to sort their vertical edges once; with a number of layers after that,
-//! for that number of such pairs. Without words it compares a few small lists of each kind both ways, and
-//! prints nothing.
-#![tactic(auto)]
 
 use crate::lists::{Kind, Pair};
 use anyhow::{Context, Result, ensure};
@@ -13,15 +7,12 @@ use lvl_grid::{Point, Rings, Square};
 use lvl_region::Side;
 use lvl_sweep::first_difference_up_to;
 use std::alloc::{AllocError, Global};
-use std::env;
-use std::rt::{Clock, Env};
+use std::rt::Clock;
 use std::time::Instant;
-
-mod lists;
 
 /// How two lists are compared.
 #[derive(Clone, Copy, Debug, PartialEq, Eq)]
-enum Way {
+pub enum Way {
     Columns,
     Sweep,
 }
@@ -121,8 +112,8 @@ fn time_pair(
     })
 }
 
-/// Times `count` pairs of lists, one after another.
-fn time(
+/// Times `layers` pairs of lists, one after another.
+pub fn time(
     rt: &(impl Clock + Print),
     alloc: Global,
     way: Way,
@@ -143,7 +134,8 @@ fn time(
     Ok(())
 }
 
-fn way_of(word: &str) -> Option<Way> {
+/// The way of this name.
+pub fn way_of(word: &str) -> Option<Way> {
     match word {
         "columns" => Some(Way::Columns),
         "sweep" => Some(Way::Sweep),
@@ -151,7 +143,8 @@ fn way_of(word: &str) -> Option<Way> {
     }
 }
 
-fn compare_small(alloc: Global) -> Result<()> {
+/// Compares a few small lists of each kind both ways.
+pub fn run_each(alloc: Global) -> Result<()> {
     for kind in Kind::ALL {
         let pair = Pair::new(alloc, kind, 60, 12_345)?;
         let found = compare(alloc, Way::Columns, &pair.first, &pair.second)?;
@@ -160,26 +153,4 @@ fn compare_small(alloc: Global) -> Result<()> {
         ensure!(again == found, "the two ways differ");
     }
     Ok(())
-}
-
-fn main(rt: HostRuntime) -> Result<()> {
-    let alloc = rt.alloc();
-    let mut words = env::args(&rt)?;
-    let _ = words.next();
-    match (words.next(), words.next(), words.next()) {
-        (Some(way), Some(kind), Some(count)) => {
-            let way = way_of(way.as_str()).context("columns or sweep")?;
-            let kind = Kind::named(kind.as_str()).context("a kind of lists")?;
-            let count = count.as_str().parse::<i64>().context("a number")?;
-            let layers = match words.next() {
-                Some(layers) => layers
-                    .as_str()
-                    .parse::<u64>()
-                    .context("a number of layers")?,
-                None => 1,
-            };
-            time(&rt, alloc, way, kind, count, layers)
-        }
-        _ => compare_small(alloc),
-    }
 }
