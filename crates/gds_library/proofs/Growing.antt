@@ -1,24 +1,23 @@
 -- A stream that is accepted when less is ignored is accepted when more is, with the same meaning.
-use Rattle.std.proofs.Common.{◌≡◌, ◌==◌, ◌<◌, inl, inr, ℕ, Bool, true, false, if◌then◌else◌, List, [], ◌∷◌, ◌++◌, Some}
+use Rattle.std.proofs.Common.{◌≡◌, ◌==◌, inl, inr, ℕ, Bool, true, false, if◌then◌else◌, List, [], ◌∷◌, ◌++◌, Some}
 use Rattle.std.proofs.Common.{None, refl, sym, ap, ◌∙◌, subst, arith, length, append_assoc, ◌⊎◌}
 use Rattle.std.proofs.lemmas.List.{append-nil}
-use Rattle.std.specs.Prelude.{Option, is_some, not, ◌&&◌, ◌||◌}
-use Rattle.std.specs.Str.{bytes_eq}
+use Rattle.std.specs.Prelude.{Option, is_some, ◌&&◌}
 use Rattle.lvl_ignore.specs.Ignored.{IsSubsetOf}
 use Rattle.lvl_ignore.specs.declared.ignore.Ignore.{Ignore}
-use Rattle.lvl_grammar.specs.Front.{SpellsAll, FollowAll, SpellsWhole}
+use Rattle.lvl_grammar.specs.Front.{SpellsAll, FollowAll}
 use Rattle.lvl_grammar.proofs.Orders.{by_test}
 use Rattle.gds_records.specs.Table.{Row, table, property_rows, name_rows, ignored_rows, form_among, form_of, is_ignored}
-use Rattle.gds_records.specs.Spelled.{IsRecord, IsOfForm}
+use Rattle.gds_records.specs.Spelled.{IsOfForm}
 use Rattle.gds_records.specs.declared.form.Form.{Form}
 use Rattle.gds_elements.specs.Rec.{Rec, an_end}
 use Rattle.gds_elements.specs.Rules.{IsKnown}
 use Rattle.gds_elements.specs.declared.fault.Misplaced.TheVariants.{Unsupported}
-use Rattle.gds_library.specs.Types.{fill, reflibs, fonts, generations, attrtable, elflags, propattr, propvalue, plex}
+use Rattle.gds_library.specs.Types.{reflibs, fonts, generations, attrtable, elflags, propattr, propvalue, plex}
 use Rattle.gds_library.specs.Types.{strclass, format, libdirsize, srfname, libsecur}
 use Rattle.gds_library.specs.Rec.{Spells}
 use Rattle.gds_library.specs.Rules.{IsWhole, InOrder, MayFollow}
-use Rattle.gds_library.specs.Ignoring.{is_passed, essential, MayPass, MayFollowBy}
+use Rattle.gds_library.specs.Ignoring.{is_passed, essential, MayFollowBy}
 use Rattle.gds_library.specs.Front.{gds, SpellsLibrary}
 use Rattle.gds_library.specs.Values.{drawings, head}
 use Rattle.gds_library.specs.Drawn.{Drawing}

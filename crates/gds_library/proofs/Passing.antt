@@ -1,7 +1,7 @@
 -- Records that are ignored, among others.
-use Rattle.std.proofs.Common.{◌≡◌, ◌≢◌, ◌==◌, ◌<◌, ◌⊎◌, inl, inr, ℕ, Bool, true, false, if◌then◌else◌, List, [], ◌∷◌}
+use Rattle.std.proofs.Common.{◌≡◌, ◌<◌, inl, inr, ℕ, Bool, true, false, if◌then◌else◌, List, [], ◌∷◌}
 use Rattle.std.proofs.Common.{◌++◌}
-use Rattle.std.proofs.Common.{Some, None, refl, sym, ap, ◌∙◌, subst, arith}
+use Rattle.std.proofs.Common.{Some, refl, sym, ap, ◌∙◌, subst, arith}
 use Rattle.lvl_ignore.specs.declared.ignore.Ignore.{Ignore}
 use Rattle.lvl_refusal.specs.declared.Cause.{Cause}
 use Rattle.lvl_refusal.specs.declared.Cause.TheVariants.{Breach, OutOfMemory}
@@ -14,12 +14,11 @@ use Rattle.gds_elements.specs.inside.Misplaced.{IsMisplacement}
 use Rattle.gds_elements.specs.declared.fault.Misplaced.{Misplaced as Misplacement}
 use Rattle.gds_elements.specs.declared.fault.Misplaced.TheVariants.{Unexpected, Unsupported}
 use Rattle.gds_library.specs.Types.{propattr}
-use Rattle.gds_library.specs.Rules.{Breaches, BreachesOnly, MayFollow, InOrder}
+use Rattle.gds_library.specs.Rules.{Breaches, BreachesOnly, MayFollow}
 use Rattle.gds_library.specs.Ignoring.{is_passed, essential, last_type, AwaitsValue, MayPass, MayCome, InOrderBy}
 use Rattle.gds_library.specs.Ignoring.{IsKnownBy, IsMisplacedBy, BreachesBy, BreachesOnlyBy, MayFollowBy}
 use Rattle.gds_library.specs.declared.fault.GdsKind.{GdsKind}
-use Rattle.gds_library.specs.declared.fault.GdsKind.TheVariants.{Record, Misplaced, Element, Name, AfterEnd}
-use Rattle.gds_library.specs.declared.fault.GdsKind.TheVariants.{TooManyCells}
+use Rattle.gds_library.specs.declared.fault.GdsKind.TheVariants.{Misplaced}
 use Rattle.gds_library.proofs.Spellings.{a_fill}
 
 -- one more ignored record doesn't change the others

@@ -1,5 +1,5 @@
 -- One more record of a stream in which some are ignored.
-use Rattle.std.proofs.Common.{◌≡◌, ◌≢◌, ◌<◌, inl, inr, ℕ, Bool, true, false, List, [], ◌∷◌, ◌++◌, Some, refl, sym, ap}
+use Rattle.std.proofs.Common.{◌≡◌, ◌≢◌, inl, inr, ℕ, Bool, true, false, List, [], ◌∷◌, ◌++◌, Some, sym, ap}
 use Rattle.std.proofs.Common.{◌∙◌, subst}
 use Rattle.std.specs.Prelude.{◌↔◌, IsTrue, Result, Ok, Err, IsErr, IsErrAnd}
 use Rattle.lvl_ignore.specs.declared.ignore.Ignore.{Ignore}
@@ -8,7 +8,7 @@ use Rattle.lvl_refusal.specs.Refused.{Says}
 use Rattle.gds_elements.specs.Rec.{Rec, an_end}
 use Rattle.gds_library.specs.Types.{propattr}
 use Rattle.gds_library.specs.Rules.{Breaches, BreachesOnly, MayFollow, InOrder}
-use Rattle.gds_library.specs.Ignoring.{is_passed, essential, last_type, comes_after, AwaitsValue, MayPass}
+use Rattle.gds_library.specs.Ignoring.{is_passed, essential, comes_after, AwaitsValue, MayPass}
 use Rattle.gds_library.specs.Ignoring.{BreachesBy, BreachesOnlyBy, MayFollowBy}
 use Rattle.gds_library.specs.inside.Holds.{HasRead, HasReadBy, TakesBy}
 use Rattle.gds_library.specs.declared.fault.GdsKind.{GdsKind}

@@ -1,6 +1,6 @@
 -- Records that are read and ignored (GDSII Stream Format Manual, Release 6, "Stream syntax"): they have the manual's
 -- forms, come only where its syntax allows them, and mean nothing.
-use Rattle.std.specs.Prelude.{◌≡◌, ◌≢◌, ◌==◌, ◌&&◌, ◌||◌, ◌⊎◌, ◌<◌, not, ℕ, Bool, true, false, if◌then◌else◌}
+use Rattle.std.specs.Prelude.{◌≡◌, ◌==◌, ◌&&◌, ◌||◌, ◌⊎◌, ◌<◌, not, ℕ, Bool, true, false, if◌then◌else◌}
 use Rattle.std.specs.Prelude.{List, [], ◌∷◌, Option, Some, None}
 use Rattle.std.specs.Str.{bytes_eq}
 use Rattle.lvl_ignore.specs.declared.ignore.Ignore.{Ignore}

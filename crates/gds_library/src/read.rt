@@ -12,6 +12,7 @@ ghost use Rattle.gds_library.specs.inside.Holds.{HasReadBy};
 ghost use Rattle.lvl_ignore.specs.Ignored.{nothing};
 ghost use Rattle.gds_library.specs.inside.Refuses.{Refuses};
 ghost use Rattle.gds_library.specs.declared.stage.LibraryStage.TheVariants.{Fill, Header};
+ghost use Rattle.gds_library.specs.inside.Shown.{done, head_in};
 
 use crate::fault::{GdsFault, GdsKind};
 use crate::head::GdsHead;
@@ -124,9 +125,34 @@ fn read_library<R: Read>(
     ensures same { R.lent (records_reader records.new) ≡ R.lent (records_reader records.old) }
 {
     let mut reading = WithIgnored::new(alloc, ignore);
-    read_all(alloc, records, &mut reading, ignore)?;
+    read_whole(alloc, records, &mut reading, ignore)?;
+    Ok(reading.finish())
+}
+
+// Reads the records of a library, when none was read before, and the zero bytes after it.
+fn read_whole<R: Read>(
+    alloc: Global,
+    records: &mut Records<R>,
+    reading: &mut WithIgnored,
+    ignore: Ignore,
+) -> Result<(), Cause<GdsFault>>
+    requires none { HasReadBy ignore reading.old [] }
+    requires stage { reading.old.reading.builder.stage ≡ Header }
+    requires reading { reading.old.ignore ≡ ignore }
+    requires ignore { records_ignore records.old ≡ ignore }
+    requires fresh { has_failed records.old ≡ false }
+    requires start { records_offset records.old ≡ 0 }
+    ensures spelled { OnOk result ((xs : List ℕ) → bytes_left R.remaining records.old ≡ Some xs
+        → IsRead ignore xs (done reading.new.reading.builder) (head_in reading.new.reading.builder)) }
+    ensures refused { (xs : List ℕ) → bytes_left R.remaining records.old ≡ Some xs
+        → IfErr result (λ refusal. Says refusal (Refuses ignore xs (R.remaining (records_reader records.new)))) }
+    ensures reads { CountsFailure (R.read_errors (records_reader records.old))
+        (R.read_errors (records_reader records.new)) (is_read result) }
+    ensures same { R.lent (records_reader records.new) ≡ R.lent (records_reader records.old) }
+{
+    read_all(alloc, records, reading, ignore)?;
     match records.tail() {
-        Ok(None) => Ok(reading.finish()),
+        Ok(None) => Ok(()),
         Ok(Some(offset)) => Err(refuse(offset, GdsKind::AfterEnd)),
         Err(Stopped::Fault(fault)) => Err(refuse(records.offset(), GdsKind::Record(fault))),
         Err(Stopped::Failed) => unreachable!(),

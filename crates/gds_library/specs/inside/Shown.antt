@@ -10,6 +10,7 @@ use Rattle.gds_library.specs.declared.stage.LibraryStage.TheVariants.{Header, Bg
 use Rattle.gds_library.specs.declared.stage.LibraryStage.TheVariants.{StrName}
 use Rattle.gds_library.specs.declared.stage.LibraryStage.TheVariants.{Elements, Fill}
 use Rattle.gds_library.specs.declared.builder.Builder.{Builder}
+use Rattle.gds_library.specs.declared.head.GdsHead.{GdsHead}
 
 -- the list with its last element changed
 abbrev pub on_last : {A : Type 0} → (A → A) → List A → List A
@@ -33,6 +34,10 @@ with_drawn shapes references c =
 -- the cells that are complete
 abbrev pub done : Builder → List KeptCell
 done b = b.cells.cells
+
+-- what HEADER and UNITS say
+abbrev pub head_in : Builder → GdsHead
+head_in b = record { version = b.version; units = b.units }
 
 -- the cell that isn't complete yet
 abbrev pub open_cell : Builder → KeptCell

@@ -1,4 +1,4 @@
-use Rattle.std.proofs.Common.{◌≡◌, true, false, subst, sym, ◌∙◌}
+use Rattle.std.proofs.Common.{◌≡◌, true, false, subst}
 use Rattle.std.specs.Prelude.{Option}
 use Rattle.gds_elements.specs.declared.element.Element.{Element}
 use Rattle.gds_library.specs.inside.Holds.{HoldsWith}
