@@ -236,3 +236,46 @@ fn memory_of_moved_rings(rt: HostRuntime) -> Result<(), Fail> {
     assert!(rt; shapes.len() == 1000);
     Ok(())
 }
+
+/// The corners of the rectangle of this number: its place is another than that of any other, and its size is
+/// one of a hundred.
+fn numbered(number: i64) -> (Point, Point) {
+    let low = Point { x: number, y: 7 };
+    let high = Point {
+        x: number.saturating_add(1 + number % 10),
+        y: 8 + number % 100 / 10,
+    };
+    (low, high)
+}
+
+fn add_numbered(alloc: Global, shapes: &mut Shapes, number: i64) -> Result<(), Fail> {
+    let (low, high) = numbered(number);
+    add_ring(shapes, &Ring::rectangle(alloc, low, high)?)?;
+    Ok(())
+}
+
+/// Two thousand rectangles, of which none has the size of the one before.
+fn of_many_sizes(alloc: Global) -> Result<Shapes, Fail> {
+    let mut shapes = Shapes::new(alloc);
+    for number in 0..2000 {
+        add_numbered(alloc, &mut shapes, number)?;
+    }
+    Ok(shapes)
+}
+
+/// Whether these shapes are the rectangles.
+fn are_numbered(shapes: &Shapes) -> bool {
+    for i in 0..2000 {
+        let (low, high) = numbered(i as i64);
+        if !has_corners(shapes, i, 0, low, high) {
+            return false;
+        }
+    }
+    shapes.len() == 2000
+}
+
+#[test]
+fn memory_of_many_sizes(rt: HostRuntime) -> Result<(), Fail> {
+    assert!(rt; are_numbered(&of_many_sizes(rt.alloc())?));
+    Ok(())
+}
