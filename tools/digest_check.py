@@ -12,15 +12,17 @@ sys.dont_write_bytecode = True
 from digest import corners, layer_bytes
 
 TESTS = pathlib.Path(__file__).parent.parent / "crates/corners_tests/src/digests.rt"
-NAMES = {"LOW": -(2**63), "HIGH": 2**63 - 1}
 
 
 def rows(text):
     """For each row of the table: its rectangles, number of corners, and digest."""
-    start = text.index("] = [", text.index("const LAYERS"))
-    table = text[start : text.index("const MASK")]
-    for row in re.finditer(r'\(\s*&\[(.*?)\],\s*(\d+),\s*"(.*?)",?\s*\)', table, re.DOTALL):
-        yield eval(f"[{row[1]}]", {}, NAMES), int(row[2]), row[3]
+    start = text.index('"', text.index("const LAYERS")) + 1
+    table = re.sub(r"\\\n\s*", "", text[start : text.index('"', start)])
+    for row in table.splitlines():
+        _, rectangles, want = row.split(" | ")
+        count, digest = want.split()
+        sides = [[int(number) for number in re.split("[ ,]", it.strip())] for it in rectangles.split(";")]
+        yield sides, int(count), digest
 
 
 def main():
