@@ -9,8 +9,9 @@ use std::hash::{FoldHasher, Hasher};
 /// With fewer rings there is no table.
 const FEWEST: usize = 64;
 
-/// A table has at most this number of slots, which take 1 MB.
-const MOST: usize = 262_144;
+/// A table has at most this number of slots, which take 16 KB. With more, rings of so many forms would be
+/// shared that they no longer fit in the nearest caches, and each look at a shape would wait for memory.
+const MOST: usize = 4_096;
 
 /// A form has two slots, one after the other. A slot has one more than the index of the last ring that
 /// was kept there, or 0 if there is none. Other forms may have the same slots, so a ring that is found
