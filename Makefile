@@ -17,6 +17,7 @@ bin/lvl: $(SOURCES)
 # The gate: every proof from nothing, the edits that must be refused, the tests and the program.
 check:
 	@$(NEEDS_RT)
+	@rm -rf bin/.crates
 	@rt ci
 
 # Each allocation refused in turn, to the tests and the program that the gate has built.
