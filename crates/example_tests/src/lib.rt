@@ -11,3 +11,4 @@ mod geometry;
 mod oasis;
 #[cfg(test)]
 mod program;
+mod texts;

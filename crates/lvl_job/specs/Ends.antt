@@ -11,7 +11,7 @@ use Rattle.lvl_region.specs.declared.region.Side.TheVariants.{First, Second}
 use Rattle.lvl_report.specs.declared.hint.Hint.{Hint}
 use Rattle.lvl_report.specs.declared.hint.Hint.TheVariants.{IgnoreMore, Unpack, WithoutBlocks, NameTop, NameTopOf}
 use Rattle.lvl_report.specs.declared.outcome.Outcome.{Outcome}
-use Rattle.lvl_report.specs.Faults.{ignore_fault, view_fault}
+use Rattle.lvl_text.specs.Faults.{ignore_fault, view_fault}
 use Rattle.lvl_report.specs.Texts.{line}
 use Rattle.lvl_report.specs.Writing.{status_code, AppendsBeginning}
 use Rattle.lvl_job.specs.declared.fault.JobFault.{JobFault}

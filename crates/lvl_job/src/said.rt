@@ -10,7 +10,8 @@ use crate::fault::JobFault;
 use lvl_ignore::Ignore;
 use lvl_io::{Failure, Write};
 use lvl_region::Side;
-use lvl_report::{Hint, ignore_fault, view_fault};
+use lvl_report::Hint;
+use lvl_text::{ignore_fault, view_fault};
 
 /// Writes the whole text. It fails at the first error of any kind, or if a write takes nothing of
 /// some bytes; a beginning of the text was then written.

@@ -18,9 +18,9 @@ use Rattle.lvl.specs.declared.digested.DigestedLayer.{DigestedLayer}
 use Rattle.lvl.specs.declared.digested.MaskDigest.{MaskDigest}
 use Rattle.lvl.specs.declared.shown.Shown.{Shown}
 use Rattle.lvl_count.specs.declared.counts.LayerRings.{LayerRings}
-use Rattle.lvl_report.specs.Faults.{spaced, cell_fault, flat_fault}
-use Rattle.lvl_report.specs.Gds.{gds_fault, gds_head_text, hex}
-use Rattle.lvl_report.specs.Oasis.{oasis_fault, oasis_head_text}
+use Rattle.lvl_text.specs.Faults.{spaced, cell_fault, flat_fault}
+use Rattle.lvl_text.specs.Gds.{gds_fault, gds_head_text, hex}
+use Rattle.lvl_text.specs.Oasis.{oasis_fault, oasis_head_text}
 
 -- a text and one line feed
 abbrev pub line : List ℕ → List ℕ

@@ -2,10 +2,10 @@
 ghost use Rattle.std.specs.Prelude.{◌≡◌, ◌++◌, flat_map, OnOk, IfOk};
 ghost use Rattle.lvl_report.specs.Texts.{digest_line, digested_text, mask_text, text_of_digested};
 
-use crate::gds::push_hex;
 use crate::text::{push_front, push_refusal};
 use lvl::{Digested, DigestedLayer, MaskDigest, Refusal};
 use lvl_names::Layer;
+use lvl_text::push_hex;
 use std::alloc::{AllocError, Global};
 use std::io;
 use std::io::Write;

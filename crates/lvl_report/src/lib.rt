@@ -4,9 +4,8 @@
 //! [`run`] compares two files, [`run_view`] compares them under a view, [`run_show`] shows one, and
 //! [`run_digest`] hashes what one draws. Each makes the whole text of the answer, writes it, and returns a
 //! [`Status`], which gives the exit status of the program. The calls that take what is ignored return an
-//! [`Outcome`], which also has a [`Hint`] if something would mend a refusal. Each format has a module for what
-//! its files say about themselves and why they are refused. [`form`], [`form_shown`] and [`form_digest`] only
-//! make the text.
+//! [`Outcome`], which also has a [`Hint`] if something would mend a refusal. [`form`], [`form_shown`] and
+//! [`form_digest`] only make the text.
 //!
 //! `bytes` is a file that draws one square:
 //!
@@ -22,7 +21,6 @@
 #![tactic(auto)]
 
 pub use digest::form_digest;
-pub use faults::{ignore_fault, view_fault};
 pub use hint::Hint;
 pub use outcome::Outcome;
 pub use runs::{run, run_by, run_digest, run_show, run_show_by, run_view, run_view_by};
@@ -30,10 +28,7 @@ pub use status::{RunFault, Status};
 pub use text::{form, form_shown};
 
 mod digest;
-mod faults;
-mod gds;
 mod hint;
-mod oasis;
 mod outcome;
 mod output;
 mod runs;

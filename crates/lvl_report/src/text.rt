@@ -3,14 +3,13 @@ ghost use Rattle.std.specs.Prelude.{◌≡◌, ◌++◌, flat_map, OnOk, IfOk};
 ghost use Rattle.lvl_report.specs.Texts.{layer_line, side_text, verdict_text, head_text, file_fault, refusal_text};
 ghost use Rattle.lvl_report.specs.Texts.{front_text, shown_text, text_of, text_of_shown};
 
-use crate::faults::{push_cell_fault, push_flat_fault, push_name};
-use crate::gds::{push_gds_fault, push_gds_head};
-use crate::oasis::{push_oasis_fault, push_oasis_head};
 use lvl::{Comparison, FileFault, Head, Refusal, Shown, Verdict};
 use lvl_count::LayerRings;
 use lvl_grid::Square;
 use lvl_names::Layer;
 use lvl_region::Side;
+use lvl_text::{push_cell_fault, push_flat_fault, push_gds_fault, push_gds_head, push_name};
+use lvl_text::{push_oasis_fault, push_oasis_head};
 use std::alloc::{AllocError, Global};
 use std::io;
 use std::io::Write;

@@ -1,6 +1,6 @@
 use Rattle.std.proofs.Common.{◌<◌, false, arith}
 use Rattle.std.proofs.lemmas.Fmt.{hex_byte}
-use Rattle.lvl_report.proofs.gds.push_hex_byte.Goals as goal
+use Rattle.lvl_text.proofs.gds.push_hex_byte.Goals as goal
 
 pub returns : goal.returns
 returns c =

@@ -1,8 +1,8 @@
 //! What an OASIS file says about itself, and why one is refused, as text.
 ghost use Rattle.std.specs.Prelude.{◌≡◌, ◌++◌, OnOk, codes};
-ghost use Rattle.lvl_report.specs.Oasis.{real, signature, oasis_head_text, value_fault, record_rule};
-ghost use Rattle.lvl_report.specs.Gds.{hex};
-ghost use Rattle.lvl_report.specs.Oasis.{figure_rule, name_rule, oasis_kind, oasis_fault};
+ghost use Rattle.lvl_text.specs.Oasis.{real, signature, oasis_head_text, value_fault, record_rule};
+ghost use Rattle.lvl_text.specs.Gds.{hex};
+ghost use Rattle.lvl_text.specs.Oasis.{figure_rule, name_rule, oasis_kind, oasis_fault};
 
 use crate::faults::path_fault;
 use crate::gds::push_hex;
@@ -48,7 +48,7 @@ fn push_signature(text: &mut Vec<u8>, scheme: u8, bytes: &[u8]) -> io::Result<()
 }
 
 /// Appends what an OASIS file says about itself.
-pub(crate) fn push_oasis_head(text: &mut Vec<u8>, head: &OasisHead) -> io::Result<()>
+pub fn push_oasis_head(text: &mut Vec<u8>, head: &OasisHead) -> io::Result<()>
     ensures { OnOk result (text.new.items ≡ text.old.items ++ oasis_head_text head.now) }
 {
     write!(text, "OASIS 1.0 unit ")?;
@@ -144,7 +144,7 @@ fn push_oasis_kind(text: &mut Vec<u8>, kind: OasisKind) -> io::Result<()>
 }
 
 /// Appends a fault of an OASIS file, with its offset in bytes if it has one.
-pub(crate) fn push_oasis_fault(text: &mut Vec<u8>, fault: OasisFault) -> io::Result<()>
+pub fn push_oasis_fault(text: &mut Vec<u8>, fault: OasisFault) -> io::Result<()>
     ensures { OnOk result (text.new.items ≡ text.old.items ++ oasis_fault fault) }
 {
     match fault {

@@ -1,6 +1,6 @@
 use Rattle.std.proofs.Common.{◌≡◌, ◌++◌, flat_map, take}
-use Rattle.lvl_report.specs.Faults.{spaced}
-use Rattle.lvl_report.proofs.faults.push_names.Given as goal
+use Rattle.lvl_text.specs.Faults.{spaced}
+use Rattle.lvl_text.proofs.faults.push_names.Given as goal
 
 abbrev pub invariant-loop-name : goal.invariant-loop-name
 invariant-loop-name l =

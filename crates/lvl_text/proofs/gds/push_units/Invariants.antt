@@ -1,7 +1,7 @@
 use Rattle.std.proofs.Common.{◌≡◌, ◌++◌, flat_map, take}
-use Rattle.lvl_report.specs.Faults.{spaced}
-use Rattle.lvl_report.specs.Gds.{hex}
-use Rattle.lvl_report.proofs.gds.push_units.Given as goal
+use Rattle.lvl_text.specs.Faults.{spaced}
+use Rattle.lvl_text.specs.Gds.{hex}
+use Rattle.lvl_text.proofs.gds.push_units.Given as goal
 
 abbrev pub invariant-loop-unit : goal.invariant-loop-unit
 invariant-loop-unit l =

@@ -1,6 +1,6 @@
 //! The number and the name of each fault that belongs to no format, and what it carries, as text.
 ghost use Rattle.std.specs.Prelude.{◌≡◌, ◌++◌, flat_map, OnOk};
-ghost use Rattle.lvl_report.specs.Faults.{spaced, path_fault, cell_fault, flat_fault, ignore_fault, view_fault};
+ghost use Rattle.lvl_text.specs.Faults.{spaced, path_fault, cell_fault, flat_fault, ignore_fault, view_fault};
 
 use lvl_cells::CellFault;
 use lvl_flat::FlatFault;
@@ -11,7 +11,7 @@ use std::io;
 use std::io::Write;
 
 /// The text of a fault of a path.
-pub(crate) fn path_fault(fault: PathFault) -> &'static str
+pub fn path_fault(fault: PathFault) -> &'static str
     ensures { result.now ≡ path_fault fault }
 {
     match fault {
@@ -47,7 +47,7 @@ pub fn ignore_fault(fault: IgnoreFault) -> &'static str
 }
 
 /// Appends a space and the name.
-pub(crate) fn push_name(text: &mut Vec<u8>, name: &[u8]) -> io::Result<()>
+pub fn push_name(text: &mut Vec<u8>, name: &[u8]) -> io::Result<()>
     ensures { OnOk result (text.new.items ≡ text.old.items ++ spaced name.now) }
 {
     text.write_all(b" ")?;
@@ -65,7 +65,7 @@ fn push_names(text: &mut Vec<u8>, names: &[Vec<u8>]) -> io::Result<()>
 }
 
 /// Appends a fault of the cells of a library.
-pub(crate) fn push_cell_fault(text: &mut Vec<u8>, fault: &CellFault) -> io::Result<()>
+pub fn push_cell_fault(text: &mut Vec<u8>, fault: &CellFault) -> io::Result<()>
     ensures { OnOk result (text.new.items ≡ text.old.items ++ cell_fault fault.now) }
 {
     match fault {
@@ -91,7 +91,7 @@ pub(crate) fn push_cell_fault(text: &mut Vec<u8>, fault: &CellFault) -> io::Resu
 }
 
 /// Appends a fault of what the top places.
-pub(crate) fn push_flat_fault(text: &mut Vec<u8>, fault: &FlatFault) -> io::Result<()>
+pub fn push_flat_fault(text: &mut Vec<u8>, fault: &FlatFault) -> io::Result<()>
     ensures { OnOk result (text.new.items ≡ text.old.items ++ flat_fault fault.now) }
 {
     match fault {

@@ -25,8 +25,8 @@ use Rattle.oasis_stream.specs.declared.fault.OasisKind.TheVariants.{TooManyCells
 use Rattle.oasis_library.specs.declared.fault.OasisFault.{OasisFault}
 use Rattle.oasis_library.specs.declared.fault.OasisFault.TheVariants.{At, Unresolved}
 use Rattle.oasis_library.specs.declared.head.OasisHead.{OasisHead}
-use Rattle.lvl_report.specs.Faults.{spaced, path_fault}
-use Rattle.lvl_report.specs.Gds.{hex}
+use Rattle.lvl_text.specs.Faults.{spaced, path_fault}
+use Rattle.lvl_text.specs.Gds.{hex}
 
 -- a real: a whole number or a fraction in decimal, or the bytes of an IEEE number in the order of the file
 abbrev pub real : Real → List ℕ

@@ -1,6 +1,6 @@
 use Rattle.std.proofs.Common.{append_assoc}
 use Rattle.std.proofs.lemmas.Result.{IfOk-equal}
-use Rattle.lvl_report.proofs.faults.push_cell_fault.Goals as goal
+use Rattle.lvl_text.proofs.faults.push_cell_fault.Goals as goal
 
 pub returns-in_ok-push_name-in-MissingCell : goal.returns-in_ok-push_name-in-MissingCell
 returns-in_ok-push_name-in-MissingCell c =

@@ -1,8 +1,8 @@
 //! What a GDSII file says about itself, and why one is refused, as text.
 ghost use Rattle.std.specs.Prelude.{◌≡◌, ◌++◌, flat_map, OnOk};
-ghost use Rattle.lvl_report.specs.Faults.{spaced};
-ghost use Rattle.lvl_report.specs.Gds.{hex, hex_byte, gds_head_text, record_fault, misplaced_record, element_rule};
-ghost use Rattle.lvl_report.specs.Gds.{gds_fault};
+ghost use Rattle.lvl_text.specs.Faults.{spaced};
+ghost use Rattle.lvl_text.specs.Gds.{hex, hex_byte, gds_head_text, record_fault, misplaced_record, element_rule};
+ghost use Rattle.lvl_text.specs.Gds.{gds_fault};
 
 use crate::faults::path_fault;
 use gds_library::{ElementRule, GdsHead, GdsKind, Misplaced, RecordFault};
@@ -17,7 +17,7 @@ fn push_hex_byte(text: &mut Vec<u8>, byte: u8) -> io::Result<()>
 }
 
 /// Appends each byte as two hexadecimal digits.
-pub(crate) fn push_hex(text: &mut Vec<u8>, bytes: &[u8]) -> io::Result<()>
+pub fn push_hex(text: &mut Vec<u8>, bytes: &[u8]) -> io::Result<()>
     ensures { OnOk result (text.new.items ≡ text.old.items ++ hex bytes.now) }
 {
     for byte in bytes {
@@ -38,7 +38,7 @@ fn push_units(text: &mut Vec<u8>, units: &[[u8; 8]]) -> io::Result<()>
 }
 
 /// Appends what a GDSII file says about itself.
-pub(crate) fn push_gds_head(text: &mut Vec<u8>, head: &GdsHead) -> io::Result<()>
+pub fn push_gds_head(text: &mut Vec<u8>, head: &GdsHead) -> io::Result<()>
     ensures { OnOk result (text.new.items ≡ text.old.items ++ gds_head_text head.now) }
 {
     let version = head.version;
@@ -96,7 +96,7 @@ fn push_rule(text: &mut Vec<u8>, rule: ElementRule) -> io::Result<()>
 }
 
 /// Appends a fault of a GDSII stream.
-pub(crate) fn push_gds_fault(text: &mut Vec<u8>, kind: GdsKind) -> io::Result<()>
+pub fn push_gds_fault(text: &mut Vec<u8>, kind: GdsKind) -> io::Result<()>
     ensures { OnOk result (text.new.items ≡ text.old.items ++ gds_fault kind) }
 {
     match kind {

@@ -14,7 +14,7 @@ use Rattle.gds_library.specs.declared.fault.GdsKind.{GdsKind}
 use Rattle.gds_library.specs.declared.fault.GdsKind.TheVariants.{Record, Misplaced, Element, Name as CellName, AfterEnd}
 use Rattle.gds_library.specs.declared.fault.GdsKind.TheVariants.{TooManyCells}
 use Rattle.gds_library.specs.declared.head.GdsHead.{GdsHead}
-use Rattle.lvl_report.specs.Faults.{spaced, path_fault}
+use Rattle.lvl_text.specs.Faults.{spaced, path_fault}
 
 -- a byte as two hexadecimal digits in lower case
 abbrev pub hex_byte : ℕ → List ℕ

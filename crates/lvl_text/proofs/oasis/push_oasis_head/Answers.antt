@@ -1,6 +1,6 @@
 use Rattle.std.proofs.Common.{append_assoc, rules}
 use Rattle.std.proofs.lemmas.Result.{IfOk-equal}
-use Rattle.lvl_report.proofs.oasis.push_oasis_head.Goals as goal
+use Rattle.lvl_text.proofs.oasis.push_oasis_head.Goals as goal
 
 pub returns : goal.returns
 returns c =
