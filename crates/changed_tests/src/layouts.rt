@@ -4,7 +4,7 @@
 //! semicolon between them. A cell is its name and then words: `0..2` is a box from 0 to 2, one high, on
 //! the layer 1, `0..2@2` one on the layer 2, and `A,5,3,90` places the cell A three times, ten steps apart
 //! from 5 on, turned by 90 degrees; `-90` reflects it first.
-use lvl_cells::{Builder, Checked, Reference, check};
+use lvl_cells::{Builder, Checked, Library, Reference, check};
 use lvl_flat::Fitted;
 use lvl_grid::{Point, Ring, Turn};
 use lvl_names::{Layer, Name, Offsets};
@@ -76,14 +76,23 @@ fn add_cell(alloc: Global, cells: &mut Builder, text: &str) -> Result<(), Fail> 
     Ok(())
 }
 
+fn add_cells(alloc: Global, cells: &mut Builder, text: &str) -> Result<(), Fail> {
+    for cell in text.split(';') {
+        add_cell(alloc, cells, cell)?;
+    }
+    Ok(())
+}
+
+fn built(alloc: Global, text: &str) -> Result<Library, Fail> {
+    let mut cells = Builder::new(alloc);
+    add_cells(alloc, &mut cells, text)?;
+    Ok(cells.finish())
+}
+
 /// The library that the text says, checked.
 pub(crate) fn library(alloc: Global, text: &str) -> Result<Checked, Fail> {
-    let mut cells = Builder::new(alloc);
-    for cell in text.split(';') {
-        add_cell(alloc, &mut cells, cell)?;
-    }
     let top = text.split_whitespace().next().ok_or("a top")?;
-    Ok(check(alloc, cells.finish(), Some(top.as_bytes()))?)
+    Ok(check(alloc, built(alloc, text)?, Some(top.as_bytes()))?)
 }
 
 /// The same, which is to fit 64 bits.

@@ -1,5 +1,5 @@
 //! Made pairs of libraries: the second is the first with one part exchanged, and written in another order.
-use crate::layouts::{Pair, fitted};
+use crate::layouts::{Pair, fitted_pair};
 use lvl_changed::{difference_by_changes, same_by_cells};
 use lvl_compare::difference_by_strips;
 use lvl_view::View;
@@ -156,24 +156,24 @@ fn cells_agree(alloc: Global, pair: &Pair) -> Result<bool, AllocError> {
 }
 
 /// Whether every comparison of a pair agrees, and whether it differs under the view.
-fn judged(alloc: Global, pair: &Pair, view: &View) -> Result<(bool, bool), AllocError> {
+fn judged(alloc: Global, pair: &Pair, view: &View) -> Result<(bool, bool), Fail> {
     let (agrees, differs) = compared(alloc, pair, view)?;
     Ok((agrees && cells_agree(alloc, pair)?, differs))
 }
 
 /// The library of these parts, and that of the others in another order.
 fn pair_of(alloc: Global, parts: Parts, others: Parts) -> Result<Pair, Fail> {
-    let first = fitted(alloc, &library_text(alloc, parts)?)?;
-    let second = fitted(alloc, &text_in_another_order(alloc, others)?)?;
-    Ok(Pair { first, second })
+    let ours = library_text(alloc, parts)?;
+    let theirs = text_in_another_order(alloc, others)?;
+    fitted_pair(alloc, ours.as_str(), theirs.as_str())
 }
 
 /// The same of a made pair.
 fn made_pair(alloc: Global, seed: u64) -> Result<(bool, bool), Fail> {
     let parts = made(seed);
-    let pair = pair_of(alloc, parts, with_one_changed(parts, next_made(seed)))?;
     let view = made_view(alloc, next_made(next_made(seed)))?;
-    Ok(judged(alloc, &pair, &view)?)
+    let pair = pair_of(alloc, parts, with_one_changed(parts, next_made(seed)))?;
+    judged(alloc, &pair, &view)
 }
 
 #[test]

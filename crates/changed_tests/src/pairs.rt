@@ -100,11 +100,9 @@ and in a cell renamed | T A,0,8,0 M,-1000,1,0; M B,9223372036854775800,1,0; A 0.
 ";
 
 /// What changes find, and whether strips find the same.
-fn found_twice(
-    alloc: Global,
-    pair: &Pair,
-    most: usize,
-) -> Result<(Option<(Layer, Square, Side)>, bool), Fail> {
+type Found = (Option<(Layer, Square, Side)>, bool);
+
+fn found_twice(alloc: Global, pair: &Pair, most: usize) -> Result<Found, Fail> {
     let view = View::whole(alloc);
     let found = difference_by_changes(alloc, &pair.first, &pair.second, &view, most)?;
     let plain = difference_by_strips(alloc, &pair.first, &pair.second, &view, most)?;
@@ -176,12 +174,22 @@ fn windows_of(alloc: Global, pair: &Pair) -> Result<usize, Fail> {
     Ok(windows.ok_or("windows")?.len())
 }
 
+/// How many windows there are, and what `found_twice` finds with few points for a strip.
+fn windows_and_found(alloc: Global, pair: &Pair) -> Result<(usize, Found), Fail> {
+    Ok((windows_of(alloc, pair)?, found_twice(alloc, pair, 16)?))
+}
+
+/// The same of many windows.
+fn found_in_many(alloc: Global) -> Result<(usize, Found), Fail> {
+    let pair = many_changed(alloc)?;
+    windows_and_found(alloc, &pair)
+}
+
 /// Of many windows 64 are kept, and no square is lost.
 #[test]
 fn many_windows(rt: HostRuntime) -> Result<(), Fail> {
-    let pair = many_changed(rt.alloc())?;
-    assert_eq!(rt; windows_of(rt.alloc(), &pair)?, 64);
-    let (found, is_plain) = found_twice(rt.alloc(), &pair, 16)?;
+    let (windows, (found, is_plain)) = found_in_many(rt.alloc())?;
+    assert_eq!(rt; windows, 64);
     assert!(rt; is_plain);
     assert_eq!(rt; found, Some((METAL, Square { x: 5, y: 0 }, Side::Second)));
     Ok(())
@@ -227,11 +235,19 @@ fn growing(alloc: Global) -> Result<Pair, Fail> {
     fitted_pair(alloc, ours, theirs)
 }
 
+fn are_changes_right(alloc: Global, pair: &Pair) -> Result<(bool, bool), Fail> {
+    let is_within = changes_within(alloc, pair, " 90,0,92,1")?;
+    Ok((is_within, differs_by(alloc, pair, "1 91 0 second")?))
+}
+
+fn changes_of_growing(alloc: Global) -> Result<(bool, bool), Fail> {
+    let pair = growing(alloc)?;
+    are_changes_right(alloc, &pair)
+}
+
 /// Run with each allocation refused in turn: it ends with that, or each answer is the libraries' own.
 #[test]
 fn growths_of_changes(rt: HostRuntime) -> Result<(), Fail> {
-    let pair = growing(rt.alloc())?;
-    assert!(rt; changes_within(rt.alloc(), &pair, " 90,0,92,1")?);
-    assert!(rt; differs_by(rt.alloc(), &pair, "1 91 0 second")?);
+    assert_eq!(rt; changes_of_growing(rt.alloc())?, (true, true));
     Ok(())
 }

@@ -54,7 +54,7 @@ fn is_right(
     view: &View,
     windows: &str,
     want: &str,
-) -> Result<bool, AllocError> {
+) -> Result<bool, Fail> {
     if changed_text(alloc, pair, view)?.as_str() != windows {
         return Ok(false);
     }
@@ -70,7 +70,7 @@ fn is_row_right(alloc: Global, row: &str) -> Result<bool, Fail> {
     let (windows, want) = cut(row, " | ");
     let view = View::read(alloc, Some(map), None)?;
     let pair = fitted_pair(alloc, ours, theirs)?;
-    Ok(is_right(alloc, &pair, &view, windows, want)?)
+    is_right(alloc, &pair, &view, windows, want)
 }
 
 #[test]
@@ -103,13 +103,25 @@ fn differs_in(alloc: Global, pair: &Pair, window: &str, want: &str) -> Result<bo
     Ok(found_text(alloc, found)?.as_str() == want)
 }
 
-#[test]
-fn windows_of_views(rt: HostRuntime) -> Result<(), Fail> {
-    let pair = with_one_moved(rt.alloc())?;
+/// The first window whose square is another.
+fn wrong_window(alloc: Global, pair: &Pair) -> Result<Option<&'static str>, Fail> {
     for row in SHOWN.lines() {
         let (window, want) = cut(row, " | ");
-        assert!(rt; differs_in(rt.alloc(), &pair, window, want)?, "{window}");
+        if !differs_in(alloc, pair, window, want)? {
+            return Ok(Some(window));
+        }
     }
+    Ok(None)
+}
+
+fn wrong_window_of_moved(alloc: Global) -> Result<Option<&'static str>, Fail> {
+    let pair = with_one_moved(alloc)?;
+    wrong_window(alloc, &pair)
+}
+
+#[test]
+fn windows_of_views(rt: HostRuntime) -> Result<(), Fail> {
+    assert_eq!(rt; wrong_window_of_moved(rt.alloc())?, None);
     Ok(())
 }
 
@@ -156,14 +168,26 @@ fn differs_alone(
     Ok(found_text(alloc, found)?.as_str() == want)
 }
 
-#[test]
-fn windows_alone(rt: HostRuntime) -> Result<(), Fail> {
-    let pair = with_more(rt.alloc())?;
+/// The first row whose square is another.
+fn wrong_row(alloc: Global, pair: &Pair) -> Result<Option<&'static str>, Fail> {
     for row in ALONE.lines() {
         let (windows, want) = cut(row, " | ");
         let windows = two_windows(windows)?;
-        assert!(rt; differs_alone(rt.alloc(), &pair, &windows, want)?, "{row}");
+        if !differs_alone(alloc, pair, &windows, want)? {
+            return Ok(Some(row));
+        }
     }
+    Ok(None)
+}
+
+fn wrong_row_of_more(alloc: Global) -> Result<Option<&'static str>, Fail> {
+    let pair = with_more(alloc)?;
+    wrong_row(alloc, &pair)
+}
+
+#[test]
+fn windows_alone(rt: HostRuntime) -> Result<(), Fail> {
+    assert_eq!(rt; wrong_row_of_more(rt.alloc())?, None);
     Ok(())
 }
 
