@@ -207,14 +207,42 @@ two_tops_by cells targets order root l t o first h =
       second_free = a_free;
     }) o2) (order_of_two root h.other)
 
--- if only the root is unmarked, some cell refers to each other cell
-pub no_other : (marks : List Bool) (targets : List (List ℕ)) (root n : ℕ)
-    → ((k : ℕ) → (slice_get marks k ≡ Some true) ↔ IsTarget targets k)
-    → ((j : ℕ) → j < n → slice_get marks j ≡ Some false → j ≡ root) → length marks ≤ n → length marks ≡ length targets
-    → HasOtherRoot targets root → ⊥
-no_other marks targets root n marked only past long h =
-    let at = item_there marks h.other (omega (arith, h.low, long)) in
-    elim at.0 as (λ b. slice_get marks h.other ≡ Some b → ⊥) [
-      | true ↦ λ e. h.free ((marked h.other).0 e)
-      | false ↦ λ e. h.apart (only h.other (omega (arith, h.low, long, past)) e)
-    ] at.1
+-- the root is passed
+pub root_passed : (marks : List Bool) (root n : ℕ) → ((j : ℕ) → j < n → slice_get marks j ≡ Some false → j ≡ root)
+    → n ≡ root → (j : ℕ) → j < n + 1 → slice_get marks j ≡ Some false → j ≡ root
+root_passed marks root n only is j low e =
+    ⊎_elim (λ s. s ∙ is) (λ apart. only j (omega (arith, low, apart)) e) (same_or_not j n)
+
+-- a mark that is set is passed
+pub set_passed : (marks : List Bool) (root n : ℕ) → ((j : ℕ) → j < n → slice_get marks j ≡ Some false → j ≡ root)
+    → slice_get marks n ≡ Some true → (j : ℕ) → j < n + 1 → slice_get marks j ≡ Some false → j ≡ root
+set_passed marks root n only is j low e =
+    ⊎_elim (λ s. let same : false ≡ true = one_answer (subst (λ q. slice_get marks q ≡ Some false) s e) is in cc)
+    (λ apart. only j (omega (arith, low, apart)) e) (same_or_not j n)
+
+-- another mark than that of the root is unset
+abbrev pub HasOtherUnset : List Bool → ℕ → Type 0
+HasOtherUnset marks root = (k : ℕ) × (k ≢ root) × (slice_get marks k ≡ Some false)
+
+pub none_other : (marks : List Bool) (root n : ℕ) → ((j : ℕ) → j < n → slice_get marks j ≡ Some false → j ≡ root)
+    → length marks ≤ n → HasOtherUnset marks root → ⊥
+none_other marks root n only past w =
+    w.1 (only w.0 (omega (arith, past, slice_get_within marks w.0 false w.2)) w.2)
+
+-- another mark than that of the root is unset exactly if there is another root
+pub other_root : (marks : List Bool) (targets : List (List ℕ)) (root : ℕ)
+    → ((k : ℕ) → (slice_get marks k ≡ Some true) ↔ IsTarget targets k) → length marks ≡ length targets
+    → HasOtherUnset marks root ↔ HasOtherRoot targets root
+other_root marks targets root marked long = (
+  λ w. record {
+    other = w.0;
+    low = omega (arith, long, slice_get_within marks w.0 false w.2);
+    apart = w.1;
+    free = λ t. let same : false ≡ true = one_answer w.2 ((marked w.0).1 t) in cc;
+  },
+  λ h. let at = item_there marks h.other (omega (arith, h.low, long)) in
+      elim at.0 as (λ b. slice_get marks h.other ≡ Some b → HasOtherUnset marks root) [
+        | true ↦ λ e. absurd (h.free ((marked h.other).0 e))
+        | false ↦ λ e. (h.other, h.apart, e)
+      ] at.1,
+)

@@ -41,6 +41,7 @@ mod counts;
 mod fault;
 mod forms;
 mod layers;
+mod lists;
 mod library;
 mod moved;
 mod names;
