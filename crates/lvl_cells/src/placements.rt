@@ -4,7 +4,7 @@ ghost use Rattle.lvl_grid.specs.Turn.{shifted, FitsPoint};
 ghost use Rattle.lvl_cells.specs.inside.Spans.{IsPrefixOf};
 ghost use Rattle.lvl_cells.specs.inside.Placings.{IsAt, IsPlacing, placement_by};
 
-use crate::lists::{push_item, reserve_first};
+use crate::lists::{push_item, push_lean};
 use crate::shape_lists::kept_count;
 use lvl_grid::{Map, Point, Turn};
 use lvl_names::Offsets;
@@ -53,8 +53,7 @@ fn keep_single(kept: &mut Vec<Offsets>) -> Result<(), AllocError>
     if !kept.is_empty() {
         return Ok(());
     }
-    reserve_first(kept)?;
-    push_item(kept, Offsets::single())
+    push_lean(kept, Offsets::single())
 }
 
 /// The index of a list of shifts that is kept: the first, if both are the zero shift alone, or the
@@ -134,14 +133,14 @@ impl Placements {
     {
         let key = kept_count(key)?;
         let number = index_of_shifts(&mut self.shifts, shifts)?;
-        reserve_first(&mut self.placings)?;
-        self.placings.push(Placing {
+        let placing = Placing {
             at: by.at,
             key,
             shifts: number,
             flip: by.flip,
             turn: by.turn,
-        })?;
+        };
+        push_lean(&mut self.placings, placing)?;
         Ok(())
     }
 }

@@ -5,7 +5,7 @@ ghost use Rattle.lvl_cells.specs.Cells.{reference_to};
 ghost use Rattle.lvl_cells.specs.inside.Spans.{IsPrefixOf};
 ghost use Rattle.lvl_cells.specs.inside.Placings.{IsAt};
 
-use crate::lists::{push_item, reserve_first};
+use crate::lists::push_lean;
 use crate::placements::Placements;
 use crate::reference::{KeptReference, Reference};
 use lvl_grid::Map;
@@ -53,8 +53,7 @@ fn index_of_name(names: &mut Vec<Name>, name: Name) -> Result<usize, AllocError>
         return Ok(index);
     }
     let index = names.len();
-    reserve_first(names)?;
-    push_item(names, name)?;
+    push_lean(names, name)?;
     Ok(index)
 }
 
