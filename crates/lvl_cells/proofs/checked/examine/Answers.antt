@@ -44,3 +44,26 @@ returns-clause-ok c =
     settled_by c.args.cells.now (option_copied c.args.given) c.in_ok-order.order.items c.in_ok-top.top
     c.in_ok-targets.ensures.linked c.in_ok-order.ensures.ok c.in_ok-top.ensures.ok.0 c.in_ok-top.ensures.ok.1
     c.in_ok-check_counts.ensures.ok
+
+pub returns-in_err-targets-clause-err : goal.returns-in_err-targets-clause-err
+returns-in_err-targets-clause-err c =
+    let p = err_from_is_err_and c.from_residual.result c.from_residual.ensures.1 in
+    rw (p.1, p.2) c.in_err-targets.ensures.err
+
+pub order_of-requires-clause-targets : goal.order_of-requires-clause-targets
+order_of-requires-clause-targets c = c.in_ok-targets.ensures.targets
+
+pub top_of-requires-clause-index : goal.top_of-requires-clause-index
+top_of-requires-clause-index c = c.in_ok-targets.ensures.index
+
+pub top_of-requires-clause-targets : goal.top_of-requires-clause-targets
+top_of-requires-clause-targets c = c.in_ok-targets.ensures.targets
+
+pub check_counts-requires-clause-targets : goal.check_counts-requires-clause-targets
+check_counts-requires-clause-targets c = c.in_ok-targets.ensures.targets
+
+pub check_counts-requires-clause-top : goal.check_counts-requires-clause-top
+check_counts-requires-clause-top c = c.in_ok-top.ensures.ok.1
+
+pub returns-clause-targets : goal.returns-clause-targets
+returns-clause-targets c = c.in_ok-targets.ensures.targets

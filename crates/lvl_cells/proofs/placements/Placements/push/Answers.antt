@@ -5,6 +5,10 @@ use Rattle.lvl_cells.proofs.Spanned.{always_err}
 use Rattle.lvl_cells.proofs.placements.Placements.push.Goals.{In_ok-push_lean}
 use Rattle.lvl_cells.proofs.placements.Placements.push.Goals as goal
 
+pub invariant_of-self : goal.invariant_of-self
+invariant_of-self c =
+    still _ _ c.self.inside.placings.items c.index_of_shifts.ensures.before c.self.invariant
+
 pub returns-in_err-number-clause-kept : goal.returns-in_err-number-clause-kept
 returns-in_err-number-clause-kept c =
     always_err c.from_residual-in_err-number.result
