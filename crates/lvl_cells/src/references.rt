@@ -54,26 +54,18 @@ fn smallest(alloc: Global, lists: ReferenceLists) -> Result<Stored, AllocError>
     }
 }
 
-/// Adds two references to empty lists.
-fn push_both(
-    lists: &mut ReferenceLists,
+/// The lists of two references.
+fn lists_of(
+    alloc: Global,
     first: &Reference,
     second: Reference,
-) -> Result<(), AllocError>
-    requires { lists.old ≡ [] }
-    ensures { OnOk result (lists.new ≡ first.now ∷ second ∷ []) }
-{
-    lists.push(first.kept().copied()?)?;
-    lists.push(second)
-}
-
-/// Two references, stored as lists.
-fn several(alloc: Global, first: &Reference, second: Reference) -> Result<Stored, AllocError>
-    ensures { IfOk result (λ stored. stored_list stored ≡ first.now ∷ second ∷ []) }
+) -> Result<ReferenceLists, AllocError>
+    ensures { IfOk result (λ lists. lists ≡ first.now ∷ second ∷ []) }
 {
     let mut lists = ReferenceLists::new(alloc);
-    push_both(&mut lists, first, second)?;
-    Ok(Stored::Several(Box::new(alloc, lists)?))
+    lists.push(first.kept().copied()?)?;
+    lists.push(second)?;
+    Ok(lists)
 }
 
 impl References {
@@ -149,8 +141,11 @@ impl References {
     {
         match &mut self.stored {
             Stored::None => self.stored = Stored::One(Box::new(self.alloc, reference)?),
-            Stored::One(first) => self.stored = several(self.alloc, first, reference)?,
-            Stored::Several(lists) => return lists.push(reference),
+            Stored::One(first) => {
+                let lists = lists_of(self.alloc, first, reference)?;
+                self.stored = Stored::Several(Box::new(self.alloc, lists)?);
+            }
+            Stored::Several(lists) => lists.push(reference)?,
         }
         Ok(())
     }

@@ -55,7 +55,7 @@ fn run_of(runs: &[Run], reference: usize) -> usize
 }
 
 /// The targets of the references of a cell.
-#[derive(Debug, Drop)]
+#[derive(Drop)]
 pub(crate) struct Row<'a> {
     runs: &'a [Run],
 }

@@ -1,4 +1,4 @@
-use Rattle.std.proofs.Common.{◌≡◌, List, [], length, replicate, sym, ◌∙◌, subst}
+use Rattle.std.proofs.Common.{◌≡◌, List, [], replicate, sym, ◌∙◌, subst}
 use Rattle.lvl_cells.specs.declared.walk.Visit.{Visit}
 use Rattle.lvl_cells.specs.declared.walk.Mark.TheVariants.{New}
 use Rattle.lvl_cells.specs.Soundness.{IsOrder}

@@ -1,4 +1,4 @@
-use Rattle.std.proofs.Common.{◌++◌, ◌∷◌, [], refl, sym, subst, ap, ◌∙◌}
+use Rattle.std.proofs.Common.{refl, sym, subst, ap, ◌∙◌}
 use Rattle.lvl_cells.specs.declared.placements.Placing.{Placing}
 use Rattle.lvl_cells.proofs.Placed.{ArePlacings, AreMore, placements_in, one_more, refused, still}
 use Rattle.lvl_cells.proofs.Spanned.{always_err}
