@@ -1,6 +1,6 @@
 //! The top of a library.
-ghost use Rattle.std.specs.Prelude.{◌≡◌, ◌≢◌, ℕ, ◌<◌, ◌↔◌, ◌⊎◌, true, false, length, slice_get, vec_len, All, Contains, Some};
-ghost use Rattle.std.specs.Prelude.{IsTrue, IfOk, IfErr, option_copied};
+ghost use Rattle.std.specs.Prelude.{◌≡◌, ◌≢◌, ℕ, ◌<◌, ◌↔◌, ◌⊎◌, true, length, slice_get, vec_len, All, Contains, Some};
+ghost use Rattle.std.specs.Prelude.{false, IsTrue, IfOk, IfErr, option_copied};
 ghost use Rattle.lvl_cells.specs.Cells.{names};
 ghost use Rattle.lvl_cells.specs.Resolving.{IsPlaceOf};
 ghost use Rattle.lvl_cells.specs.Soundness.{AreLinked, IsOrder, IsTop};

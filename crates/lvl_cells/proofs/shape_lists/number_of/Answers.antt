@@ -24,7 +24,8 @@ returns-clause-before c =
 
 pub returns-clause-number : goal.returns-clause-number
 returns-clause-number c =
-    let added = c.in_ok-push_item.ensures.added ∙ ap (λ s. c.args.kept.now.items ++ s ∷ []) c.in_ok-clone.ensures.cases in
+    let added =
+    c.in_ok-push_item.ensures.added ∙ ap (λ s. c.args.kept.now.items ++ s ∷ []) c.in_ok-clone.ensures.cases in
     IfOk-weaker c.kept_count-2.result _ (λ n. HasNumber c.push_item.new.list.items n c.args.shifts.now)
     (λ n is. last_number c.args.kept.now.items c.push_item.new.list.items c.args.shifts.now n added
     (omega (arith, is.0, c.len-2.ensures))) c.kept_count-2.ensures
