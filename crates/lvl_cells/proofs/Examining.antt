@@ -1,7 +1,7 @@
 -- The faults of the steps are faults of the library.
 use Rattle.std.proofs.Common.{◌≡◌, ℕ, zero, suc, ◌+◌, ◌<◌, ◌≤◌, min, ◌-◌, true, false, cond, get_or, ◌⊎◌, inl, inr}
-use Rattle.std.proofs.Common.{⊎_elim, List, [], ◌∷◌, map, length, Option, Some, IfSome, All, Contains, refl, ap, ◌∙◌}
-use Rattle.std.proofs.Common.{subst, arith}
+use Rattle.std.proofs.Common.{⊎_elim, List, [], ◌∷◌, map, length, Option, Some, IfSome, All, Contains, refl, sym, ap}
+use Rattle.std.proofs.Common.{◌∙◌, subst, arith}
 use Rattle.std.specs.List.{slice_get, IsDistinct}
 use Rattle.std.specs.Str.{bytes_eq}
 use Rattle.std.proofs.lemmas.Option.{slice_get-get_or, slice_get_within, get_or_from_slice_get, slice_get-map}
@@ -15,7 +15,7 @@ use Rattle.lvl_cells.specs.Chains.{over_chains, own_rings, most_placed}
 use Rattle.lvl_cells.specs.Soundness.{links, AreLinked, IsRanked, IsTop, IsOrder}
 use Rattle.lvl_cells.specs.Faults.{IsFaultOf}
 use Rattle.lvl_cells.specs.inside.Steps.{AreAllTargets, IsCycleFault, IsTopFault}
-use Rattle.lvl_cells.specs.Checks.{IsSettled}
+use Rattle.lvl_cells.specs.Checks.{IsSettled, PlacesFew}
 use Rattle.lvl_cells.specs.declared.fault.CellFault.{CellFault}
 use Rattle.lvl_cells.specs.declared.fault.CellFault.TheVariants.{Cycle, TopMissing}
 use Rattle.lvl_cells.specs.declared.fault.CellFault.TheVariants.{ManyTops, TooManyPlacements, TooManyRings}
@@ -195,22 +195,33 @@ too_many_rings cells given k few sum l r t h s m s2 m2 =
       counts = (omega (arith, e, m), omega (arith, e2, m2));
     }
 
-pub settled_by : (cells : List (PlainCell Rings)) (given : Option (List ℕ)) (order : List ℕ) (k : ℕ) (few sum : ℕ)
-    → AreLinked cells → IsOrder cells order → IsTop cells given k → k < length cells
+-- two sums that are capped, and within the limit, are exact
+pub places_few : (cells : List (PlainCell Rings)) (k : ℕ) (few sum : ℕ) → k < length cells
     → IfSome (slice_get cells k) (λ d. few ≡ min (most_placed + 1) (over_chains (λ _. 1) cells (length cells) d))
     → few ≤ most_placed
     → IfSome (slice_get cells k)
     (λ d. sum ≡ min (most_placed + 1) (over_chains (own_rings each_ring) cells (length cells) d)) → sum ≤ most_placed
-    → IsSettled given (record { cells = cells; top = k; order = order })
-settled_by cells given order k few sum l o t h s m s2 m2 =
+    → IfSome (slice_get cells k) (PlacesFew cells)
+places_few cells k few sum h s m s2 m2 =
     let at = item_there cells k h in
     let e = sum_at cells k at.0 (λ _. 1) few at.1 s in
     let e2 = sum_at cells k at.0 (own_rings each_ring) sum at.1 s2 in
+    let counts : PlacesFew cells at.0 =
+    record { few_chains = omega (arith, e, m); few_rings = omega (arith, e2, m2) } in
+    subst (λ o. IfSome o (PlacesFew cells)) (sym at.1) counts
+
+pub settled_by : (cells : List (PlainCell Rings)) (given : Option (List ℕ)) (order : List ℕ) (k : ℕ)
+    → AreLinked cells → IsOrder cells order → IsTop cells given k → k < length cells
+    → IfSome (slice_get cells k) (PlacesFew cells)
+    → IsSettled given (record { cells = cells; top = k; order = order })
+settled_by cells given order k l o t h few =
+    let at = item_there cells k h in
+    let counts : PlacesFew cells at.0 = rw at.1 at few in
     record {
       cell = at.0;
       sound = record { linked = l; ranked = ranked_by cells order l o; is_top = t };
       sorted = o;
       is = at.1;
-      few_chains = omega (arith, e, m);
-      few_rings = omega (arith, e2, m2);
+      few_chains = counts.few_chains;
+      few_rings = counts.few_rings;
     }

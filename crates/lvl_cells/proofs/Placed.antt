@@ -1,6 +1,7 @@
 -- Placements as they are stored, and references to names: they stay the same after more is kept, and one more.
-use Rattle.std.proofs.Common.{◌≡◌, ◌<◌, ℕ, get_or, List, [], ◌∷◌, ◌++◌, map, length, All, refl, sym, ap, arith, ◌∙◌}
-use Rattle.std.proofs.lemmas.List.{get_or-take, map-append}
+use Rattle.std.proofs.Common.{◌≡◌, ◌<◌, ℕ, get_or, List, [], ◌∷◌, ◌++◌, map, length, All, refl, sym, ap}
+use Rattle.std.proofs.Common.{subst, arith, ◌∙◌}
+use Rattle.std.proofs.lemmas.List.{get_or-take, length-append, map-append}
 use Rattle.std.proofs.lemmas.List.Elements.{All-head, All-push, All-tail, All-weaker}
 use Rattle.lvl_grid.specs.declared.point.Point.{Point}
 use Rattle.lvl_grid.specs.Turn.{FitsPoint, shifted}
@@ -8,6 +9,8 @@ use Rattle.lvl_cells.specs.declared.placements.Placing.{Placing}
 use Rattle.lvl_cells.specs.Cells.{PlainPlacement, PlainReference, reference_to}
 use Rattle.lvl_cells.specs.inside.Placings.{placement_by, placement_in, IsAt, IsPlacing}
 use Rattle.lvl_cells.specs.inside.Spans.{IsPrefixOf}
+use Rattle.std.proofs.lemmas.Option.{get_or_from_slice_get}
+use Rattle.lvl_cells.proofs.Indexes.{push_last}
 use Rattle.lvl_cells.proofs.Spanned.{no_fewer}
 
 -- the placements that are stored so
@@ -20,6 +23,18 @@ ArePlacings kept placings = All (IsPlacing kept) placings
 item_same : {X : Type 0} (old new : List (List X)) (n : ℕ) → IsPrefixOf old new → n < length old
     → get_or new n [] ≡ get_or old n []
 item_same old new n g h = sym (get_or-take (length old) new n [] h) ∙ ap (λ ks. get_or ks n []) g
+
+-- the item that is appended is at the last index
+pub at_last : {X : Type 0} (old new : List (List X)) (item : List X) (i : ℕ) → new ≡ old ++ item ∷ [] → i ≡ length old
+    → IsAt new i item
+at_last old new item i is e =
+    subst (λ xs. IsAt xs i item) (sym is)
+    (record {
+      within = omega (arith, e, length-append old (item ∷ []));
+      is =
+          ap (λ k. get_or (old ++ item ∷ []) k []) e
+          ∙ get_or_from_slice_get (old ++ item ∷ []) (length old) item [] (push_last old item);
+    })
 
 -- a placing stays valid and means the same placement after more lists are kept
 record IsStill (kept kept' : List (List Point)) (p : Placing) : Type 0 where

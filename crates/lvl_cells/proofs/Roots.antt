@@ -1,18 +1,18 @@
 -- The cells to which no cell refers.
 use Rattle.std.proofs.Common.{◌≡◌, ◌≢◌, ℕ, zero, suc, ◌+◌, ◌<◌, ◌≤◌, set, Bool, true, false, List, [], ◌∷◌, ◌++◌, map}
 use Rattle.std.proofs.Common.{length, ◌⊎◌, inl, inr, ⊎_elim, ◌↔◌, Some, None, Contains, refl, sym, ap, ◌∙◌, subst}
-use Rattle.std.proofs.Common.{take, drop, arith}
+use Rattle.std.proofs.Common.{take, drop, get_or, replicate, All, arith}
 use Rattle.std.specs.List.{slice_get}
 use Rattle.std.specs.Option.{option_map}
-use Rattle.std.proofs.lemmas.List.{append-nil}
+use Rattle.std.proofs.lemmas.List.{append-nil, get_or-replicate, length-replicate}
 use Rattle.lvl_cells.proofs.NamedTargets.{take_past}
 use Rattle.std.proofs.lemmas.List.Elements.{All-contains}
-use Rattle.std.proofs.lemmas.Option.{slice_get-map, slice_get_within}
+use Rattle.std.proofs.lemmas.Option.{get_or_from_slice_get, slice_get-map, slice_get_within}
 use Rattle.lvl_cells.specs.Cells.{PlainCell, Rings, names}
 use Rattle.lvl_cells.specs.Soundness.{links, AreLinked, IsReferred, IsOrder, IsTop}
 use Rattle.lvl_cells.specs.Faults.{HasTwoTops}
 use Rattle.lvl_cells.specs.inside.Steps.{AreAllTargets}
-use Rattle.lvl_cells.specs.inside.Walking.{IsArc}
+use Rattle.lvl_cells.specs.inside.Walking.{IsArc, EachTargetWithin}
 use Rattle.lvl_cells.specs.inside.Topping.{IsTarget, HasOtherRoot}
 use Rattle.lvl_names.proofs.Elements.{contains_at, at_contains}
 use Rattle.lvl_cells.proofs.Arcs.{order_of_two, link_of, arc_from_link, link_from_arc}
@@ -77,6 +77,25 @@ written_whole old new n h e =
 abbrev pub AreMarkedBefore : List Bool → List (List ℕ) → ℕ → Type 0
 AreMarkedBefore marks targets i =
     (k : ℕ) → (slice_get marks k ≡ Some true) ↔ ((a : ℕ) × (j : ℕ) × (a < i) × IsArc targets a j k)
+
+-- at first no target is marked
+pub none_marked : (n : ℕ) (targets : List (List ℕ)) → AreMarkedBefore (replicate n false) targets 0
+none_marked n targets k = (
+  λ h. let low : k < n = omega (arith, slice_get_within (replicate n false) k true h, length-replicate n false) in
+      let no : false ≡ true =
+      sym (get_or-replicate n k false true low) ∙ get_or_from_slice_get (replicate n false) k true true h in
+      cc,
+  λ w. absurd (omega (arith, w.2)),
+)
+
+-- the targets of each row are within the number of cells
+pub row_within : (targets : List (List ℕ)) (i : ℕ) (ts : List ℕ) (n : ℕ) → slice_get targets i ≡ Some ts
+    → n ≡ length targets → EachTargetWithin targets (length targets) → All (λ k. k < n) ts
+row_within targets i ts n at long within =
+    let low : i < length targets = slice_get_within targets i ts at in
+    let row : get_or targets i ts ≡ ts = get_or_from_slice_get targets i ts ts at in
+    let all : All (λ k. k < length targets) (get_or targets i ts) = within i ts low in
+    subst (λ m. All (λ k. k < m) ts) (sym long) (subst (λ (us : List ℕ). All (λ k. k < length targets) us) row all)
 
 pub referred_more : (old new : List Bool) (targets : List (List ℕ)) (i : ℕ) (ts : List ℕ)
     → slice_get targets i ≡ Some ts → AreMarkedBefore old targets i
@@ -207,14 +226,42 @@ two_tops_by cells targets order root l t o first h =
       second_free = a_free;
     }) o2) (order_of_two root h.other)
 
--- if only the root is unmarked, some cell refers to each other cell
-pub no_other : (marks : List Bool) (targets : List (List ℕ)) (root n : ℕ)
-    → ((k : ℕ) → (slice_get marks k ≡ Some true) ↔ IsTarget targets k)
-    → ((j : ℕ) → j < n → slice_get marks j ≡ Some false → j ≡ root) → length marks ≤ n → length marks ≡ length targets
-    → HasOtherRoot targets root → ⊥
-no_other marks targets root n marked only past long h =
-    let at = item_there marks h.other (omega (arith, h.low, long)) in
-    elim at.0 as (λ b. slice_get marks h.other ≡ Some b → ⊥) [
-      | true ↦ λ e. h.free ((marked h.other).0 e)
-      | false ↦ λ e. h.apart (only h.other (omega (arith, h.low, long, past)) e)
-    ] at.1
+-- the root is passed
+pub root_passed : (marks : List Bool) (root n : ℕ) → ((j : ℕ) → j < n → slice_get marks j ≡ Some false → j ≡ root)
+    → n ≡ root → (j : ℕ) → j < n + 1 → slice_get marks j ≡ Some false → j ≡ root
+root_passed marks root n only is j low e =
+    ⊎_elim (λ s. s ∙ is) (λ apart. only j (omega (arith, low, apart)) e) (same_or_not j n)
+
+-- a mark that is set is passed
+pub set_passed : (marks : List Bool) (root n : ℕ) → ((j : ℕ) → j < n → slice_get marks j ≡ Some false → j ≡ root)
+    → slice_get marks n ≡ Some true → (j : ℕ) → j < n + 1 → slice_get marks j ≡ Some false → j ≡ root
+set_passed marks root n only is j low e =
+    ⊎_elim (λ s. let same : false ≡ true = one_answer (subst (λ q. slice_get marks q ≡ Some false) s e) is in cc)
+    (λ apart. only j (omega (arith, low, apart)) e) (same_or_not j n)
+
+-- another mark than that of the root is unset
+abbrev pub HasOtherUnset : List Bool → ℕ → Type 0
+HasOtherUnset marks root = (k : ℕ) × (k ≢ root) × (slice_get marks k ≡ Some false)
+
+pub none_other : (marks : List Bool) (root n : ℕ) → ((j : ℕ) → j < n → slice_get marks j ≡ Some false → j ≡ root)
+    → length marks ≤ n → HasOtherUnset marks root → ⊥
+none_other marks root n only past w =
+    w.1 (only w.0 (omega (arith, past, slice_get_within marks w.0 false w.2)) w.2)
+
+-- another mark than that of the root is unset exactly if there is another root
+pub other_root : (marks : List Bool) (targets : List (List ℕ)) (root : ℕ)
+    → ((k : ℕ) → (slice_get marks k ≡ Some true) ↔ IsTarget targets k) → length marks ≡ length targets
+    → HasOtherUnset marks root ↔ HasOtherRoot targets root
+other_root marks targets root marked long = (
+  λ w. record {
+    other = w.0;
+    low = omega (arith, long, slice_get_within marks w.0 false w.2);
+    apart = w.1;
+    free = λ t. let same : false ≡ true = one_answer w.2 ((marked w.0).1 t) in cc;
+  },
+  λ h. let at = item_there marks h.other (omega (arith, h.low, long)) in
+      elim at.0 as (λ b. slice_get marks h.other ≡ Some b → HasOtherUnset marks root) [
+        | true ↦ λ e. absurd (h.free ((marked h.other).0 e))
+        | false ↦ λ e. (h.other, h.apart, e)
+      ] at.1,
+)

@@ -5,6 +5,7 @@ use Rattle.std.proofs.Common.{length, All, inl, inr, Result, Ok, Err, OnErr, ref
 use Rattle.std.proofs.lemmas.List.{drop-append-le, drop_at, get_or_default, get_or-map, get_or-take, get_or-drop}
 use Rattle.std.proofs.lemmas.List.{length-drop, length-append, length-map, length-take-le, map-append, same_lists}
 use Rattle.std.proofs.lemmas.List.{take-append-drop, take-append-le, take_all}
+use Rattle.std.proofs.lemmas.Option.{get_or_from_slice_get}
 use Rattle.std.proofs.lemmas.List.Elements.{All-from_get_or, All-get_or, All-head, All-push, All-tail, All-weaker}
 use Rattle.lvl_grid.specs.declared.point.Point.{Point}
 use Rattle.lvl_grid.specs.Turn.{FitsPoint, shifted}
@@ -13,6 +14,7 @@ use Rattle.lvl_cells.specs.declared.shape_lists.Span.{Span}
 use Rattle.lvl_cells.specs.declared.shared.KeptFigure.{KeptFigure}
 use Rattle.lvl_cells.specs.Cells.{PlainShape, Rings, shape_at}
 use Rattle.lvl_cells.specs.inside.Spans.{numbered, displaced, origin, figure_in, shape_in, FitsMoved, IsAgain}
+use Rattle.lvl_cells.proofs.Indexes.{push_last}
 use Rattle.lvl_cells.proofs.Moving.{unmoved_rings}
 use Rattle.lvl_cells.specs.inside.Spans.{IsFigure, IsSpan, IsPrefixOf, HasNumber, HasMove}
 
@@ -293,6 +295,36 @@ goes_on_same xs = take_all (length xs) xs (omega arith)
 
 pub goes_on_more : {X : Type 0} (xs more : List X) → IsPrefixOf xs (xs ++ more)
 goes_on_more xs more = take-append-le (length xs) xs more (omega arith) ∙ take_all (length xs) xs (omega arith)
+
+-- more is appended to a list that goes on
+pub goes_on_further : {X : Type 0} (old new more : List X) → IsPrefixOf old new → IsPrefixOf old (new ++ more)
+goes_on_further old new more h = take-append-le (length old) new more (no_fewer old new h) ∙ h
+
+-- the item that is appended has the number of all items
+last_numbered : {X : Type 0} (first : X) (old : List X) (x d : X) (n : ℕ) → n ≡ length (old ++ x ∷ [])
+    → get_or (first ∷ (old ++ x ∷ [])) n d ≡ x
+last_numbered first old x d n e =
+    let next : n ≡ suc (length old) = omega (arith, e, length-append old (x ∷ [])) in
+    ap (λ k. get_or (first ∷ (old ++ x ∷ [])) k d) next
+    ∙ get_or_from_slice_get (old ++ x ∷ []) (length old) x d (push_last old x)
+
+pub last_move : (old new : List Point) (by : Point) (n : ℕ) → new ≡ old ++ by ∷ [] → n ≡ length new
+    → HasMove new n by
+last_move old new by n is e =
+    subst (λ ms. HasMove ms n by) (sym is)
+    (record {
+      within = omega (arith, e, ap length is);
+      is = last_numbered origin old by origin n (e ∙ ap length is);
+    })
+
+pub last_number : (old new : List (List Point)) (shifts : List Point) (n : ℕ) → new ≡ old ++ shifts ∷ []
+    → n ≡ length new → HasNumber new n shifts
+last_number old new shifts n is e =
+    subst (λ ks. HasNumber ks n shifts) (sym is)
+    (record {
+      within = omega (arith, e, ap length is);
+      is = last_numbered one_place old shifts [] n (e ∙ ap length is);
+    })
 
 pub always_err : {T E P : Type 0} (r : Result T E) → P → OnErr r P
 always_err (Ok x) p = tt

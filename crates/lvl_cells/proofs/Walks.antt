@@ -25,6 +25,18 @@ same_or_not zero (suc b) = inr (λ e. cc)
 same_or_not (suc a) zero = inr (λ e. cc)
 same_or_not (suc a) (suc b) = ⊎_elim (λ e. inl (ap suc e)) (λ n. inr (λ e. n (omega (arith, e)))) (same_or_not a b)
 
+-- if no cell before index n is new, and the cell at n isn't, then none before n + 1 is
+pub seen_next : (marks : List Mark) (n : ℕ) → ((k : ℕ) → k < n → slice_get marks k ≡ Some New → ⊥)
+    → (slice_get marks n ≡ Some New → ⊥) → (k : ℕ) → k < n + 1 → slice_get marks k ≡ Some New → ⊥
+seen_next marks n before here k low h =
+    ⊎_elim (λ e. here (subst (λ q. slice_get marks q ≡ Some New) e h))
+    (λ apart. before k (omega (arith, low, apart)) h) (same_or_not k n)
+
+-- if no cell before the last index is new, none is
+pub none_left : (marks : List Mark) (n : ℕ) → length marks ≤ n
+    → ((k : ℕ) → k < n → slice_get marks k ≡ Some New → ⊥) → (k : ℕ) → slice_get marks k ≡ Some New → ⊥
+none_left marks n past before k h = before k (omega (arith, past, slice_get_within marks k New h)) h
+
 pub set_there : {X : Type 0} (xs : List X) (b : ℕ) (x y : X) → slice_get xs b ≡ Some x
     → slice_get (set xs b y) b ≡ Some y
 set_there [] b x y h = cc

@@ -44,6 +44,14 @@ fn empty_cell(alloc: Global) -> Cell
     }
 }
 
+/// Takes the open cell, and leaves an empty one.
+fn taken(alloc: Global, current: &mut Cell) -> Cell
+    ensures taken { result ≡ current.old }
+    ensures left { current.new ≡ no_cell }
+{
+    mem::replace(current, empty_cell(alloc))
+}
+
 impl Builder {
     /// A builder without cells.
     pub fn new(alloc: Global) -> Builder
@@ -130,7 +138,7 @@ impl Builder {
         ensures kept { OnErr result (self.new ≡ self.old) }
     {
         self.cells.reserve(1)?;
-        let cell = mem::replace(&mut self.current, empty_cell(alloc));
+        let cell = taken(alloc, &mut self.current);
         self.cells.push_reserved(cell);
         Ok(())
     }

@@ -1,10 +1,11 @@
 //! The check that a library is sound for its top and that the top doesn't place too much.
-ghost use Rattle.std.specs.Prelude.{◌≡◌, ◌≢◌, ◌<◌, length, IfOk, IfErr, IfSome, IfNone, option_copied};
+ghost use Rattle.std.specs.Prelude.{◌≡◌, ◌≢◌, ◌<◌, ℕ, List, Option, length, slice_get, option_copied};
+ghost use Rattle.std.specs.Prelude.{IfOk, IfErr, IfSome, IfNone, OnOk};
 ghost use Rattle.lvl_cells.specs.Checks.{IsSettled, IsChecked, PlacesFew, IsTargetOf, HasReference};
 ghost use Rattle.lvl_cells.specs.Faults.{IsFaultOf, IsSoundWith};
 ghost use Rattle.lvl_cells.specs.Cells.{names};
 ghost use Rattle.lvl_cells.specs.Resolving.{IsPlaceOf};
-ghost use Rattle.lvl_cells.specs.Soundness.{AreLinked, IsOrder};
+ghost use Rattle.lvl_cells.specs.Soundness.{AreLinked, IsOrder, IsTop};
 ghost use Rattle.lvl_cells.specs.inside.Steps.{AreAllTargets};
 ghost use Rattle.lvl_refusal.specs.Refused.{Says};
 
@@ -68,6 +69,33 @@ fn resolve(
     }
 }
 
+/// Checks that the cell at index `top` places at most [`MOST_PLACED`] cells and rings.
+fn check_counts(
+    alloc: Global,
+    cells: &[Cell],
+    targets: &Targets,
+    order: &[usize],
+    top: usize,
+) -> Result<(), Cause<CellFault>>
+    requires linked { AreLinked cells.now }
+    requires targets { AreAllTargets cells.now targets.now }
+    requires order { IsOrder cells.now order.now }
+    requires top { top < length cells.now }
+    ensures ok { OnOk result (IfSome (slice_get cells.now top) (PlacesFew cells.now)) }
+    ensures err { IfErr result (λ refusal. Says refusal (λ fault.
+        (given : Option (List ℕ)) → IsTop cells.now given top → IsFaultOf cells.now given fault)) }
+{
+    let chains = count_from(alloc, Weight::One, cells, targets, order, top)?;
+    if chains > MOST_PLACED {
+        return Err(Cause::Breach(CellFault::TooManyPlacements));
+    }
+    let rings = count_from(alloc, Weight::OwnRings, cells, targets, order, top)?;
+    if rings > MOST_PLACED {
+        return Err(Cause::Breach(CellFault::TooManyRings));
+    }
+    Ok(())
+}
+
 /// The top, the order and the targets of the cells, if [`check`] accepts them.
 fn examine(
     alloc: Global,
@@ -84,14 +112,7 @@ fn examine(
     let (targets, index) = resolve(alloc, cells, given)?;
     let order = order_of(alloc, cells, &targets)?;
     let top = top_of(alloc, cells, &targets, &order, given, index)?;
-    let chains = count_from(alloc, Weight::One, cells, &targets, &order, top)?;
-    if chains > MOST_PLACED {
-        return Err(Cause::Breach(CellFault::TooManyPlacements));
-    }
-    let rings = count_from(alloc, Weight::OwnRings, cells, &targets, &order, top)?;
-    if rings > MOST_PLACED {
-        return Err(Cause::Breach(CellFault::TooManyRings));
-    }
+    check_counts(alloc, cells, &targets, &order, top)?;
     Ok((top, order, targets))
 }
 

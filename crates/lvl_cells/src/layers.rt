@@ -1,6 +1,7 @@
 //! The Layers of shapes.
 ghost use Rattle.std.specs.Prelude.{All, Contains, OnOk};
 
+use crate::lists::push_item;
 use crate::shapes::Shapes;
 use lvl_names::Layer;
 use std::alloc::AllocError;
@@ -13,8 +14,7 @@ fn push_layer(layers: &mut Vec<Layer>, layer: Layer) -> Result<(), AllocError>
     if layers.last() == Some(&layer) {
         return Ok(());
     }
-    layers.push(layer)?;
-    Ok(())
+    push_item(layers, layer)
 }
 
 impl Shapes {

@@ -42,6 +42,7 @@ mod fault;
 mod forms;
 mod layers;
 mod library;
+mod lists;
 mod moved;
 mod names;
 mod order;

@@ -4,6 +4,7 @@ ghost use Rattle.lvl_grid.specs.Turn.{shifted, FitsPoint};
 ghost use Rattle.lvl_cells.specs.inside.Spans.{IsPrefixOf};
 ghost use Rattle.lvl_cells.specs.inside.Placings.{IsAt, IsPlacing, placement_by};
 
+use crate::lists::{push_item, push_lean};
 use crate::shape_lists::kept_count;
 use lvl_grid::{Map, Point, Turn};
 use lvl_names::Offsets;
@@ -44,14 +45,31 @@ impl Model for Placements {
     ghost invariant = { λ p. All (IsPlacing p.shifts.items) p.placings.items };
 }
 
-/// Takes room for the first item of a list alone, since most cells have few references or many.
-pub(crate) fn reserve_first<T>(list: &mut Vec<T>) -> Result<(), AllocError>
-    ensures { list.new.items ≡ list.old.items }
+/// Keeps the zero shift alone as the first list, if no list is kept yet.
+fn keep_single(kept: &mut Vec<Offsets>) -> Result<(), AllocError>
+    ensures some { OnOk result (0 < length kept.new.items) }
+    ensures before { IsPrefixOf kept.old.items kept.new.items }
 {
-    if list.is_empty() {
-        list.reserve_exact(1)?;
+    if !kept.is_empty() {
+        return Ok(());
     }
-    Ok(())
+    push_lean(kept, Offsets::single())
+}
+
+/// The index of a list of shifts that is kept: the first, if both are the zero shift alone, or the
+/// last, if both are the same lattice.
+fn kept_index(kept: &[Offsets], shifts: &Offsets) -> Option<usize>
+    requires { 0 < length kept.now }
+    ensures { IfSome result (λ i. IsAt kept.now i shifts.now) }
+{
+    if shifts.is_single() && kept[0].is_single() {
+        return Some(0);
+    }
+    let last = kept.len() - 1;
+    if kept[last].is_same_lattice(shifts) {
+        return Some(last);
+    }
+    None
 }
 
 /// The index of a list of shifts. Keeps the list, unless it is the same lattice as the last that
@@ -60,20 +78,12 @@ fn index_of_shifts(kept: &mut Vec<Offsets>, shifts: Offsets) -> Result<u32, Allo
     ensures index { IfOk result (λ i. IsAt kept.new.items i shifts) }
     ensures before { IsPrefixOf kept.old.items kept.new.items }
 {
-    reserve_first(kept)?;
-    if kept.is_empty() {
-        kept.push(Offsets::single())?;
-    }
-    if shifts.is_single() && kept[0].is_single() {
-        return Ok(0);
-    }
-    if let Some(last) = kept.last() {
-        if last.is_same_lattice(&shifts) {
-            return kept_count(kept.len() - 1);
-        }
+    keep_single(kept)?;
+    if let Some(index) = kept_index(kept, &shifts) {
+        return kept_count(index);
     }
     let index = kept_count(kept.len())?;
-    kept.push(shifts)?;
+    push_item(kept, shifts)?;
     Ok(index)
 }
 
@@ -123,14 +133,14 @@ impl Placements {
     {
         let key = kept_count(key)?;
         let number = index_of_shifts(&mut self.shifts, shifts)?;
-        reserve_first(&mut self.placings)?;
-        self.placings.push(Placing {
+        let placing = Placing {
             at: by.at,
             key,
             shifts: number,
             flip: by.flip,
             turn: by.turn,
-        })?;
+        };
+        push_lean(&mut self.placings, placing)?;
         Ok(())
     }
 }

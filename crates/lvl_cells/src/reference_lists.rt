@@ -1,10 +1,12 @@
 //! How the references of a cell are stored, if there are several.
-ghost use Rattle.std.specs.Prelude.{◌≡◌, ◌<◌, ◌++◌, ◌∷◌, [], length, slice_get, All, map, Some, IfOk, OnOk, OnErr};
+ghost use Rattle.std.specs.Prelude.{◌≡◌, ◌<◌, ◌++◌, ◌∷◌, [], length, slice_get, All, map, Some, IfOk, IfSome};
+ghost use Rattle.std.specs.Prelude.{OnOk, OnErr};
 ghost use Rattle.lvl_cells.specs.Cells.{reference_to};
 ghost use Rattle.lvl_cells.specs.inside.Spans.{IsPrefixOf};
 ghost use Rattle.lvl_cells.specs.inside.Placings.{IsAt};
 
-use crate::placements::{Placements, reserve_first};
+use crate::lists::push_lean;
+use crate::placements::Placements;
 use crate::reference::{KeptReference, Reference};
 use lvl_grid::Map;
 use lvl_names::Name;
@@ -30,19 +32,28 @@ impl Model for ReferenceLists {
     ghost invariant = { λ r. All (λ p. p.key < length r.names.items) r.placements };
 }
 
+/// The index of a name, if it is the last of the list.
+fn index_of_last(names: &[Name], name: &Name) -> Option<usize>
+    ensures { IfSome result (λ i. IsAt names.now i name.now) }
+{
+    if let Some(last) = names.last() {
+        if last.as_bytes() == name.as_bytes() {
+            return Some(names.len() - 1);
+        }
+    }
+    None
+}
+
 /// The index of a name. Keeps the name, unless it is the last that was kept.
 fn index_of_name(names: &mut Vec<Name>, name: Name) -> Result<usize, AllocError>
     ensures index { IfOk result (λ i. IsAt names.new.items i name) }
     ensures before { IsPrefixOf names.old.items names.new.items }
 {
-    if let Some(last) = names.last() {
-        if last.as_bytes() == name.as_bytes() {
-            return Ok(names.len() - 1);
-        }
+    if let Some(index) = index_of_last(names, &name) {
+        return Ok(index);
     }
     let index = names.len();
-    reserve_first(names)?;
-    names.push(name)?;
+    push_lean(names, name)?;
     Ok(index)
 }
 

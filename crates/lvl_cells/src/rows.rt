@@ -5,6 +5,7 @@ ghost use Rattle.lvl_grid.specs.Pieces.{begin_of};
 ghost use Rattle.lvl_cells.specs.declared.rows.Run.{Run as PlainRun};
 ghost use Rattle.lvl_cells.specs.inside.Rows.{spread, spread_rows, AreRows, HasRow, Rises};
 
+use crate::lists::push_item;
 use crate::shape_lists::{kept_count, kept_sum};
 use std::alloc::AllocError;
 use std::marker::Model;
@@ -38,8 +39,7 @@ pub(crate) fn push_target(
         runs[count - 1] = run;
         return Ok(());
     }
-    runs.push(run)?;
-    Ok(())
+    push_item(runs, run)
 }
 
 /// The index of the run with the reference at this index, or the number of runs if there is none.
@@ -55,7 +55,7 @@ fn run_of(runs: &[Run], reference: usize) -> usize
 }
 
 /// The targets of the references of a cell.
-#[derive(Debug, Drop)]
+#[derive(Drop)]
 pub(crate) struct Row<'a> {
     runs: &'a [Run],
 }

@@ -8,6 +8,7 @@ ghost use Rattle.lvl_cells.specs.Cells.{shape_at};
 ghost use Rattle.lvl_cells.specs.inside.Spans.{IsPrefixOf, HasNumber};
 
 use crate::forms::Forms;
+use crate::lists::push_item;
 use crate::moved::MovedRing;
 use crate::shared::{figure_of_ring, figure_of_rings, move_of, number_of_move};
 use lvl_grid::{Point, Ring, Rings};
@@ -83,7 +84,7 @@ fn number_of(kept: &mut Vec<Offsets>, shifts: &Offsets) -> Result<u32, AllocErro
             return kept_count(kept.len());
         }
     }
-    kept.push(shifts.clone()?)?;
+    push_item(kept, shifts.clone()?)?;
     kept_count(kept.len())
 }
 
@@ -186,7 +187,8 @@ impl ShapeLists {
             ++ record { layer = layer; figure = rings.now; shifts = shifts.now } ∷ []) }
         ensures kept { OnErr result (self.new ≡ self.old) }
     {
-        let figure = figure_of_rings(&mut self.rings, self.spans.last(), rings)?;
+        let last = self.spans.last();
+        let figure = figure_of_rings(&mut self.rings, last, rings)?;
         let moved = number_of_move(&mut self.moves, figure.by)?;
         let number = number_of(&mut self.shifts, shifts)?;
         self.spans.push(Span {

@@ -4,6 +4,7 @@ ghost use Rattle.lvl_grid.specs.Winding.{IsRing};
 ghost use Rattle.lvl_cells.specs.inside.Spans.{displaced, IsPrefixOf, HasMove, IsAgain, IsFigure, IsStretch};
 
 use crate::forms::Forms;
+use crate::lists::push_item;
 use crate::moved::{ORIGIN, moved};
 use crate::shape_lists::{Span, kept_count, kept_sum};
 use lvl_grid::{Point, Ring, Rings};
@@ -11,7 +12,7 @@ use std::alloc::AllocError;
 
 /// A figure: the kept rings with an index from `begin` up to `end`, which is excluded, moved by
 /// `by`.
-#[derive(Clone, Copy, Debug)]
+#[derive(Clone, Copy)]
 pub(crate) struct KeptFigure {
     pub begin: u32,
     pub end: u32,
@@ -197,6 +198,6 @@ pub(crate) fn number_of_move(moves: &mut Vec<Point>, by: Point) -> Result<u32, A
     if moves.last() == Some(&by) {
         return kept_count(moves.len());
     }
-    moves.push(by)?;
+    push_item(moves, by)?;
     kept_count(moves.len())
 }

@@ -1,6 +1,6 @@
 //! The top of a library.
 ghost use Rattle.std.specs.Prelude.{◌≡◌, ◌≢◌, ℕ, ◌<◌, ◌↔◌, ◌⊎◌, true, length, slice_get, vec_len, All, Contains, Some};
-ghost use Rattle.std.specs.Prelude.{IsTrue, IfOk, IfErr, option_copied};
+ghost use Rattle.std.specs.Prelude.{false, IsTrue, IfOk, IfErr, option_copied};
 ghost use Rattle.lvl_cells.specs.Cells.{names};
 ghost use Rattle.lvl_cells.specs.Resolving.{IsPlaceOf};
 ghost use Rattle.lvl_cells.specs.Soundness.{AreLinked, IsOrder, IsTop};
@@ -42,18 +42,28 @@ fn referred_cells(alloc: Global, targets: &Targets) -> Result<Vec<bool>, AllocEr
     Ok(referred)
 }
 
+/// Whether another mark than the one at index `root` is unset.
+fn is_other_unset(marks: &[bool], root: usize) -> bool
+    ensures { IsTrue result ↔ ((k : ℕ) × (k ≢ root) × (slice_get marks.now k ≡ Some false)) }
+{
+    for k in 0..marks.len() {
+        if k == root {
+            continue;
+        }
+        if !marks[k] {
+            return true;
+        }
+    }
+    false
+}
+
 /// Whether there is another cell than `root` to which no cell refers.
 fn has_other_root(alloc: Global, targets: &Targets, root: usize) -> Result<bool, AllocError>
     requires { EachTargetWithin targets.now (length targets.now) }
     ensures { IfOk result (λ other. IsTrue other ↔ HasOtherRoot targets.now root) }
 {
     let referred = referred_cells(alloc, targets)?;
-    for (k, is_referred) in referred.iter().enumerate() {
-        if !*is_referred && k != root {
-            return Ok(true);
-        }
-    }
-    Ok(false)
+    Ok(is_other_unset(&referred, root))
 }
 
 /// The index of the cell of the given name, which is `index`, or, if none is given, of the only

@@ -1,9 +1,9 @@
 use Rattle.std.specs.Option.{option_copied}
 use Rattle.std.proofs.lemmas.Result.{err_from_is_err_and}
 use Rattle.lvl_refusal.proofs.Saying.{Says-map}
+use Rattle.lvl_cells.specs.Faults.{IsFaultOf}
 use Rattle.lvl_cells.specs.inside.Steps.{IsCycleFault, IsTopFault}
-use Rattle.lvl_cells.proofs.Examining.{ranked_by, cycle_fault, top_fault, too_many_chains, too_many_rings}
-use Rattle.lvl_cells.proofs.Examining.{settled_by}
+use Rattle.lvl_cells.proofs.Examining.{ranked_by, cycle_fault, top_fault, settled_by}
 use Rattle.lvl_cells.proofs.checked.examine.Goals as goal
 
 pub order_of-requires-clause-linked : goal.order_of-requires-clause-linked
@@ -12,11 +12,8 @@ order_of-requires-clause-linked c = c.in_ok-targets.ensures.linked
 pub top_of-requires-clause-linked : goal.top_of-requires-clause-linked
 top_of-requires-clause-linked c = c.in_ok-targets.ensures.linked
 
-pub count_from-requires-clause-linked : goal.count_from-requires-clause-linked
-count_from-requires-clause-linked c = c.in_ok-targets.ensures.linked
-
-pub count_from-requires-2-clause-linked : goal.count_from-requires-2-clause-linked
-count_from-requires-2-clause-linked c = c.in_ok-targets.ensures.linked
+pub check_counts-requires-clause-linked : goal.check_counts-requires-clause-linked
+check_counts-requires-clause-linked c = c.in_ok-targets.ensures.linked
 
 pub returns-in_err-order-clause-err : goal.returns-in_err-order-clause-err
 returns-in_err-order-clause-err c =
@@ -34,25 +31,39 @@ returns-in_err-top-clause-err c =
     (λ f h. top_fault c.args.cells.now (option_copied c.args.given) f c.requires linked ranked h)
     c.in_err-top.ensures.err)
 
-pub returns-then-chains-gt-MOST_PLACED-clause-err : goal.returns-then-chains-gt-MOST_PLACED-clause-err
-returns-then-chains-gt-MOST_PLACED-clause-err c =
-    let linked = c.in_ok-targets.ensures.linked in
-    let ranked = ranked_by c.args.cells.now c.in_ok-order.order.items linked c.in_ok-order.ensures.ok in
-    too_many_chains c.args.cells.now (option_copied c.args.given) c.in_ok-top.top c.in_ok-chains.chains linked ranked
-    c.in_ok-top.ensures.ok.0 c.in_ok-top.ensures.ok.1 c.in_ok-chains.ensures c.if-chains-gt-MOST_PLACED.true
-
-pub returns-then-rings-gt-MOST_PLACED-clause-err : goal.returns-then-rings-gt-MOST_PLACED-clause-err
-returns-then-rings-gt-MOST_PLACED-clause-err c =
-    let linked = c.in_ok-targets.ensures.linked in
-    let ranked = ranked_by c.args.cells.now c.in_ok-order.order.items linked c.in_ok-order.ensures.ok in
-    too_many_rings c.args.cells.now (option_copied c.args.given) c.in_ok-top.top c.in_ok-chains.chains
-    c.in_ok-rings.rings linked ranked c.in_ok-top.ensures.ok.0 c.in_ok-top.ensures.ok.1 c.in_ok-chains.ensures
-    c.if-chains-gt-MOST_PLACED.false c.in_ok-rings.ensures c.if-rings-gt-MOST_PLACED.true
+pub returns-in_err-check_counts-clause-err : goal.returns-in_err-check_counts-clause-err
+returns-in_err-check_counts-clause-err c =
+    let given = option_copied c.args.given in
+    let p = err_from_is_err_and c.from_residual-in_err-check_counts.result
+    c.from_residual-in_err-check_counts.ensures.1 in
+    rw (p.1, p.2) (Says-map _ (IsFaultOf c.args.cells.now given) _
+    (λ f h. h given c.in_ok-top.ensures.ok.0) c.in_err-check_counts.ensures.err)
 
 pub returns-clause-ok : goal.returns-clause-ok
 returns-clause-ok c =
-    let linked = c.in_ok-targets.ensures.linked in
     settled_by c.args.cells.now (option_copied c.args.given) c.in_ok-order.order.items c.in_ok-top.top
-    c.in_ok-chains.chains c.in_ok-rings.rings linked c.in_ok-order.ensures.ok c.in_ok-top.ensures.ok.0
-    c.in_ok-top.ensures.ok.1 c.in_ok-chains.ensures c.if-chains-gt-MOST_PLACED.false c.in_ok-rings.ensures
-    c.if-rings-gt-MOST_PLACED.false
+    c.in_ok-targets.ensures.linked c.in_ok-order.ensures.ok c.in_ok-top.ensures.ok.0 c.in_ok-top.ensures.ok.1
+    c.in_ok-check_counts.ensures.ok
+
+pub returns-in_err-targets-clause-err : goal.returns-in_err-targets-clause-err
+returns-in_err-targets-clause-err c =
+    let p = err_from_is_err_and c.from_residual.result c.from_residual.ensures.1 in
+    rw (p.1, p.2) c.in_err-targets.ensures.err
+
+pub order_of-requires-clause-targets : goal.order_of-requires-clause-targets
+order_of-requires-clause-targets c = c.in_ok-targets.ensures.targets
+
+pub top_of-requires-clause-index : goal.top_of-requires-clause-index
+top_of-requires-clause-index c = c.in_ok-targets.ensures.index
+
+pub top_of-requires-clause-targets : goal.top_of-requires-clause-targets
+top_of-requires-clause-targets c = c.in_ok-targets.ensures.targets
+
+pub check_counts-requires-clause-targets : goal.check_counts-requires-clause-targets
+check_counts-requires-clause-targets c = c.in_ok-targets.ensures.targets
+
+pub check_counts-requires-clause-top : goal.check_counts-requires-clause-top
+check_counts-requires-clause-top c = c.in_ok-top.ensures.ok.1
+
+pub returns-clause-targets : goal.returns-clause-targets
+returns-clause-targets c = c.in_ok-targets.ensures.targets

@@ -2,6 +2,7 @@ use Rattle.std.proofs.Common.{◌≡◌, ◌-◌, ℕ, suc, List, [], ◌∷◌,
 use Rattle.std.proofs.Common.{ap, subst, arith, ◌∙◌}
 use Rattle.std.specs.List.{slice_get}
 use Rattle.std.proofs.lemmas.Option.{slice_get_read, get_or_from_slice_get}
+use Rattle.std.proofs.lemmas.Result.{on_ok_weaker}
 use Rattle.lvl_cells.specs.declared.rows.Run.{Run}
 use Rattle.lvl_cells.specs.inside.Rows.{HasRow}
 use Rattle.lvl_cells.proofs.Runs.{row_pushed, row_lengthened}
@@ -23,8 +24,11 @@ returns-then-index-run c = λ front targets long count h.
     (omega (arith, long, c.if-count-begin.true)) same)
 
 pub returns : goal.returns
-returns c = λ front targets long count h.
+returns c =
     let r : Run = record { end = c.in_ok-kept_sum.field-0; target = c.in_ok-kept_count.field-0 } in
-    subst (λ (rs : List Run). HasRow front rs (targets ++ c.args.target ∷ [])) (sym c.in_ok-push.ensures.items)
+    on_ok_weaker c.push_item.result
+    (λ is front targets long count h.
+    subst (λ (rs : List Run). HasRow front rs (targets ++ c.args.target ∷ [])) (sym is)
     (subst (λ t. HasRow front (c.args.runs.now.items ++ r ∷ []) (targets ++ t ∷ [])) c.in_ok-kept_count.ensures.0
-    (row_pushed front c.args.runs.now.items targets r h (omega (arith, c.in_ok-kept_sum.ensures.0, count))))
+    (row_pushed front c.args.runs.now.items targets r h (omega (arith, c.in_ok-kept_sum.ensures.0, count)))))
+    c.push_item.ensures.added

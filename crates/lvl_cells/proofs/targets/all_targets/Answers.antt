@@ -1,5 +1,6 @@
 use Rattle.std.proofs.Common.{◌≡◌, ◌+◌, ◌++◌, ◌∷◌, List, [], ℕ, take, length, refl, sym, ap, subst, arith, ◌∙◌}
 use Rattle.std.proofs.lemmas.Result.{err_from_is_err_and}
+use Rattle.std.proofs.lemmas.List.{take_all}
 use Rattle.std.proofs.lemmas.List.Elements.{All-nil}
 use Rattle.lvl_refusal.proofs.Saying.{Says-map}
 use Rattle.lvl_cells.specs.Cells.{PlainCell, Rings, names}
@@ -44,3 +45,27 @@ loop-cell-preserved c =
           (cells_more all cells i c.cell-item.result (spread_rows ends old) has.targets c.loop-cell-test.true
           c.cell-item.is has.are c.loop-cell.invariant.targets);
     }
+
+pub returns-in_err-ends-clause-err : goal.returns-in_err-ends-clause-err
+returns-in_err-ends-clause-err c =
+    let p = err_from_is_err_and c.from_residual.result c.from_residual.ensures.1 in rw (p.1, p.2) tt
+
+pub returns-in_err-push-clause-err : goal.returns-in_err-push-clause-err
+returns-in_err-push-clause-err c =
+    let p = err_from_is_err_and c.from_residual-in_err-push.result c.from_residual-in_err-push.ensures.1 in
+    rw (p.1, p.2) tt
+
+pub push_row-requires : goal.push_row-requires
+push_row-requires c = c.requires
+
+pub of-requires : goal.of-requires
+of-requires c = c.loop-cell.invariant.rows
+
+pub returns-clause-ok : goal.returns-clause-ok
+returns-clause-ok c =
+    let cells : List (PlainCell Rings) = c.args.cells.now in
+    let rows : List (List ℕ) = spread_rows c.loop-cell.ends.items c.loop-cell.runs.items in
+    let whole : take c.loop-cell.cell-index cells ≡ cells =
+    take_all c.loop-cell.cell-index cells c.loop-cell-test.false in
+    subst (AreTargetsOf (names cells) cells) (sym c.of.ensures)
+    (subst (λ (cs : List (PlainCell Rings)). AreTargetsOf (names cells) cs rows) whole c.loop-cell.invariant.targets)

@@ -1,8 +1,8 @@
 use Rattle.std.proofs.Common.{◌≡◌, ◌+◌, ◌⊎◌, ◌↔◌, ℕ, Bool, true, List, Some, length, Contains, sym, ap, ◌∙◌}
-use Rattle.std.proofs.Common.{subst, arith}
+use Rattle.std.proofs.Common.{false, replicate, subst, arith}
 use Rattle.std.specs.List.{slice_get}
 use Rattle.std.proofs.lemmas.Option.{slice_get_within}
-use Rattle.lvl_cells.proofs.Roots.{AreMarkedBefore, referred_more, written_whole}
+use Rattle.lvl_cells.proofs.Roots.{AreMarkedBefore, none_marked, referred_more, row_within, written_whole}
 use Rattle.lvl_cells.proofs.top.referred_cells.Goals as goal
 
 pub loop-cell-preserved : goal.loop-cell-preserved
@@ -41,3 +41,25 @@ returns-clause-marked c =
         w.2,
       ),
     )
+
+pub loop-cell-init : goal.loop-cell-init
+loop-cell-init c =
+    let none : c.in_ok-referred.referred.items ≡ replicate c.len.result false =
+    c.in_ok-referred.ensures.items_if_clones_equal (λ y h. h) in
+    record {
+      long = c.in_ok-referred.ensures.len ∙ c.len.ensures;
+      marked = rw none (none_marked c.len.result c.args.targets.now);
+    }
+
+pub row-requires : goal.row-requires
+row-requires c = omega (arith, c.loop-cell-test.true, c.len-cell-end.ensures)
+
+pub returns-clause-long : goal.returns-clause-long
+returns-clause-long c = c.loop-cell.invariant.long
+
+pub mark_all-requires : goal.mark_all-requires
+mark_all-requires c =
+    let long : length c.deref_mut.result.now ≡ length c.args.targets.now =
+    c.deref_mut.ensures.len ∙ c.loop-cell.invariant.long in
+    row_within c.args.targets.now c.loop-cell.cell c.row.result (length c.deref_mut.result.now) c.row.ensures long
+    c.requires
