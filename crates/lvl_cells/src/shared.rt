@@ -11,7 +11,7 @@ use std::alloc::AllocError;
 
 /// A figure: the kept rings with an index from `begin` up to `end`, which is excluded, moved by
 /// `by`.
-#[derive(Clone, Copy, Debug)]
+#[derive(Clone, Copy)]
 pub(crate) struct KeptFigure {
     pub begin: u32,
     pub end: u32,
