@@ -20,7 +20,7 @@ pub const MOST_CELLS: usize = 1_048_576;
 ///
 /// [`Builder::open`] begins a cell, [`Builder::close`] finishes it. If there is no memory for an
 /// addition, the builder stays as it was.
-#[derive(Debug, Drop)]
+#[derive(Drop)]
 pub struct Builder {
     cells: Vec<Cell>,
     current: Cell,

@@ -26,7 +26,7 @@ const MOST_PLACED: u64 = 16_777_216;
 
 /// A library that is sound for its top and within the limits on what the top places. Only [`check`]
 /// makes one.
-#[derive(Debug, Drop)]
+#[derive(Drop)]
 pub struct Checked {
     cells: Vec<Cell>,
     top: usize,

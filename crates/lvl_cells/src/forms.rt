@@ -16,7 +16,7 @@ const MOST: usize = 4_096;
 /// A form has two slots, one after the other. A slot has one more than the index of the last ring that
 /// was kept there, or 0 if there is none. Other forms may have the same slots, so a ring that is found
 /// need not have the form: what a slot has only guides the search, and is tested where it is used.
-#[derive(Debug, Drop)]
+#[derive(Drop)]
 pub(crate) struct Forms {
     slots: Vec<u32>,
 }

@@ -38,6 +38,7 @@ pub use shapes::Shapes;
 mod builder;
 mod checked;
 mod counts;
+mod debug;
 mod fault;
 mod forms;
 mod layers;

@@ -5,7 +5,7 @@ use lvl_names::Name;
 use std::marker::Model;
 
 /// A named cell, with its shapes and references in file order.
-#[derive(Debug, Drop)]
+#[derive(Drop)]
 pub struct Cell {
     pub name: Name,
     pub shapes: Shapes,
@@ -21,7 +21,7 @@ impl Model for Cell {
 }
 
 /// The cells of a file, in file order. [`crate::check`] says whether they are sound.
-#[derive(Debug, Drop)]
+#[derive(Drop)]
 pub struct Library {
     pub cells: Vec<Cell>,
 }

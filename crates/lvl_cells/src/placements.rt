@@ -13,7 +13,7 @@ use std::marker::Model;
 
 /// A placement as it is stored: the index of what is placed, how it is placed, and the index of its
 /// shifts in the list of [`Placements`].
-#[derive(Clone, Copy, Debug)]
+#[derive(Clone, Copy)]
 pub(crate) struct Placing {
     pub at: Point,
     pub key: u32,
@@ -27,7 +27,7 @@ pub(crate) struct Placing {
 ///
 /// A placement has no allocation of its own. It takes 32 bytes if its shifts are those of the
 /// placement before, or the zero shift alone; other lists of shifts are kept beside it.
-#[derive(Debug, Drop)]
+#[derive(Drop)]
 pub struct Placements {
     shifts: Vec<Offsets>,
     placings: Vec<Placing>,

@@ -15,7 +15,7 @@ use std::marker::Model;
 
 /// References in file order. A reference has no allocation of its own, and shares its name and its
 /// shifts with the one before if they are the same.
-#[derive(Debug, Drop)]
+#[derive(Drop)]
 pub(crate) struct ReferenceLists {
     names: Vec<Name>,
     placements: Placements,

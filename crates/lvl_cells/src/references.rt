@@ -16,14 +16,14 @@ use std::marker::Model;
 /// An empty list allocates nothing. A single reference is kept as it is. Of several, a reference
 /// takes 32 bytes if its name and its shifts are those of the reference before, or if it has a
 /// single place; a name and a list of shifts that aren't are kept beside it.
-#[derive(Debug, Drop)]
+#[derive(Drop)]
 pub struct References {
     alloc: Global,
     stored: Stored,
 }
 
 /// How the references of a cell are stored.
-#[derive(Debug, Drop)]
+#[derive(Drop)]
 enum Stored {
     None,
     One(Box<Reference>),

@@ -11,7 +11,7 @@ use std::alloc::AllocError;
 use std::marker::Model;
 
 /// References that follow one another in a cell and have the same target.
-#[derive(Clone, Copy, Debug)]
+#[derive(Clone, Copy)]
 pub(crate) struct Run {
     /// The index after the last of them, among the references of the cell.
     end: u32,
@@ -117,7 +117,7 @@ fn stretch(runs: &[Run], start: usize, end: usize) -> &[Run]
 
 /// The targets of the references of all cells. A cell takes 8 bytes, and each run of references
 /// that follow one another to the same cell 8 more.
-#[derive(Debug, Drop)]
+#[derive(Drop)]
 pub(crate) struct Targets {
     ends: Vec<usize>,
     runs: Vec<Run>,

@@ -19,7 +19,7 @@ use std::marker::Model;
 /// A shape: its Layer, the indexes of its rings (from `begin` up to `end`, which is excluded), and
 /// the numbers of its displacement and of its list of shifts. The number 0 means no displacement,
 /// or the zero shift alone; any other is one more than an index of [`ShapeLists`].
-#[derive(Clone, Copy, Debug)]
+#[derive(Clone, Copy)]
 pub(crate) struct Span {
     pub layer: Layer,
     pub begin: u32,
@@ -32,7 +32,7 @@ pub(crate) struct Span {
 /// shape before it if it draws them, moved. A shape of one ring shares those of any earlier ring
 /// that the table of forms finds, too. Consecutive shapes with the same lattice share one list of
 /// shifts. A shared list is never copied.
-#[derive(Debug, Drop)]
+#[derive(Drop)]
 pub(crate) struct ShapeLists {
     rings: Rings,
     forms: Forms,

@@ -21,7 +21,7 @@ use std::marker::Model;
 /// it takes 40 bytes; but the table forgets some of them, so not all that could be shared are. A path
 /// shares the points of the shape before it alone. Consecutive shapes with the same lattice share one
 /// list of shifts, and a shared list is never copied.
-#[derive(Debug, Drop)]
+#[derive(Drop)]
 pub struct Shapes {
     alloc: Global,
     lists: Option<Box<ShapeLists>>,
