@@ -7,7 +7,7 @@ use lvl_grid::{Point, Ring, Square};
 use lvl_names::{Layer, Offsets};
 use lvl_region::Side;
 use lvl_view::View;
-use std::alloc::Global;
+use std::alloc::{AllocError, Global};
 use std::test::Fail;
 
 const METAL: Layer = Layer {
@@ -15,14 +15,33 @@ const METAL: Layer = Layer {
     datatype: 0,
 };
 
-/// A library with one cell, which draws a rectangle.
-fn checked(alloc: Global, name: &[u8], high: Point) -> Result<Checked, Fail> {
+/// Two libraries that are compared.
+#[derive(Drop)]
+struct Pair {
+    first: Checked,
+    second: Checked,
+}
+
+/// Adds a cell, which draws a rectangle.
+fn draw(alloc: Global, builder: &mut Builder, name: &[u8], high: Point) -> Result<(), AllocError> {
     let ring = Ring::rectangle(alloc, Point { x: 0, y: 0 }, high)?;
-    let mut builder = Builder::new(alloc);
     builder.open(alloc, name)?;
     builder.add_ring(METAL, ring.points(), &Offsets::single())?;
-    builder.close(alloc)?;
+    builder.close(alloc)
+}
+
+/// A library with one cell, which draws a rectangle.
+fn checked(alloc: Global, name: &[u8], high: Point) -> Result<Checked, Fail> {
+    let mut builder = Builder::new(alloc);
+    draw(alloc, &mut builder, name, high)?;
     Ok(check(alloc, builder.finish(), None)?)
+}
+
+/// A library with a rectangle, and one with a rectangle narrower by one.
+fn wide_and_narrow(alloc: Global) -> Result<Pair, Fail> {
+    let first = checked(alloc, b"TOP", Point { x: 4, y: 2 })?;
+    let second = checked(alloc, b"MASK", Point { x: 3, y: 2 })?;
+    Ok(Pair { first, second })
 }
 
 #[test]
@@ -63,8 +82,8 @@ fn flat_layouts(rt: HostRuntime) -> Result<(), Fail> {
 #[test]
 fn differences(rt: HostRuntime) -> Result<(), Fail> {
     let alloc = rt.alloc();
-    let wide = checked(alloc, b"TOP", Point { x: 4, y: 2 })?;
-    let narrow = checked(alloc, b"MASK", Point { x: 3, y: 2 })?;
+    let pair = wide_and_narrow(alloc)?;
+    let (wide, narrow) = (&pair.first, &pair.second);
     let first = flatten(alloc, &wide)?;
     let second = flatten(alloc, &narrow)?;
     let found = first_difference(alloc, &first, &second)?;

@@ -13,11 +13,13 @@ use std::test::Fail;
 /// A RECTANGLE of 10 by 10 at (0, 0).
 const RECTANGLE: &[u8] = b"\x14\x7B\x01\x00\x0A\x0A\x00\x00";
 
+/// The first bytes of a file, up to its first cell.
+const TO_CELL: &[u8] =
+    b"%SEMI-OASIS\r\n\x01\x031.0\x00\xE8\x07\0\0\0\0\0\0\0\0\0\0\0\0\0\x0E\x03TOP";
+
 /// A file with one cell, which draws the rectangle.
 fn square(alloc: Global) -> Result<Vec<u8>, AllocError> {
-    let mut bytes = Vec::from_slice(alloc, b"%SEMI-OASIS\r\n\x01\x031.0\x00\xE8\x07")?;
-    bytes.extend_from_slice(&[0; 13])?;
-    bytes.extend_from_slice(b"\x0E\x03TOP")?;
+    let mut bytes = Vec::from_slice(alloc, TO_CELL)?;
     bytes.extend_from_slice(RECTANGLE)?;
     bytes.extend_from_slice(b"\x02\xFC\x01")?;
     bytes.extend_from_slice(&[0; 253])?;
@@ -43,13 +45,18 @@ fn records(rt: HostRuntime) -> Result<(), Fail> {
     Ok(())
 }
 
-#[test]
-fn figures(rt: HostRuntime) -> Result<(), Fail> {
-    let alloc = rt.alloc();
+/// The record of the rectangle.
+fn rectangle(alloc: Global) -> Result<Record, Fail> {
     let mut input = Input::new(Pieces::new(RECTANGLE, usize::MAX), Ignore::NOTHING);
     let id = read_id(&mut input)?;
     let kind = RecordType::of(id.value, input.ignore())?;
-    let record = read_fields(&mut input, alloc, kind, id.len, false)?;
+    Ok(read_fields(&mut input, alloc, kind, id.len, false)?)
+}
+
+#[test]
+fn figures(rt: HostRuntime) -> Result<(), Fail> {
+    let alloc = rt.alloc();
+    let record = rectangle(alloc)?;
     let mut modal = Modal::new();
     let drawn = modal.take(alloc, record)?;
     assert!(rt; matches!(drawn, Some(Drawn::Ring(_, _))));
@@ -59,7 +66,7 @@ fn figures(rt: HostRuntime) -> Result<(), Fail> {
 #[test]
 fn streams(rt: HostRuntime) -> Result<(), Fail> {
     let alloc = rt.alloc();
-    let bytes = square(alloc)?;
+    let bytes = TO_CELL;
     let mut input = Input::new(Pieces::new(&bytes, usize::MAX), Ignore::NOTHING);
     let mut order = Order::new();
     read_first(&mut input)?;

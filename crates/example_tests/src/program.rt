@@ -17,10 +17,18 @@ fn square(alloc: Global, name: &[u8]) -> Result<Vec<u8>, AllocError> {
     stream.end()
 }
 
+/// Two files with the same square, in structures of two names.
+fn squares(alloc: Global) -> Result<(Vec<u8>, Vec<u8>), AllocError> {
+    let one = square(alloc, b"TOP\0")?;
+    let other = square(alloc, b"MASK")?;
+    Ok((one, other))
+}
+
 #[test]
 fn verdicts(rt: HostRuntime) -> Result<(), Fail> {
     let alloc = rt.alloc();
-    let (one, other) = (square(alloc, b"TOP\0")?, square(alloc, b"MASK")?);
+    let files = squares(alloc)?;
+    let (one, other) = (files.0.as_slice(), files.1.as_slice());
     let tops = Tops {
         first: None,
         second: None,
