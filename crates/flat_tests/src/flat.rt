@@ -1,73 +1,42 @@
 //! What small libraries flatten to.
-use crate::rows::{check_text, cut, point};
-use lvl_cells::{Cell, Checked, Library, Reference, References, Shapes, check};
+use crate::cells::{METAL, ORIGIN, add_rectangle, checked, moved, placed_twice};
+use crate::rows::{check_text, cut, layer, point};
+use lvl_cells::{Builder, Checked, check};
 use lvl_flat::{Flat, FlatFault, flatten};
 use lvl_grid::{Map, Point, Ring, Rings, Square, Turn, Window};
-use lvl_names::{Layer, Name, Offsets};
+use lvl_names::{Layer, Offsets};
 use lvl_refusal::Cause;
 use std::alloc::{AllocError, Global};
 use std::test::Fail;
 
-const METAL: Layer = Layer {
-    layer: 1,
-    datatype: 0,
-};
-
-const ORIGIN: Point = Point { x: 0, y: 0 };
-
-/// A cell that draws the ring once on the Layer.
-fn with_ring(alloc: Global, name: &str, layer: Layer, ring: &Ring) -> Result<Cell, Fail> {
-    let mut shapes = Shapes::new(alloc);
-    shapes.push_ring(layer, ring.points(), &Offsets::single())?;
-    Ok(Cell {
-        name: Name::of(alloc, name.as_bytes())?,
-        shapes,
-        references: References::new(alloc),
-    })
+/// The corners of a square of one step.
+fn square_at(low: Point) -> Result<(Point, Point), Fail> {
+    Ok((low, low.offset(1, 1).ok_or("a corner")?))
 }
 
-/// A cell that draws the rectangle once on the Layer.
-fn drawing(alloc: Global, name: &str, layer: Layer, low: Point, high: Point) -> Result<Cell, Fail> {
-    with_ring(alloc, name, layer, &Ring::rectangle(alloc, low, high)?)
-}
-
-/// What places a cell by the map.
-fn reference(alloc: Global, placed: &str, map: Map) -> Result<Reference, Fail> {
-    let placed = Name::of(alloc, placed.as_bytes())?;
-    let reference = Reference::new(placed, map.flip, map.turn, map.at, Offsets::single());
-    Ok(reference.ok_or("places")?)
-}
-
-/// A cell that places another by the map.
-fn placing(alloc: Global, name: &str, placed: &str, map: Map) -> Result<Cell, Fail> {
-    let mut references = References::new(alloc);
-    references.push(reference(alloc, placed, map)?)?;
-    Ok(Cell {
-        name: Name::of(alloc, name.as_bytes())?,
-        shapes: Shapes::new(alloc),
-        references,
-    })
-}
-
-/// A library in which two maps one above the other place this cell A.
-fn placed_twice(alloc: Global, drawn: Cell, outer: Map, inner: Map) -> Result<Checked, Fail> {
-    let mut cells = Vec::new(alloc);
-    cells.push(drawn)?;
-    cells.push(placing(alloc, "M", "A", inner)?)?;
-    cells.push(placing(alloc, "TOP", "M", outer)?)?;
-    Ok(check(alloc, Library { cells }, None)?)
+/// Adds a cell that draws the rectangle.
+fn add_drawing(
+    alloc: Global,
+    builder: &mut Builder,
+    name: &[u8],
+    layer: Layer,
+    (low, high): (Point, Point),
+) -> Result<(), Fail> {
+    builder.open(alloc, name)?;
+    add_rectangle(alloc, builder, layer, low, high, &Offsets::single())?;
+    Ok(builder.close(alloc)?)
 }
 
 /// A library in which two maps one above the other place a rectangle.
 fn rectangle_placed(
     alloc: Global,
-    low: Point,
-    high: Point,
+    corners: (Point, Point),
     outer: Map,
     inner: Map,
 ) -> Result<Checked, Fail> {
-    let drawn = drawing(alloc, "A", METAL, low, high)?;
-    placed_twice(alloc, drawn, outer, inner)
+    let mut builder = Builder::new(alloc);
+    add_drawing(alloc, &mut builder, b"A", METAL, corners)?;
+    placed_twice(alloc, builder, outer, inner)
 }
 
 /// The least and the greatest corner of the points.
@@ -99,9 +68,13 @@ fn corners_text(alloc: Global, rings: &Rings) -> Result<String, AllocError> {
     Ok(text)
 }
 
+fn flat_of(alloc: Global, checked: Checked) -> Result<Flat, Fail> {
+    Ok(flatten(alloc, &checked)?)
+}
+
 /// The corners of the rings to which the library flattens.
-fn flat_corners(alloc: Global, checked: &Checked) -> Result<String, Fail> {
-    let flat = flatten(alloc, checked)?;
+fn flat_corners(alloc: Global, checked: Checked) -> Result<String, Fail> {
+    let flat = flat_of(alloc, checked)?;
     Ok(corners_text(alloc, flat.rings(METAL))?)
 }
 
@@ -147,8 +120,8 @@ fn map_of(words: &str) -> Result<Map, Fail> {
 /// The corners to which the rectangle comes.
 fn corners_by(alloc: Global, inner: Map) -> Result<String, Fail> {
     let outer = turned(false, Turn::R90, 10, 20);
-    let checked = rectangle_placed(alloc, ORIGIN, Point { x: 3, y: 1 }, outer, inner)?;
-    flat_corners(alloc, &checked)
+    let corners = (ORIGIN, Point { x: 3, y: 1 });
+    flat_corners(alloc, rectangle_placed(alloc, corners, outer, inner)?)
 }
 
 #[test]
@@ -164,27 +137,22 @@ fn maps_two_levels_deep(rt: HostRuntime) -> Result<(), Fail> {
 /// A library in which half a turn moves a square from the lower end of the range to its upper end, or
 /// so far beside it.
 fn turned_at_edge(alloc: Global, beside: i64) -> Result<Checked, Fail> {
-    let low = Point { x: i64::MIN, y: 0 };
-    let high = low.offset(1, 1).ok_or("a corner")?;
-    let plain = turned(false, Turn::R0, 0, 0);
+    let corners = square_at(Point { x: i64::MIN, y: 0 })?;
     let half = turned(false, Turn::R180, beside, 0);
-    rectangle_placed(alloc, low, high, half, plain)
+    rectangle_placed(alloc, corners, half, moved(ORIGIN))
 }
 
 #[test]
 fn placed_at_range_edge(rt: HostRuntime) -> Result<(), Fail> {
-    let checked = turned_at_edge(rt.alloc(), -1)?;
-    let found = flat_corners(rt.alloc(), &checked)?;
-    assert_eq!(rt;
-        found.as_str(),
-        "9223372036854775806,-1 9223372036854775807,0;"
-    );
+    let found = flat_corners(rt.alloc(), turned_at_edge(rt.alloc(), -1)?)?;
+    let want = "9223372036854775806,-1 9223372036854775807,0;";
+    check_text(&rt, &found, want, "turned");
     Ok(())
 }
 
 /// The cell for which the library is refused.
-fn refused_cell(alloc: Global, checked: &Checked) -> Result<Vec<u8>, Fail> {
-    match flatten(alloc, checked) {
+fn refused_cell(alloc: Global, checked: Checked) -> Result<Vec<u8>, Fail> {
+    match flatten(alloc, &checked) {
         Err(Cause::Breach(FlatFault::OutOfRange(name))) => Ok(name),
         _ => Err(Fail::from("not out of range")),
     }
@@ -192,37 +160,37 @@ fn refused_cell(alloc: Global, checked: &Checked) -> Result<Vec<u8>, Fail> {
 
 #[test]
 fn refused_at_range_edge(rt: HostRuntime) -> Result<(), Fail> {
-    let checked = turned_at_edge(rt.alloc(), 0)?;
-    let name = refused_cell(rt.alloc(), &checked)?;
+    let name = refused_cell(rt.alloc(), turned_at_edge(rt.alloc(), 0)?)?;
     assert_eq!(rt; name.as_slice(), b"A".as_slice());
     Ok(())
 }
 
-/// Draws the square at the lower end of the range, moved by a quarter of it, at two shifts: the second and that
-/// displacement are outside 64 bits together, where no square comes to lie.
-fn add_moved(alloc: Global, cell: &mut Cell) -> Result<(), Fail> {
-    let least = Point { x: i64::MIN, y: 0 };
-    let low = least.offset(1 << 62, 0).ok_or("a quarter")?;
-    let moved = Ring::rectangle(alloc, low, low.offset(1, 1).ok_or("a corner")?)?;
+/// The shifts of a square that is moved: no move, and the greatest.
+fn far_shifts(alloc: Global) -> Result<Offsets, Fail> {
     let far = Point { x: i64::MAX, y: 0 };
-    let shifts = Offsets::new([ORIGIN, far].to_vec(alloc)?).ok_or("shifts")?;
-    cell.shapes.push_ring(METAL, moved.points(), &shifts)?;
-    Ok(())
+    Ok(Offsets::new([ORIGIN, far].to_vec(alloc)?).ok_or("shifts")?)
 }
 
-/// A cell of a square at the lower end of the range, and of the same square moved.
-fn moved_cell(alloc: Global) -> Result<Cell, Fail> {
-    let low = Point { x: i64::MIN, y: 0 };
-    let high = low.offset(1, 1).ok_or("a corner")?;
-    let mut cell = drawing(alloc, "A", METAL, low, high)?;
-    add_moved(alloc, &mut cell)?;
-    Ok(cell)
+/// Adds a square at the lower end of the range, moved by a quarter of it, at two shifts: the second and that
+/// displacement are outside 64 bits together, where no square comes to lie.
+fn add_moved(alloc: Global, builder: &mut Builder, least: Point) -> Result<(), Fail> {
+    let (low, high) = square_at(least.offset(1 << 62, 0).ok_or("a quarter")?)?;
+    add_rectangle(alloc, builder, METAL, low, high, &far_shifts(alloc)?)
+}
+
+/// Adds a cell of a square at the lower end of the range, and of the same square moved.
+fn add_moved_cell(alloc: Global, builder: &mut Builder) -> Result<(), Fail> {
+    let (low, high) = square_at(Point { x: i64::MIN, y: 0 })?;
+    builder.open(alloc, b"A")?;
+    add_rectangle(alloc, builder, METAL, low, high, &Offsets::single())?;
+    add_moved(alloc, builder, low)?;
+    Ok(builder.close(alloc)?)
 }
 
 fn moved_far(alloc: Global) -> Result<Checked, Fail> {
-    let mut cells = Vec::new(alloc);
-    cells.push(moved_cell(alloc)?)?;
-    Ok(check(alloc, Library { cells }, None)?)
+    let mut builder = Builder::new(alloc);
+    add_moved_cell(alloc, &mut builder)?;
+    checked(alloc, builder)
 }
 
 /// The corners of the square, and of those that the shifts and a quarter of the range move it to.
@@ -233,8 +201,8 @@ const MOVED: &str = "\
 
 #[test]
 fn moved_outside_and_back(rt: HostRuntime) -> Result<(), Fail> {
-    let checked = moved_far(rt.alloc())?;
-    check_text(&rt, &flat_corners(rt.alloc(), &checked)?, MOVED, "moved");
+    let found = flat_corners(rt.alloc(), moved_far(rt.alloc())?)?;
+    check_text(&rt, &found, MOVED, "moved");
     Ok(())
 }
 
@@ -244,58 +212,67 @@ const FAR: Layer = Layer {
     datatype: 3,
 };
 
-fn add_layers(alloc: Global, shapes: &mut Shapes) -> Result<(), Fail> {
-    let ring = Ring::rectangle(alloc, ORIGIN, Point { x: 1, y: 1 })?;
-    for (layer, datatype) in [(7, 1), (0, 9), (7, 0), (1, 0)] {
-        let layer = Layer { layer, datatype };
-        shapes.push_ring(layer, ring.points(), &Offsets::single())?;
+/// The corners of a square.
+const SQUARE: (Point, Point) = (ORIGIN, Point { x: 1, y: 1 });
+
+/// Adds a top that draws a square on four Layers, on one of them twice.
+fn add_layered_top(alloc: Global, builder: &mut Builder) -> Result<(), Fail> {
+    let (low, high) = SQUARE;
+    builder.open(alloc, b"TOP")?;
+    for word in "1/0 7/1 0/9 7/0 1/0".split_whitespace() {
+        add_rectangle(alloc, builder, layer(word)?, low, high, &Offsets::single())?;
     }
-    Ok(())
+    Ok(builder.close(alloc)?)
 }
 
-/// A top that draws a square on four Layers, on one of them twice.
-fn layered_top(alloc: Global) -> Result<Cell, Fail> {
-    let mut top = drawing(alloc, "TOP", METAL, ORIGIN, Point { x: 1, y: 1 })?;
-    add_layers(alloc, &mut top.shapes)?;
-    Ok(top)
+/// Adds that top and a cell out of reach.
+fn add_layered(alloc: Global, builder: &mut Builder) -> Result<(), Fail> {
+    add_layered_top(alloc, builder)?;
+    add_drawing(alloc, builder, b"FAR", FAR, SQUARE)
 }
 
-/// The library of that top and of a cell out of reach.
 fn layered(alloc: Global) -> Result<Checked, Fail> {
-    let mut cells = Vec::new(alloc);
-    cells.push(layered_top(alloc)?)?;
-    cells.push(drawing(alloc, "FAR", FAR, ORIGIN, Point { x: 1, y: 1 })?)?;
-    Ok(check(alloc, Library { cells }, Some(b"TOP"))?)
+    let mut builder = Builder::new(alloc);
+    add_layered(alloc, &mut builder)?;
+    Ok(check(alloc, builder.finish(), Some(b"TOP"))?)
 }
 
-/// The Layers of a flat layout in their order, each with how many rings it has.
+/// The Layer at this place in a flat layout, with how many rings it has.
+fn layer_text(alloc: Global, flat: &Flat, place: usize) -> Result<String, AllocError> {
+    match flat.layer(place) {
+        Some(on) => {
+            let rings = flat.rings(on).len();
+            format!(in alloc; "{}/{} {rings};", on.layer, on.datatype)
+        }
+        None => Ok(String::new(alloc)),
+    }
+}
+
+/// The Layers of a flat layout in their order.
 fn layers_text(alloc: Global, flat: &Flat) -> Result<String, AllocError> {
     let mut text = String::new(alloc);
     for place in 0..flat.len() {
-        if let Some(on) = flat.layer(place) {
-            let rings = flat.rings(on).len();
-            text.push_str(&format!(in alloc; "{}/{} {rings};", on.layer, on.datatype)?)?;
-        }
+        text.push_str(&layer_text(alloc, flat, place)?)?;
     }
     Ok(text)
 }
 
 /// The Layers to which that library flattens, and how many rings there are on the one out of reach.
-fn layered_text(alloc: Global) -> Result<String, Fail> {
-    let flat = flatten(alloc, &layered(alloc)?)?;
-    let layers = layers_text(alloc, &flat)?;
-    Ok(format!(in alloc; "{layers} {}", flat.rings(FAR).len())?)
+fn layered_text(alloc: Global) -> Result<(String, usize), Fail> {
+    let flat = flat_of(alloc, layered(alloc)?)?;
+    Ok((layers_text(alloc, &flat)?, flat.rings(FAR).len()))
 }
 
 #[test]
 fn layers_in_order(rt: HostRuntime) -> Result<(), Fail> {
-    let found = layered_text(rt.alloc())?;
-    assert_eq!(rt; found.as_str(), "0/9 1;1/0 2;7/0 1;7/1 1; 0");
+    let (found, far) = layered_text(rt.alloc())?;
+    check_text(&rt, &found, "0/9 1;1/0 2;7/0 1;7/1 1;", "layers");
+    assert_eq!(rt; far, 0);
     Ok(())
 }
 
 /// An L: three squares along x, and one above the first.
-const L: [(i64, i64); 6] = [(0, 0), (3, 0), (3, 1), (1, 1), (1, 2), (0, 2)];
+const L: &str = "0,0 3,0 3,1 1,1 1,2 0,2";
 
 const L_SQUARES: [(i64, i64); 4] = [(0, 0), (1, 0), (2, 0), (0, 1)];
 
@@ -329,14 +306,32 @@ fn is_drawn(inner: Map, outer: Map, x: i64, y: i64) -> bool {
     false
 }
 
-/// The L in a cell A, as two maps one above the other place it.
-fn l_placed_twice(alloc: Global, outer: Map, inner: Map) -> Result<Flat, Fail> {
+fn l_ring(alloc: Global) -> Result<Ring, Fail> {
     let mut points = Vec::new(alloc);
-    for (x, y) in L {
-        points.push(Point { x, y })?;
+    for word in L.split_whitespace() {
+        points.push(point(word)?)?;
     }
-    let drawn = with_ring(alloc, "A", METAL, &Ring::new(points)?)?;
-    Ok(flatten(alloc, &placed_twice(alloc, drawn, outer, inner)?)?)
+    Ok(Ring::new(points)?)
+}
+
+/// Adds a cell A that draws the L.
+fn add_l(alloc: Global, builder: &mut Builder) -> Result<(), Fail> {
+    let ring = l_ring(alloc)?;
+    builder.open(alloc, b"A")?;
+    builder.add_ring(METAL, ring.points(), &Offsets::single())?;
+    Ok(builder.close(alloc)?)
+}
+
+/// A library in which two maps one above the other place the L.
+fn l_placed(alloc: Global, outer: Map, inner: Map) -> Result<Checked, Fail> {
+    let mut builder = Builder::new(alloc);
+    add_l(alloc, &mut builder)?;
+    placed_twice(alloc, builder, outer, inner)
+}
+
+/// What that library flattens to.
+fn l_placed_twice(alloc: Global, outer: Map, inner: Map) -> Result<Flat, Fail> {
+    flat_of(alloc, l_placed(alloc, outer, inner)?)
 }
 
 /// The first square that the rings cover and the maps do not send the L to, or the other way round.
@@ -384,8 +379,7 @@ fn all_maps_of_an_l(rt: HostRuntime) -> Result<(), Fail> {
 
 /// How many Layers the L has, placed once and once more, and how many rings on the first.
 fn flat_counts(alloc: Global) -> Result<(usize, usize), Fail> {
-    let plain = turned(false, Turn::R0, 0, 0);
-    let flat = l_placed_twice(alloc, plain, plain)?;
+    let flat = l_placed_twice(alloc, moved(ORIGIN), moved(ORIGIN))?;
     Ok((flat.len(), flat.rings(METAL).len()))
 }
 

@@ -1,6 +1,7 @@
 //! Rings that lie over one another, drawn in a window with room for few points.
+use crate::cells::METAL;
 use crate::rows::{check_text, cut, point};
-use crate::within::{METAL, count, drawn, spread};
+use crate::within::{count, drawn, spread};
 use lvl_cells::Checked;
 use lvl_flat::{Fitted, Flat};
 use lvl_grid::{Point, Window};

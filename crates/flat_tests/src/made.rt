@@ -165,19 +165,28 @@ fn found_to(
     found_between(alloc, &first, &second, Some(window))
 }
 
-/// A made pair, compared under a made map in a made window and square by square; also whether
-/// anything was found.
+/// Whether the pair is compared as square by square, and whether anything was found.
+fn agrees(
+    alloc: Global,
+    ours: &[LayerBox],
+    theirs: &[LayerBox],
+    targets: Targets,
+    window: Window,
+) -> Result<(bool, bool), Fail> {
+    let found = found_to(alloc, ours, theirs, targets, &window)?;
+    let wanted = apart(ours, theirs, targets, window);
+    Ok((found == wanted, found.is_some()))
+}
+
+/// A made pair, compared under a made map in a made window.
 fn pair_agrees(alloc: Global, start: u64) -> Result<(bool, bool), Fail> {
     let seed = next_made(next_made(start));
     let targets = (digit(seed, 20), digit(seed, 30), digit(seed, 40));
     let window = made_window(next_made(seed));
+    let other = if made(seed, 50, 2) == 0 { start } else { seed };
     let ours = made_boxes(alloc, start)?;
-    let theirs = made_boxes(alloc, if made(seed, 50, 2) == 0 { start } else { seed })?;
-    let found = found_to(alloc, &ours, &theirs, targets, &window)?;
-    Ok((
-        found == apart(&ours, &theirs, targets, window),
-        found.is_some(),
-    ))
+    let theirs = made_boxes(alloc, other)?;
+    agrees(alloc, &ours, &theirs, targets, window)
 }
 
 #[test]

@@ -1,8 +1,9 @@
 //! Shapes and references at lattices: what is drawn within a window is what is drawn in the plane,
 //! clipped to it.
+use crate::cells::METAL;
 use crate::made::{made, next_made};
 use crate::rows::numbers;
-use crate::within::{METAL, drawn, spread};
+use crate::within::{drawn, spread};
 use lvl_cells::Checked;
 use lvl_flat::Fitted;
 use lvl_grid::{Part, Point, Rings, Window};
@@ -94,13 +95,33 @@ impl Case {
     }
 }
 
+/// What is drawn in the plane, clipped to the window.
+fn clipped(alloc: Global, fitted: &Fitted, window: &Window) -> Result<Rings, Fail> {
+    let plane = fitted.within(alloc, &[METAL], &PLANE, usize::MAX)?;
+    let part = Part::Within(*window);
+    Ok(Rings::clipped(alloc, plane.rings(METAL), &part)?)
+}
+
+/// Whether that is what is drawn within the window.
+fn is_drawn(
+    alloc: Global,
+    fitted: &Fitted,
+    clipped: &Rings,
+    window: &Window,
+) -> Result<bool, Fail> {
+    let within = fitted.within(alloc, &[METAL], window, usize::MAX)?;
+    Ok(clipped.is_same(within.rings(METAL)))
+}
+
+fn agrees_in(alloc: Global, fitted: &Fitted, window: &Window) -> Result<bool, Fail> {
+    let clipped = clipped(alloc, fitted, window)?;
+    is_drawn(alloc, fitted, &clipped, window)
+}
+
 /// Whether what is drawn within the window is what is drawn in the plane, clipped to the window.
 fn agrees(alloc: Global, checked: Checked, window: &Window) -> Result<bool, Fail> {
     let fitted = Fitted::new(alloc, checked)?;
-    let within = fitted.within(alloc, &[METAL], window, usize::MAX)?;
-    let plane = fitted.within(alloc, &[METAL], &PLANE, usize::MAX)?;
-    let clipped = Rings::clipped(alloc, plane.rings(METAL), &Part::Within(*window))?;
-    Ok(clipped.is_same(within.rings(METAL)))
+    agrees_in(alloc, &fitted, window)
 }
 
 /// Whether that holds for a shape and for a reference.

@@ -9,6 +9,7 @@ use lvl_region::{GridRegion, Side};
 use lvl_sweep::SlabRegion;
 use lvl_view::View;
 use std::alloc::{AllocError, Global};
+use std::process::Abort;
 use std::test::Fail;
 
 /// A box on a Layer of datatype 0.
@@ -40,15 +41,19 @@ fn shapes_of(alloc: Global, boxes: &[LayerBox]) -> Result<Shapes, Fail> {
     Ok(shapes)
 }
 
-/// The flat layout of a cell that draws these boxes.
-pub fn flat_of(alloc: Global, boxes: &[LayerBox]) -> Result<Flat, Fail> {
-    let shapes = shapes_of(alloc, boxes)?;
-    let cell = Cell {
+/// A cell that draws these boxes.
+fn top_of(alloc: Global, boxes: &[LayerBox]) -> Result<Cell, Fail> {
+    Ok(Cell {
         name: Name::of(alloc, b"TOP")?,
-        shapes,
+        shapes: shapes_of(alloc, boxes)?,
         references: References::new(alloc),
-    };
-    Ok(flatten_shapes(alloc, &cell)?)
+    })
+}
+
+/// The flat layout of that cell.
+pub fn flat_of(alloc: Global, boxes: &[LayerBox]) -> Result<Flat, Fail> {
+    let top = top_of(alloc, boxes)?;
+    Ok(flatten_shapes(alloc, &top)?)
 }
 
 /// Which of the squares (1, 1), (2, 2) and (3, 3) a Layer covers, a bit each.
@@ -220,6 +225,13 @@ const BOXES: &str = "\
 1 0,0 4,3; 2 7,-5 8,-4 | 1 0,0 4,2; 1 0,0 4,2 | 1 0,2 First
 ";
 
+/// Ends the test if what is found isn't what the words want.
+fn check_found(rt: &impl Abort, found: Found, want: &str, row: &str) -> Result<(), Fail> {
+    let want = want_of(want)?;
+    assert!(rt; found == want, "{row}");
+    Ok(())
+}
+
 fn found_in_row(alloc: Global, words: &str) -> Result<Found, Fail> {
     let (first, second) = cut(words, " | ");
     let first = boxes_of(alloc, first)?;
@@ -231,9 +243,7 @@ fn found_in_row(alloc: Global, words: &str) -> Result<Found, Fail> {
 fn differences_by_any_region(rt: HostRuntime) -> Result<(), Fail> {
     for row in BOXES.lines() {
         let (words, want) = row.rsplit_once(" | ").unwrap_or((row, ""));
-        let found = found_in_row(rt.alloc(), words)?;
-        let want = want_of(want)?;
-        assert!(rt; found == want, "{row}");
+        check_found(&rt, found_in_row(rt.alloc(), words)?, want, row)?;
     }
     Ok(())
 }
@@ -242,7 +252,7 @@ const FIRST: &str = "1 low,low high,high; 2 low,low low+1,low+1";
 
 const SECOND: &str = "1 low,low high,high; 1 high-1,high-1 high,high; 2 high-1,low high,high";
 
-/// Windows at both ends of the range, from one corner to another, and what differs first.
+/// Windows at both ends of the range, from one corner to another, or none, and what differs first.
 const ENDS: &str = "\
 low,low high,high | 2 low,low First
 low+1,low high,high | 2 high-1,low Second
@@ -252,17 +262,21 @@ low,low+1 high-1,high | -
 low,low low+1,low+1 | 2 low,low First
 high-1,high-1 high,high | 2 high-1,high-1 Second
 low+1,low low+2,low+1 | -
+- | 2 low,low First
 ";
 
-fn window_of(words: &str) -> Result<Window, Fail> {
+fn window_of(words: &str) -> Result<Option<Window>, Fail> {
+    if words == "-" {
+        return Ok(None);
+    }
     let (low, high) = cut(words, " ");
     let (low, high) = (corner(low)?, corner(high)?);
-    Ok(Window {
+    Ok(Some(Window {
         x0: low.x,
         y0: low.y,
         x1: high.x,
         y1: high.y,
-    })
+    }))
 }
 
 /// What differs first in the window, or wherever it is.
@@ -277,12 +291,9 @@ fn windows_at_both_ends(rt: HostRuntime) -> Result<(), Fail> {
     for row in ENDS.lines() {
         let (words, want) = cut(row, " | ");
         let window = window_of(words)?;
-        let found = found_at_ends(rt.alloc(), Some(&window))?;
-        let want = want_of(want)?;
-        assert!(rt; found == want, "{row}");
+        let found = found_at_ends(rt.alloc(), window.as_ref())?;
+        check_found(&rt, found, want, row)?;
     }
-    let found = found_at_ends(rt.alloc(), None)?;
-    assert!(rt; found == want_of("2 low,low First")?);
     Ok(())
 }
 
@@ -306,14 +317,18 @@ fn found_beside(
     Ok(first_difference_in(alloc, &first, second, view.window())?)
 }
 
-#[test]
-fn growths(rt: HostRuntime) -> Result<(), Fail> {
-    let alloc = rt.alloc();
-    let view = View::read(alloc, Some("1/0=4/0,2/0=4/0"), Some("x=0..9,y=1..9"))?;
-    let second = three_mapped(alloc, &view)?;
+/// Two rings are on the Layer to which two others are mapped, and one of them differs first.
+fn check_mapped(rt: &impl Abort, alloc: Global, second: &Flat, view: &View) -> Result<(), Fail> {
     assert_eq!(rt; second.rings(on(4)).len(), 2);
     let at = Square { x: 1, y: 1 };
-    let found = found_beside(alloc, &second, &view)?;
+    let found = found_beside(alloc, second, view)?;
     assert!(rt; found == Some((on(4), at, Side::Second)));
     Ok(())
+}
+
+#[test]
+fn growths(rt: HostRuntime) -> Result<(), Fail> {
+    let view = View::read(rt.alloc(), Some("1/0=4/0,2/0=4/0"), Some("x=0..9,y=1..9"))?;
+    let second = three_mapped(rt.alloc(), &view)?;
+    check_mapped(&rt, rt.alloc(), &second, &view)
 }

@@ -1,10 +1,17 @@
 //! What small libraries flatten to within a window.
+ghost use Rattle.std.specs.Prelude.{AllPairs};
+ghost use Rattle.lvl_names.specs.Layers.{ComesBefore};
+
+use crate::cells::{
+    METAL, ORIGIN, add_drawing, add_placing, add_rectangle, checked, fitted, moved, placed_twice,
+    reference, tens, with_a,
+};
 use crate::places::case_in;
 use crate::rows::{self, check_text, cut};
-use lvl_cells::{Builder, Checked, Reference, check};
+use lvl_cells::{Builder, Checked};
 use lvl_flat::{Fitted, Flat, FlatFault};
-use lvl_grid::{Point, Ring, Square, Turn, Window};
-use lvl_names::{Layer, Name, Offsets};
+use lvl_grid::{Map, Point, Square, Turn, Window};
+use lvl_names::{Layer, Offsets};
 use lvl_refusal::Cause;
 use std::alloc::Global;
 use std::process::Abort;
@@ -14,85 +21,33 @@ mod tables;
 
 use tables::{LATTICES, WINDOWS};
 
-pub(crate) const METAL: Layer = Layer {
-    layer: 1,
-    datatype: 0,
-};
-
 const VIA: Layer = Layer {
     layer: 2,
     datatype: 0,
 };
 
-const ORIGIN: Point = Point { x: 0, y: 0 };
-
 fn window(x0: i64, y0: i64, x1: i64, y1: i64) -> Window {
     Window { x0, y0, x1, y1 }
 }
 
-/// A reference to the cell A.
-fn to_a(
-    alloc: Global,
-    flip: bool,
-    turn: Turn,
-    at: Point,
-    shifts: Offsets,
-) -> Result<Reference, Fail> {
-    let name = Name::new(Vec::from_slice(alloc, b"A")?)?;
-    Ok(Reference::new(name, flip, turn, at, shifts).ok_or("places")?)
-}
-
-/// Adds a cell that draws a rectangle of 4 by 2 at these shifts.
-fn add_drawing(
-    alloc: Global,
-    builder: &mut Builder,
-    name: &[u8],
-    shifts: &Offsets,
-) -> Result<(), Fail> {
-    let ring = Ring::rectangle(alloc, ORIGIN, Point { x: 4, y: 2 })?;
-    builder.open(alloc, name)?;
-    builder.add_ring(METAL, ring.points(), shifts)?;
-    builder.close(alloc)?;
-    Ok(())
-}
-
-/// Adds a cell that places another so.
-fn add_placing(
-    alloc: Global,
-    builder: &mut Builder,
-    name: &[u8],
-    reference: Reference,
-) -> Result<(), Fail> {
-    builder.open(alloc, name)?;
-    builder.add_reference(reference)?;
-    builder.close(alloc)?;
-    Ok(())
-}
-
-/// What places A six times in a lattice.
-fn six_of_a(alloc: Global) -> Result<Reference, Fail> {
-    let across = Point { x: 10, y: 0 };
-    let up = Point { x: 0, y: 10 };
-    let shifts = Offsets::lattice(across, 3, up, 2).ok_or("lattice")?;
-    to_a(alloc, false, Turn::R0, ORIGIN, shifts)
-}
-
-/// Adds a cell A that draws a rectangle of 4 by 2, and a top that places it six times in a lattice, and
-/// once more turned, from (48, 0) to (50, 4).
-fn add_arrayed(alloc: Global, builder: &mut Builder) -> Result<(), Fail> {
-    add_drawing(alloc, builder, b"A", &Offsets::single())?;
+/// Adds a top that places A six times in a lattice, and once more turned, from (48, 0) to (50, 4).
+fn add_top(alloc: Global, builder: &mut Builder) -> Result<(), Fail> {
+    let turned = Map {
+        flip: false,
+        turn: Turn::R90,
+        at: Point { x: 50, y: 0 },
+    };
     builder.open(alloc, b"TOP")?;
-    builder.add_reference(six_of_a(alloc)?)?;
-    let at = Point { x: 50, y: 0 };
-    builder.add_reference(to_a(alloc, false, Turn::R90, at, Offsets::single())?)?;
-    builder.close(alloc)?;
-    Ok(())
+    builder.add_reference(reference(alloc, b"A", moved(ORIGIN), tens(3, 2)?)?)?;
+    builder.add_reference(reference(alloc, b"A", turned, Offsets::single())?)?;
+    Ok(builder.close(alloc)?)
 }
 
+/// A cell A that draws a rectangle of 4 by 2, and that top.
 fn arrayed(alloc: Global) -> Result<Fitted, Fail> {
-    let mut builder = Builder::new(alloc);
-    add_arrayed(alloc, &mut builder)?;
-    Ok(Fitted::new(alloc, check(alloc, builder.finish(), None)?)?)
+    let mut builder = with_a(alloc)?;
+    add_top(alloc, &mut builder)?;
+    fitted(alloc, builder)
 }
 
 /// How many squares from (-5, -5) to (60, 20) the rings cover.
@@ -120,37 +75,25 @@ fn counts_text(alloc: Global, fitted: &Fitted, words: &str) -> Result<String, Fa
     Ok(format!(in alloc; "{covered} {held}")?)
 }
 
-#[test]
-fn windows(rt: HostRuntime) -> Result<(), Fail> {
-    let fitted = arrayed(rt.alloc())?;
+fn check_windows(rt: &impl Abort, alloc: Global, fitted: &Fitted) -> Result<(), Fail> {
     for row in WINDOWS.lines() {
         let (_, words) = cut(row, " | ");
         let (words, want) = cut(words, " | ");
-        check_text(&rt, &counts_text(rt.alloc(), &fitted, words)?, want, row);
+        check_text(rt, &counts_text(alloc, fitted, words)?, want, row);
     }
     Ok(())
 }
 
-/// What places the cell M.
-fn to_m(alloc: Global, at: Point) -> Result<Reference, Fail> {
-    let name = Name::new(Vec::from_slice(alloc, b"M")?)?;
-    let placed = Reference::new(name, false, Turn::R0, at, Offsets::single());
-    Ok(placed.ok_or("places")?)
+#[test]
+fn windows(rt: HostRuntime) -> Result<(), Fail> {
+    let fitted = arrayed(rt.alloc())?;
+    check_windows(&rt, rt.alloc(), &fitted)
 }
 
-/// Adds a top that places A, which draws a rectangle of 4 by 2, at `outer` by way of a cell that places it
+/// A top that places A, which draws a rectangle of 4 by 2, at `outer` by way of a cell that places it
 /// at `inner`.
-fn add_chain(alloc: Global, builder: &mut Builder, outer: Point, inner: Point) -> Result<(), Fail> {
-    add_drawing(alloc, builder, b"A", &Offsets::single())?;
-    let placed = to_a(alloc, false, Turn::R0, inner, Offsets::single())?;
-    add_placing(alloc, builder, b"M", placed)?;
-    add_placing(alloc, builder, b"TOP", to_m(alloc, outer)?)
-}
-
 fn chained(alloc: Global, outer: Point, inner: Point) -> Result<Checked, Fail> {
-    let mut builder = Builder::new(alloc);
-    add_chain(alloc, &mut builder, outer, inner)?;
-    Ok(check(alloc, builder.finish(), None)?)
+    placed_twice(alloc, with_a(alloc)?, moved(outer), moved(inner))
 }
 
 const FAR: Point = Point { x: i64::MAX, y: 0 };
@@ -172,81 +115,81 @@ fn out_of_range(rt: HostRuntime) -> Result<(), Fail> {
     Ok(())
 }
 
-/// A box that leaves 64 bits on the way decides nothing.
-#[test]
-fn back_in_range(rt: HostRuntime) -> Result<(), Fail> {
+/// How many squares are covered where A is moved far and back.
+fn covered_back(alloc: Global) -> Result<u64, Fail> {
     let back = Point {
         x: i64::MIN + 1,
         y: 0,
     };
-    let returned = Fitted::new(rt.alloc(), chained(rt.alloc(), back, FAR)?)?;
-    let (covered, _) = counts(rt.alloc(), &returned, &window(0, 0, 2, 2))?;
-    assert_eq!(rt; covered, 4);
+    let returned = Fitted::new(alloc, chained(alloc, back, FAR)?)?;
+    covered_in(alloc, &returned, &window(0, 0, 2, 2))
+}
+
+/// A box that leaves 64 bits on the way decides nothing.
+#[test]
+fn back_in_range(rt: HostRuntime) -> Result<(), Fail> {
+    assert_eq!(rt; covered_back(rt.alloc())?, 4);
     Ok(())
 }
 
-fn covered_in(alloc: Global, window: &Window) -> Result<u64, Fail> {
-    let fitted = arrayed(alloc)?;
+fn covered_in(alloc: Global, fitted: &Fitted, window: &Window) -> Result<u64, Fail> {
     let flat = fitted.within(alloc, &[METAL], window, usize::MAX)?;
     Ok(count(&flat))
 }
 
+fn covered_of_arrayed(alloc: Global, window: &Window) -> Result<u64, Fail> {
+    let fitted = arrayed(alloc)?;
+    covered_in(alloc, &fitted, window)
+}
+
 #[test]
 fn growths_of_a_window(rt: HostRuntime) -> Result<(), Fail> {
-    let covered = covered_in(rt.alloc(), &window(2, 1, 12, 11))?;
+    let covered = covered_of_arrayed(rt.alloc(), &window(2, 1, 12, 11))?;
     assert_eq!(rt; covered, 8);
     Ok(())
 }
 
 /// Adds a top that draws a rectangle of 4 by 2 on two Layers.
 fn add_two_layers(alloc: Global, builder: &mut Builder) -> Result<(), Fail> {
-    let ring = Ring::rectangle(alloc, ORIGIN, Point { x: 4, y: 2 })?;
+    let high = Point { x: 4, y: 2 };
     builder.open(alloc, b"TOP")?;
-    builder.add_ring(VIA, ring.points(), &Offsets::single())?;
-    builder.add_ring(METAL, ring.points(), &Offsets::single())?;
-    builder.close(alloc)?;
-    Ok(())
+    add_rectangle(alloc, builder, VIA, ORIGIN, high, &Offsets::single())?;
+    add_rectangle(alloc, builder, METAL, ORIGIN, high, &Offsets::single())?;
+    Ok(builder.close(alloc)?)
 }
 
 fn two_layers(alloc: Global) -> Result<Fitted, Fail> {
     let mut builder = Builder::new(alloc);
     add_two_layers(alloc, &mut builder)?;
-    Ok(Fitted::new(alloc, check(alloc, builder.finish(), None)?)?)
+    fitted(alloc, builder)
 }
 
-/// How many rings there are on METAL and on VIA.
-fn rings_on(flat: &Flat) -> (usize, usize) {
-    (flat.rings(METAL).len(), flat.rings(VIA).len())
+/// How many rings there are on METAL and on VIA, if these Layers are drawn.
+fn rings_on(alloc: Global, fitted: &Fitted, layers: &[Layer]) -> Result<(usize, usize), Fail>
+    requires { AllPairs ComesBefore layers.now }
+{
+    let flat = fitted.within(alloc, layers, &window(0, 0, 9, 9), usize::MAX)?;
+    Ok((flat.rings(METAL).len(), flat.rings(VIA).len()))
 }
 
 fn check_layers(rt: &impl Abort, alloc: Global, fitted: &Fitted) -> Result<(), Fail> {
-    let nine = window(0, 0, 9, 9);
-    assert_eq!(rt;
-        rings_on(&fitted.within(alloc, &[], &nine, usize::MAX)?),
-        (0, 0)
-    );
-    assert_eq!(rt;
-        rings_on(&fitted.within(alloc, &[METAL], &nine, usize::MAX)?),
-        (1, 0)
-    );
-    assert_eq!(rt;
-        rings_on(&fitted.within(alloc, &[VIA], &nine, usize::MAX)?),
-        (0, 1)
-    );
-    assert_eq!(rt;
-        rings_on(&fitted.within(alloc, &[METAL, VIA], &nine, usize::MAX)?),
-        (1, 1)
-    );
+    assert_eq!(rt; rings_on(alloc, fitted, &[])?, (0, 0));
+    assert_eq!(rt; rings_on(alloc, fitted, &[METAL])?, (1, 0));
+    assert_eq!(rt; rings_on(alloc, fitted, &[VIA])?, (0, 1));
+    assert_eq!(rt; rings_on(alloc, fitted, &[METAL, VIA])?, (1, 1));
+    Ok(())
+}
+
+fn check_listed(rt: &impl Abort, alloc: Global, fitted: &Fitted) -> Result<(), Fail> {
+    let layers = fitted.layers(alloc)?;
+    assert_eq!(rt; layers.as_slice(), [METAL, VIA].as_slice());
     Ok(())
 }
 
 #[test]
 fn some_layers(rt: HostRuntime) -> Result<(), Fail> {
     let fitted = two_layers(rt.alloc())?;
-    assert_eq!(rt;
-        fitted.layers(rt.alloc())?.as_slice(),
-        [METAL, VIA].as_slice()
-    );
+    check_listed(&rt, rt.alloc(), &fitted)?;
     check_layers(&rt, rt.alloc(), &fitted)
 }
 
@@ -258,46 +201,41 @@ fn holds_four(alloc: Global, fitted: &Fitted, window: &Window, most: usize) -> b
     }
 }
 
+/// Four rectangles, of four points each.
+fn check_four(rt: &impl Abort, alloc: Global, fitted: &Fitted) {
+    let four = window(2, 1, 12, 11);
+    assert!(rt; !holds_four(alloc, fitted, &four, 0));
+    assert!(rt; !holds_four(alloc, fitted, &four, 15));
+    assert!(rt; holds_four(alloc, fitted, &four, 16));
+    assert!(rt; holds_four(alloc, fitted, &four, 17));
+}
+
 #[test]
 fn points_at_most(rt: HostRuntime) -> Result<(), Fail> {
     let fitted = arrayed(rt.alloc())?;
-    let four = window(2, 1, 12, 11);
-    // Four rectangles, of four points each.
-    for (most, want) in [(0, false), (15, false), (16, true), (17, true)] {
-        assert_eq!(rt;
-            holds_four(rt.alloc(), &fitted, &four, most),
-            want,
-            "{most}"
-        );
-    }
+    check_four(&rt, rt.alloc(), &fitted);
     Ok(())
 }
 
-/// Adds a top that places A, which draws a rectangle of 4 by 2, at these shifts.
-fn add_spread(alloc: Global, builder: &mut Builder, shifts: Offsets) -> Result<(), Fail> {
-    let placed = to_a(alloc, false, Turn::R0, ORIGIN, shifts)?;
-    add_drawing(alloc, builder, b"A", &Offsets::single())?;
-    add_placing(alloc, builder, b"TOP", placed)
-}
-
+/// A top that places A, which draws a rectangle of 4 by 2, at these shifts.
 pub(crate) fn spread(alloc: Global, shifts: Offsets) -> Result<Checked, Fail> {
-    let mut builder = Builder::new(alloc);
-    add_spread(alloc, &mut builder, shifts)?;
-    Ok(check(alloc, builder.finish(), None)?)
+    let mut builder = with_a(alloc)?;
+    add_placing(alloc, &mut builder, b"TOP", b"A", moved(ORIGIN), shifts)?;
+    checked(alloc, builder)
 }
 
 /// The same, but the top draws the rectangle itself at the shifts.
 pub(crate) fn drawn(alloc: Global, shifts: &Offsets) -> Result<Checked, Fail> {
     let mut builder = Builder::new(alloc);
     add_drawing(alloc, &mut builder, b"TOP", shifts)?;
-    Ok(check(alloc, builder.finish(), None)?)
+    checked(alloc, builder)
 }
 
 /// How many rings there are in the window.
 fn rings_in(alloc: Global, checked: Checked, window: &Window) -> Result<usize, Fail> {
     let fitted = Fitted::new(alloc, checked)?;
-    let flat = fitted.within(alloc, &[METAL], window, usize::MAX)?;
-    Ok(flat.rings(METAL).len())
+    let (_, held) = counts(alloc, &fitted, window)?;
+    Ok(held)
 }
 
 /// How many rings there are in the window, where the shifts are those of a shape and of a reference.
@@ -313,8 +251,7 @@ fn point(x: i64, y: i64) -> Point {
 
 /// How many of 1,000 by 1,000 rectangles that are 10 apart reach into the window.
 fn million_in(alloc: Global, window: &Window) -> Result<usize, Fail> {
-    let shifts = Offsets::lattice(point(10, 0), 1000, point(0, 10), 1000);
-    rings_in(alloc, spread(alloc, shifts.ok_or("lattice")?)?, window)
+    rings_in(alloc, spread(alloc, tens(1000, 1000)?)?, window)
 }
 
 #[test]

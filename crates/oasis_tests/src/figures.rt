@@ -29,6 +29,20 @@ fn next<R: Read>(input: &mut Input<R>, alloc: Global) -> Result<Option<Record>, 
     }
 }
 
+/// Puts what the next record draws into `drawn`. False if there is no record.
+fn take_next<R: Read>(
+    input: &mut Input<R>,
+    modal: &mut Modal,
+    alloc: Global,
+    drawn: &mut Option<Drawn>,
+) -> Result<bool, Cause<FigureRule>> {
+    let Some(record) = next(input, alloc)? else {
+        return Ok(false);
+    };
+    *drawn = modal.take(alloc, record)?;
+    Ok(true)
+}
+
 /// What the last of these records draws after those before it.
 fn take_all(
     modal: &mut Modal,
@@ -38,10 +52,9 @@ fn take_all(
     let mut input = Input::new(Pieces::new(bytes, 1), Ignore::NOTHING);
     let mut drawn = None;
     for _ in 0..bytes.len() {
-        let Some(record) = next(&mut input, alloc)? else {
-            return Ok(drawn);
-        };
-        drawn = modal.take(alloc, record)?;
+        if !take_next(&mut input, modal, alloc, &mut drawn)? {
+            break;
+        }
     }
     Ok(drawn)
 }

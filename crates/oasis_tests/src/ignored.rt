@@ -147,20 +147,31 @@ fn ignored_text(alloc: Global, record: &Record) -> Result<String, AllocError> {
     }
 }
 
-/// What the record of all these bytes is, or the rule or the value that it breaches.
+/// What the next record is, if it is all of these `len` bytes, or the rule or the value that it breaches.
+fn next_text<R: Read>(
+    input: &mut Input<R>,
+    alloc: Global,
+    ignore: Ignore,
+    len: usize,
+) -> Result<String, AllocError> {
+    match next(input, alloc, ignore) {
+        Ok(record) => {
+            if input.offset() == len as u64 {
+                ignored_text(alloc, &record)
+            } else {
+                String::from_str(alloc, "bytes are left")
+            }
+        }
+        Err(Cause::Breach(fault)) => format!(in alloc; "{fault:?}"),
+        Err(Cause::OutOfMemory) => Err(AllocError),
+    }
+}
+
+/// What the record of all these bytes is.
 fn record_text(alloc: Global, words: &str, ignore: Ignore) -> Result<String, Fail> {
     let bytes = bytes_of(alloc, words)?;
     let mut input = Input::new(Pieces::new(&bytes, 2), ignore);
-    let text = match next(&mut input, alloc, ignore) {
-        Ok(record) => ignored_text(alloc, &record),
-        Err(Cause::Breach(fault)) => return Ok(format!(in alloc; "{fault:?}")?),
-        Err(Cause::OutOfMemory) => Err(AllocError),
-    };
-    if input.offset() == bytes.len() as u64 {
-        Ok(text?)
-    } else {
-        Err(Fail::from("bytes are left"))
-    }
+    Ok(next_text(&mut input, alloc, ignore, bytes.len())?)
 }
 
 /// What is ignored, by its name.
@@ -183,7 +194,25 @@ fn without(ignore: Ignore) -> Ignore {
     }
 }
 
-/// A record is a text if its type is 19, and is unsupported where it isn't ignored.
+/// The rule by which a record of this type is refused.
+fn unsupported(alloc: Global, id: &str) -> Result<String, AllocError> {
+    format!(in alloc; "Rule(Unsupported({id}))")
+}
+
+/// A record is unsupported where it isn't ignored.
+fn check_refused(
+    rt: &impl Abort,
+    alloc: Global,
+    words: &str,
+    ignore: Ignore,
+    id: &str,
+) -> Result<(), Fail> {
+    let refused = record_text(alloc, words, without(ignore))?;
+    check_text(rt, &refused, &unsupported(alloc, id)?, words);
+    Ok(())
+}
+
+/// A record is a text if its type is 19.
 fn check_record(rt: &impl Abort, alloc: Global, row: &str) -> Result<(), Fail> {
     let (words, wanted) = cut(row, " | ");
     let (name, id) = cut(wanted, " ");
@@ -191,14 +220,7 @@ fn check_record(rt: &impl Abort, alloc: Global, row: &str) -> Result<(), Fail> {
     let found = record_text(alloc, words, ignore)?;
     let want = if id == "19" { "text" } else { "no text" };
     assert!(rt; found.starts_with(want), "{row}");
-    let refused = record_text(alloc, words, without(ignore))?;
-    check_text(
-        rt,
-        &refused,
-        &format!(in alloc; "Rule(Unsupported({id}))")?,
-        row,
-    );
-    Ok(())
+    check_refused(rt, alloc, words, ignore, id)
 }
 
 #[test]

@@ -1,5 +1,6 @@
 //! Files read whole: what each spells, and that it doesn't matter how a reader cuts the bytes.
 
+use crate::rows::{check_text, cut};
 use lvl_cells::{Cell, Library, MovedRing, Shapes};
 use lvl_grid::Point;
 use lvl_io::fake::Pieces;
@@ -89,16 +90,25 @@ fn box_of(ring: &MovedRing<'_>) -> [i64; 4] {
     sides
 }
 
-/// The boxes of all rings of the first cell, each with its number of points.
-pub fn boxes(alloc: Global, library: &Library) -> Result<Vec<([i64; 4], usize)>, AllocError> {
+/// A box, and the number of points of its ring.
+pub type Boxed = ([i64; 4], usize);
+
+/// Adds the boxes of all rings of these shapes.
+fn add_boxes(boxes: &mut Vec<Boxed>, shapes: &Shapes) -> Result<(), AllocError> {
+    for i in 0..shapes.len() {
+        for j in 0..shapes.ring_count(i) {
+            let ring = shapes.ring(i, j);
+            boxes.push((box_of(&ring), ring.len()))?;
+        }
+    }
+    Ok(())
+}
+
+/// The boxes of all rings of the first cell.
+pub fn boxes(alloc: Global, library: &Library) -> Result<Vec<Boxed>, AllocError> {
     let mut boxes = Vec::new(alloc);
     if let Some(cell) = library.cells.first() {
-        for i in 0..cell.shapes.len() {
-            for j in 0..cell.shapes.ring_count(i) {
-                let ring = cell.shapes.ring(i, j);
-                boxes.push((box_of(&ring), ring.len()))?;
-            }
-        }
+        add_boxes(&mut boxes, &cell.shapes)?;
     }
     Ok(boxes)
 }
@@ -113,10 +123,11 @@ fn check_square(rt: &impl Abort, shapes: &Shapes) {
     assert_eq!(rt; shapes.layer(0), layer);
     assert_eq!(rt; shapes.shift_count(0), 1);
     assert_eq!(rt; shapes.ring_count(0), 1);
-    let points: [(i64, i64); 4] = [(0, 0), (10, 0), (10, 10), (0, 10)];
-    for (k, (x, y)) in points.iter().enumerate() {
-        assert_eq!(rt; shapes.ring(0, 0).get(k), Some(Point { x: *x, y: *y }));
-    }
+    let ring = shapes.ring(0, 0);
+    assert_eq!(rt; ring.get(0), Some(Point { x: 0, y: 0 }));
+    assert_eq!(rt; ring.get(1), Some(Point { x: 10, y: 0 }));
+    assert_eq!(rt; ring.get(2), Some(Point { x: 10, y: 10 }));
+    assert_eq!(rt; ring.get(3), Some(Point { x: 0, y: 10 }));
 }
 
 /// One cell, TOP, with the square.
@@ -131,8 +142,8 @@ fn check_top(rt: &impl Abort, library: &Library) -> Result<(), Fail> {
 
 /// The file with the square, and what it says of itself.
 fn check_file(rt: &impl Abort, alloc: Global, bytes: &[u8]) -> Result<(), Fail> {
-    let (library, head) = read(alloc, bytes, 1000)?;
-    assert_eq!(rt; head, HEAD);
+    assert_eq!(rt; head_of(alloc, bytes, 1000)?, (HEAD, 1));
+    let (library, _) = read(alloc, bytes, 1000)?;
     check_top(rt, &library)
 }
 
@@ -143,86 +154,85 @@ fn reads_a_square(rt: HostRuntime) -> Result<(), Fail> {
     check_file(&rt, rt.alloc(), &bytes)
 }
 
-/// These bytes, each followed by a number of zeros.
-fn with_zeros(alloc: Global, parts: &[(&[u8], usize)]) -> Result<Vec<u8>, AllocError> {
-    let mut bytes = Vec::new(alloc);
-    for (part, zeros) in parts {
-        bytes.extend_from_slice(part)?;
-        let long = bytes.len().saturating_add(*zeros);
-        bytes.resize(long, 0)?;
-    }
-    Ok(bytes)
-}
-
 /// What a file says of itself, and how many cells it has.
-fn head_of(alloc: Global, bytes: &[u8]) -> Result<(OasisHead, usize), Cause<OasisFault>> {
-    let (library, head) = read(alloc, bytes, 1000)?;
+fn head_of(
+    alloc: Global,
+    bytes: &[u8],
+    most: usize,
+) -> Result<(OasisHead, usize), Cause<OasisFault>> {
+    let (library, head) = read(alloc, bytes, most)?;
     Ok((head, library.cells.len()))
 }
 
-/// Rows tables-in-end, signature-shown and units-shown: what a file says of itself.
-#[test]
-fn reads_heads(rt: HostRuntime) -> Result<(), Fail> {
-    let ratio = OasisHead {
-        unit: Real::Ratio(2, 8),
-        ..HEAD
-    };
-    let eight = OasisHead {
-        unit: Real::Eight([0, 0, 0, 0, 0, 0x40, 0x8F, 0x40]),
-        ..HEAD
-    };
-    let signed = OasisHead {
-        unit: Real::Whole(1000),
-        scheme: 1,
-        signature: [1, 2, 3, 4],
-    };
-    let flagged =
-        b"%SEMI-OASIS\r\n\x01\x031.0\x00\xE8\x07\x01\x0E\x03TOP\x14\x7B\x01\x00\x0A\x0A\x00\x00\x02";
-    let ieee = b"%SEMI-OASIS\r\n\x01\x031.0\x07\x00\x00\x00\x00\x00\x40\x8F\x40\x00";
-    let two_by_eight = b"%SEMI-OASIS\r\n\x01\x031.0\x04\x02\x08\x00";
-    let rows: [([(&[u8], usize); 3], OasisHead, usize); 4] = [
-        ([(flagged, 12), (b"\xF0\x01", 241), (b"", 0)], HEAD, 1),
-        (
-            [(two_by_eight, 12), (b"\x02\xFC\x01", 253), (b"", 0)],
-            ratio,
-            0,
-        ),
-        ([(ieee, 12), (b"\x02\xFC\x01", 253), (b"", 0)], eight, 0),
-        (
-            [
-                (START, 13),
-                (b"\x0E\x03TOP\x02\xF8\x01", 248),
-                (b"\x01\x01\x02\x03\x04", 0),
-            ],
-            signed,
-            1,
-        ),
-    ];
-    for (parts, want, cells) in rows {
-        let bytes = with_zeros(rt.alloc(), &parts)?;
-        assert_eq!(rt; head_of(rt.alloc(), &bytes)?, (want, cells));
+/// Rows tables-in-end, signature-shown and units-shown: files, as their bytes after the magic string, where `*12` is
+/// 12 zeros; and what each says of itself, with how many cells it has.
+const HEADS: &str = "\
+01 03 31 2E 30 00 E8 07 01 0E 03 54 4F 50 14 7B 01 00 0A 0A 00 00 02 *12 F0 01 *241 \
+    | Whole(1000) 0 [0, 0, 0, 0] 1
+01 03 31 2E 30 04 02 08 00 *12 02 FC 01 *253 | Ratio(2, 8) 0 [0, 0, 0, 0] 0
+01 03 31 2E 30 07 00 00 00 00 00 40 8F 40 00 *12 02 FC 01 *253 \
+    | Eight([0, 0, 0, 0, 0, 64, 143, 64]) 0 [0, 0, 0, 0] 0
+01 03 31 2E 30 00 E8 07 *13 0E 03 54 4F 50 02 F8 01 *248 01 01 02 03 04 | Whole(1000) 1 [1, 2, 3, 4] 1
+";
+
+fn add_word(bytes: &mut Vec<u8>, word: &str) -> Result<(), Fail> {
+    match word.strip_prefix("*") {
+        Some(zeros) => {
+            let long = bytes.len().saturating_add(zeros.parse::<usize>()?);
+            bytes.resize(long, 0)?;
+        }
+        None => bytes.push(u8::from_str_radix(word, 16)?)?,
     }
     Ok(())
 }
 
-/// What a file says of itself, and the box of its first ring with the number of points.
-fn head_and_box(
-    alloc: Global,
-    bytes: &[u8],
-    most: usize,
-) -> Result<(OasisHead, Option<([i64; 4], usize)>), Cause<OasisFault>> {
-    let (library, head) = read(alloc, bytes, most)?;
-    let found = boxes(alloc, &library)?;
-    Ok((head, found.first().copied()))
+/// The magic string, and the bytes of these words.
+fn with_magic(alloc: Global, words: &str) -> Result<Vec<u8>, Fail> {
+    let mut bytes = Vec::from_slice(alloc, b"%SEMI-OASIS\r\n")?;
+    for word in words.split_whitespace() {
+        add_word(&mut bytes, word)?;
+    }
+    Ok(bytes)
+}
+
+fn head_text(alloc: Global, words: &str) -> Result<String, Fail> {
+    let bytes = with_magic(alloc, words)?;
+    let (head, cells) = head_of(alloc, &bytes, 1000)?;
+    let OasisHead {
+        unit,
+        scheme,
+        signature,
+    } = head;
+    Ok(format!(in alloc; "{unit:?} {scheme} {signature:?} {cells}")?)
+}
+
+#[test]
+fn reads_heads(rt: HostRuntime) -> Result<(), Fail> {
+    for row in HEADS.lines() {
+        let (words, want) = cut(row, " | ");
+        check_text(&rt, &head_text(rt.alloc(), words)?, want, row);
+    }
+    Ok(())
+}
+
+/// The box of the first ring of a file.
+fn first_box(alloc: Global, bytes: &[u8], most: usize) -> Result<Option<Boxed>, Fail> {
+    let (library, _) = read(alloc, bytes, most)?;
+    Ok(boxes(alloc, &library)?.first().copied())
+}
+
+/// The file with the square, in pieces of at most `most` bytes.
+fn check_pieces(rt: &impl Abort, alloc: Global, bytes: &[u8], most: usize) -> Result<(), Fail> {
+    assert_eq!(rt; head_of(alloc, bytes, most)?, (HEAD, 1));
+    assert_eq!(rt; first_box(alloc, bytes, most)?, Some(([0, 0, 10, 10], 4)));
+    Ok(())
 }
 
 #[test]
 fn reads_pieces_of_any_size_alike(rt: HostRuntime) -> Result<(), Fail> {
     let bytes = square(rt.alloc())?;
     for most in [1, 2, 3, 4095, 4096, 65_536, usize::MAX] {
-        let (head, first) = head_and_box(rt.alloc(), &bytes, most)?;
-        assert_eq!(rt; head, HEAD);
-        assert_eq!(rt; first, Some(([0, 0, 10, 10], 4)));
+        check_pieces(&rt, rt.alloc(), &bytes, most)?;
     }
     Ok(())
 }

@@ -1,6 +1,6 @@
 //! Files read whole: what is drawn, how often, and which cells are placed.
 
-use crate::library::{TOP, boxes, first_of, library_of};
+use crate::library::{Boxed, TOP, boxes, first_of, library_of};
 use crate::rows::{bytes_of, check_text, cut};
 use lvl_cells::{Cell, KeptReference, Library, Shapes};
 use lvl_grid::Point;
@@ -26,30 +26,38 @@ const BOXES: &str = "\
 0E 03 54 4F 50 14 7B 01 00 00 05 00 00 | 0,0,0,5
 ";
 
-/// The boxes of the cell TOP, each of which is to be that of four points.
-fn boxes_text(alloc: Global, library: &Library) -> Result<String, Fail> {
+/// A box, which is to be that of four points.
+fn box_text(alloc: Global, (sides, points): &Boxed) -> Result<String, AllocError> {
+    let [x0, y0, x1, y1] = *sides;
+    if *points != 4 {
+        return String::from_str(alloc, "not of four points");
+    }
+    format!(in alloc; "{x0},{y0},{x1},{y1}")
+}
+
+fn boxes_text(alloc: Global, boxes: &[Boxed]) -> Result<String, AllocError> {
     let mut text = String::new(alloc);
-    for (sides, points) in &boxes(alloc, library)? {
-        let [x0, y0, x1, y1] = *sides;
+    for boxed in boxes {
         text.push_str(if text.is_empty() { "" } else { "; " })?;
-        text.push_str(&format!(in alloc; "{x0},{y0},{x1},{y1}")?)?;
-        text.push_str(if *points == 4 {
-            ""
-        } else {
-            " not of four points"
-        })?;
+        text.push_str(&box_text(alloc, boxed)?)?;
     }
     Ok(text)
+}
+
+/// The boxes of the cell TOP.
+fn top_boxes(alloc: Global, library: &Library) -> Result<String, Fail> {
+    if first_of(library)?.name.as_bytes() != b"TOP".as_slice() {
+        return Ok(String::from_str(alloc, "another cell")?);
+    }
+    let found = boxes(alloc, library)?;
+    Ok(boxes_text(alloc, &found)?)
 }
 
 /// What the cell TOP of a file of these records draws.
 fn drawn_boxes(alloc: Global, words: &str) -> Result<String, Fail> {
     let records = bytes_of(alloc, words)?;
     let library = library_of(alloc, &[&records], 5)?;
-    if first_of(&library)?.name.as_bytes() != b"TOP".as_slice() {
-        return Ok(String::from_str(alloc, "another cell")?);
-    }
-    boxes_text(alloc, &library)
+    top_boxes(alloc, &library)
 }
 
 #[test]

@@ -61,16 +61,30 @@ fn check_record(rt: &impl Abort, number: u32, record: &Record) -> Result<(), Fai
     Ok(())
 }
 
+/// The record that comes next, which has that number, counted from START.
+fn check_next<R: Read>(
+    rt: &impl Abort,
+    alloc: Global,
+    input: &mut Input<R>,
+    number: u32,
+) -> Result<(), Fail> {
+    let record = next(input, alloc).ok_or("a record")?;
+    check_record(rt, number, &record)
+}
+
 /// The magic string and the four records.
-fn check_square(rt: &impl Abort, alloc: Global, bytes: &[u8]) -> Result<(), Fail> {
-    let mut input = Input::new(Pieces::new(bytes, 1), Ignore::NOTHING);
-    assert!(rt; read_magic(&mut input).is_ok());
+fn check_all<R: Read>(rt: &impl Abort, alloc: Global, input: &mut Input<R>) -> Result<(), Fail> {
+    assert!(rt; read_magic(input).is_ok());
     for number in 0..4 {
-        let record = next(&mut input, alloc).ok_or("a record")?;
-        check_record(rt, number, &record)?;
+        check_next(rt, alloc, input, number)?;
     }
     assert_eq!(rt; input.offset(), 303);
     Ok(())
+}
+
+fn check_square(rt: &impl Abort, alloc: Global, bytes: &[u8]) -> Result<(), Fail> {
+    let mut input = Input::new(Pieces::new(bytes, 1), Ignore::NOTHING);
+    check_all(rt, alloc, &mut input)
 }
 
 #[test]

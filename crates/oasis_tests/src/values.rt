@@ -90,13 +90,42 @@ fn small_signed_values(rt: HostRuntime) -> Result<(), Fail> {
     Ok(())
 }
 
+/// Deltas of the three other kinds.
+const DELTAS: &str = "\
+two 29 | Ok(Point { x: 0, y: 10 })
+three 2F | Ok(Point { x: 5, y: -5 })
+g A8 01 | Ok(Point { x: 10, y: 10 })
+g 17 08 | Ok(Point { x: -5, y: 4 })
+";
+
+fn delta(bytes: &[u8], kind: &str) -> Result<Point, ValueFault> {
+    let mut values = input(bytes);
+    match kind {
+        "two" => values.two_delta(),
+        "three" => values.three_delta(),
+        _ => values.g_delta(),
+    }
+}
+
+fn delta_text(alloc: Global, words: &str) -> Result<String, Fail> {
+    let (kind, words) = cut(words, " ");
+    let bytes = bytes_of(alloc, words)?;
+    Ok(format!(in alloc; "{:?}", delta(&bytes, kind))?)
+}
+
 #[test]
 fn small_deltas(rt: HostRuntime) -> Result<(), Fail> {
-    assert_eq!(rt; input(b"\x29").two_delta(), Ok(Point { x: 0, y: 10 }));
-    assert_eq!(rt; input(b"\x2F").three_delta(), Ok(Point { x: 5, y: -5 }));
-    assert_eq!(rt; input(b"\xA8\x01").g_delta(), Ok(Point { x: 10, y: 10 }));
-    assert_eq!(rt; input(b"\x17\x08").g_delta(), Ok(Point { x: -5, y: 4 }));
-    assert_eq!(rt; input(b"\x7F").byte(), Ok(0x7F));
+    for row in DELTAS.lines() {
+        let (words, want) = cut(row, " | ");
+        check_text(&rt, &delta_text(rt.alloc(), words)?, want, row);
+    }
+    Ok(())
+}
+
+#[test]
+fn one_byte(rt: HostRuntime) -> Result<(), Fail> {
+    let read = input(b"\x7F").byte();
+    assert_eq!(rt; read, Ok(0x7F));
     Ok(())
 }
 
@@ -239,17 +268,19 @@ fn groups(alloc: Global) -> Result<Vec<u8>, AllocError> {
     Ok(bytes)
 }
 
-/// All the groups and then the end, at most `most` bytes at a read.
+/// All the groups of `len` bytes, and then the end.
+fn check_all<R: Read>(rt: &impl Abort, alloc: Global, values: &mut Input<R>, len: usize) {
+    for _ in 0..300u32 {
+        assert!(rt; matches!(read_group(alloc, values), Ok(343_115)));
+    }
+    assert_eq!(rt; values.offset(), len as u64);
+    assert_eq!(rt; values.byte(), Err(ValueFault::Truncated));
+}
+
+/// The same, at most `most` bytes at a read.
 fn check_groups(rt: &impl Abort, alloc: Global, bytes: &[u8], most: usize) {
     let mut values = Input::new(Pieces::new(bytes, most), Ignore::NOTHING);
-    for _ in 0..300u32 {
-        assert!(rt;
-            matches!(read_group(alloc, &mut values), Ok(343_115)),
-            "pieces of {most}"
-        );
-    }
-    assert_eq!(rt; values.offset(), bytes.len() as u64);
-    assert_eq!(rt; values.byte(), Err(ValueFault::Truncated));
+    check_all(rt, alloc, &mut values, bytes.len());
 }
 
 #[test]
@@ -293,21 +324,29 @@ fn check_failed<R: Read>(rt: &impl Abort, alloc: Global, values: &mut Input<R>) 
     assert_eq!(rt; values.offset(), at);
 }
 
+/// A group of which only `k` bytes are read has this fault, and then each call answers `Failed`.
+fn check_fault<R: Read>(
+    rt: &impl Abort,
+    alloc: Global,
+    values: &mut Input<R>,
+    fault: ValueFault,
+    k: usize,
+) {
+    let read = read_group(alloc, values);
+    assert_eq!(rt; read, Err(Cause::Breach(fault)), "after {k}");
+    check_failed(rt, alloc, values);
+}
+
 fn check_cut(rt: &impl Abort, alloc: Global, bytes: &[u8]) {
     let mut cut = Input::new(Pieces::new(bytes, 3), Ignore::NOTHING);
-    let fault = Err(Cause::Breach(ValueFault::Truncated));
-    let k = bytes.len();
-    assert_eq!(rt; read_group(alloc, &mut cut), fault, "cut to {k}");
-    check_failed(rt, alloc, &mut cut);
+    check_fault(rt, alloc, &mut cut, ValueFault::Truncated, bytes.len());
 }
 
 fn check_failed_read(rt: &impl Abort, alloc: Global, bytes: &[u8]) {
     let mut failing = Input::new(Pieces::failing(bytes, 3), Ignore::NOTHING);
-    let fault = Err(Cause::Breach(ValueFault::Read));
-    let k = bytes.len();
-    assert_eq!(rt; read_group(alloc, &mut failing), fault, "after {k}");
-    check_failed(rt, alloc, &mut failing);
-    assert_eq!(rt; failing.into_reader().errors, 1);
+    check_fault(rt, alloc, &mut failing, ValueFault::Read, bytes.len());
+    let errors = failing.into_reader().errors;
+    assert_eq!(rt; errors, 1);
 }
 
 #[test]
