@@ -51,3 +51,12 @@ returns-clause-on c = c.loop-marks.invariant.on
 
 pub returns-clause-seen : goal.returns-clause-seen
 returns-clause-seen c = c.loop-marks.invariant.seen
+
+pub loop-marks-smaller : goal.loop-marks-smaller
+loop-marks-smaller c = rw c.in_default.is at c.in_ok-start.ensures.nearer
+
+pub returns-in-Some-clause-walk : goal.returns-in-Some-clause-walk
+returns-in-Some-clause-walk c = c.in_ok-start.ensures.walk
+
+pub returns-in-Some-clause-back : goal.returns-in-Some-clause-back
+returns-in-Some-clause-back c = rw c.in-Some.is at c.in_ok-start.ensures.back
