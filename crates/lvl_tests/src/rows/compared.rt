@@ -1,9 +1,10 @@
 //! Two files compared, row by row, both ways round and in pieces of every size.
 
 use super::words::{cut, file};
-use super::{Answer, is_answer, no_tops, written};
+use super::{is_answer, no_tops, written};
 use lvl::Tops;
 use std::alloc::{AllocError, Global};
+use std::process::Abort;
 use std::test::Fail;
 
 /// The sizes of the pieces that readers give.
@@ -95,21 +96,40 @@ placement-fields, a ratio | oasis-cells 0E 01 A 14 7B 01 00 03 01 00 00 0E 03 TO
     gds 0,0..3,1 | same
 ";
 
+/// Two files are compared in pieces of each of the sizes, and this is the last line.
+fn check_pieces(
+    rt: &impl Abort,
+    alloc: Global,
+    [first, second]: [&[u8]; 2],
+    sizes: &[usize],
+    (name, line): (&str, &str),
+) -> Result<(), Fail> {
+    for most in sizes {
+        let answer = written(alloc, first, second, &no_tops(), *most)?;
+        assert!(rt;
+            is_answer(&answer, line),
+            "{name}: {line} in pieces of {most}"
+        );
+    }
+    Ok(())
+}
+
+/// The two files of a row are compared both ways.
+fn check_row(rt: &impl Abort, alloc: Global, row: &str, sizes: &[usize]) -> Result<(), Fail> {
+    let (name, row) = cut(row);
+    let (words, row) = cut(row);
+    let (others, line) = cut(row);
+    let first = file(alloc, words)?;
+    let second = file(alloc, others)?;
+    let turned = exchanged(alloc, line)?;
+    check_pieces(rt, alloc, [&first, &second], sizes, (name, line))?;
+    check_pieces(rt, alloc, [&second, &first], sizes, (name, turned.as_str()))
+}
+
 #[test]
 fn both_ways_in_pieces(rt: HostRuntime) -> Result<(), Fail> {
-    let alloc = rt.alloc();
     for row in ROWS.lines() {
-        let (name, row) = cut(row);
-        let (first, row) = cut(row);
-        let (second, line) = cut(row);
-        let (first, second) = (file(alloc, first)?, file(alloc, second)?);
-        let turned = exchanged(alloc, line)?;
-        for most in PIECES {
-            let answer = written(alloc, &first, &second, &no_tops(), most)?;
-            assert!(rt; is_answer(&answer, line), "{name} in pieces of {most}");
-            let answer = written(alloc, &second, &first, &no_tops(), most)?;
-            assert!(rt; is_answer(&answer, turned.as_str()), "{name}, exchanged");
-        }
+        check_row(&rt, rt.alloc(), row, &PIECES)?;
     }
     Ok(())
 }
@@ -152,17 +172,8 @@ edge-of-range, four times past it | \
 
 #[test]
 fn cell_by_cell(rt: HostRuntime) -> Result<(), Fail> {
-    let alloc = rt.alloc();
     for row in ALIKE.lines() {
-        let (name, row) = cut(row);
-        let (first, row) = cut(row);
-        let (second, line) = cut(row);
-        let (first, second) = (file(alloc, first)?, file(alloc, second)?);
-        let turned = exchanged(alloc, line)?;
-        let answer = written(alloc, &first, &second, &no_tops(), 1000)?;
-        assert!(rt; is_answer(&answer, line), "{name}");
-        let answer = written(alloc, &second, &first, &no_tops(), 1000)?;
-        assert!(rt; is_answer(&answer, turned.as_str()), "{name}, exchanged");
+        check_row(&rt, rt.alloc(), row, &[1000])?;
     }
     Ok(())
 }
@@ -184,24 +195,39 @@ out of reach | gds-cells TOP{ A@0,0 A@5,0 A@9,0 A@7,0 } A{ 0,0..1,1 } X{ 0,0..9,
 ";
 
 /// The top's name, if there is one.
-pub fn name_of(alloc: Global, top: &str) -> Result<Option<Vec<u8>>, AllocError> {
+pub fn name_of(top: &str) -> Option<&[u8]> {
     if top == "-" {
-        return Ok(None);
+        None
+    } else {
+        Some(top.as_bytes())
     }
-    Ok(Some(Vec::from_slice(alloc, top.as_bytes())?))
 }
 
-/// What is written of two files with tops.
-fn topped(
+fn kept_name(alloc: Global, top: &str) -> Result<Option<Vec<u8>>, AllocError> {
+    match name_of(top) {
+        Some(name) => Ok(Some(Vec::from_slice(alloc, name)?)),
+        None => Ok(None),
+    }
+}
+
+/// Tops of these names.
+pub fn tops(alloc: Global, first: &str, second: &str) -> Result<Tops, AllocError> {
+    let first = kept_name(alloc, first)?;
+    let second = kept_name(alloc, second)?;
+    Ok(Tops { first, second })
+}
+
+/// Whether this is the last line of what is said of two files with tops.
+fn is_topped(
     alloc: Global,
-    first: (&[u8], &str),
-    second: (&[u8], &str),
-) -> Result<Answer, AllocError> {
-    let tops = Tops {
-        first: name_of(alloc, first.1)?,
-        second: name_of(alloc, second.1)?,
-    };
-    written(alloc, first.0, second.0, &tops, 1000)
+    first: (&str, &str),
+    second: (&str, &str),
+    line: &str,
+) -> Result<bool, Fail> {
+    let bytes = file(alloc, first.0)?;
+    let others = file(alloc, second.0)?;
+    let tops = tops(alloc, first.1, second.1)?;
+    Ok(is_answer(&written(alloc, &bytes, &others, &tops, 1000)?, line))
 }
 
 #[test]
@@ -213,12 +239,11 @@ fn tops_by_files(rt: HostRuntime) -> Result<(), Fail> {
         let (top, row) = cut(row);
         let (second, row) = cut(row);
         let (other, line) = cut(row);
-        let (first, second) = (file(alloc, first)?, file(alloc, second)?);
-        let answer = topped(alloc, (&first, top), (&second, other))?;
-        assert!(rt; is_answer(&answer, line), "{name}");
+        let (first, second) = ((first, top), (second, other));
+        assert!(rt; is_topped(alloc, first, second, line)?, "{name}");
         let turned = exchanged(alloc, line)?;
-        let answer = topped(alloc, (&second, other), (&first, top))?;
-        assert!(rt; is_answer(&answer, turned.as_str()), "{name}, exchanged");
+        let line = turned.as_str();
+        assert!(rt; is_topped(alloc, second, first, line)?, "{name}, exchanged");
     }
     Ok(())
 }

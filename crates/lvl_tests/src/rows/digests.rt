@@ -8,6 +8,7 @@ use lvl_ignore::Ignore;
 use lvl_io::fake::Pieces;
 use lvl_report::{Status, run_digest};
 use std::alloc::{AllocError, Global};
+use std::process::Abort;
 use std::test::Fail;
 
 /// What a row is, its file, the name of its top, `-` where there is none, and the lines. The sums were
@@ -81,6 +82,23 @@ fn ending(text: &[u8]) -> Status {
     }
 }
 
+/// A file's digest is written in pieces of each size, and this is written.
+fn check_pieces(
+    rt: &impl Abort,
+    alloc: Global,
+    name: &str,
+    file: &[u8],
+    top: Option<&[u8]>,
+    want: &[u8],
+) -> Result<(), Fail> {
+    for most in PIECES {
+        let (text, ran) = digested(alloc, file, top, most)?;
+        assert!(rt; text.as_slice() == want, "{name} in pieces of {most}");
+        assert_eq!(rt; ran, Ok(ending(want)));
+    }
+    Ok(())
+}
+
 #[test]
 fn digested_in_pieces(rt: HostRuntime) -> Result<(), Fail> {
     let alloc = rt.alloc();
@@ -88,17 +106,9 @@ fn digested_in_pieces(rt: HostRuntime) -> Result<(), Fail> {
         let (name, row) = cut(row);
         let (words, row) = cut(row);
         let (top, parts) = cut(row);
-        let bytes = file(alloc, words)?;
-        let top = name_of(alloc, top)?;
         let want = lines(alloc, parts)?;
-        for most in PIECES {
-            let (text, ran) = digested(alloc, &bytes, top.as_deref(), most)?;
-            assert!(rt;
-                text.as_slice() == want.as_bytes(),
-                "{name} in pieces of {most}"
-            );
-            assert_eq!(rt; ran, Ok(ending(want.as_bytes())));
-        }
+        let bytes = file(alloc, words)?;
+        check_pieces(&rt, alloc, name, &bytes, name_of(top), want.as_bytes())?;
     }
     Ok(())
 }

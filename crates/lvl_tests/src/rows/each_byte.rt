@@ -33,15 +33,21 @@ fn is_text(answer: &Answer) -> bool {
     }
 }
 
-/// Each byte of the file set to each value.
-fn set_each(rt: &impl Abort, alloc: Global, mut bytes: Vec<u8>) -> Result<(), Fail> {
+/// A byte of the file set to a value.
+fn set(rt: &impl Abort, alloc: Global, bytes: &mut [u8], k: usize, value: u8) -> Result<(), Fail> {
+    *bytes.get_mut(k).ok_or("a byte")? = value;
     let square = file(alloc, "square.oas")?;
+    let answer = written(alloc, bytes, &square, &no_tops(), 1000)?;
+    assert!(rt; is_text(&answer), "byte {k} set to {value}");
+    Ok(())
+}
+
+/// Each byte of the file set to each value.
+fn set_each(rt: &impl Abort, alloc: Global, bytes: &mut [u8]) -> Result<(), Fail> {
     for k in 0..bytes.len() {
         let kept = bytes.get(k).copied().ok_or("a byte")?;
         for value in 0..=u8::MAX {
-            *bytes.get_mut(k).ok_or("a byte")? = value;
-            let answer = written(alloc, &bytes, &square, &no_tops(), 1000)?;
-            assert!(rt; is_text(&answer), "byte {k} set to {value}");
+            set(rt, alloc, bytes, k, value)?;
         }
         *bytes.get_mut(k).ok_or("a byte")? = kept;
     }
@@ -51,11 +57,11 @@ fn set_each(rt: &impl Abort, alloc: Global, mut bytes: Vec<u8>) -> Result<(), Fa
 #[test]
 fn each_byte_of_gds(rt: HostRuntime) -> Result<(), Fail> {
     let alloc = rt.alloc();
-    set_each(&rt, alloc, file(alloc, "square.gds")?)
+    set_each(&rt, alloc, &mut file(alloc, "square.gds")?)
 }
 
 #[test]
 fn each_byte_of_oasis(rt: HostRuntime) -> Result<(), Fail> {
     let alloc = rt.alloc();
-    set_each(&rt, alloc, file(alloc, "square.oas")?)
+    set_each(&rt, alloc, &mut file(alloc, "square.oas")?)
 }

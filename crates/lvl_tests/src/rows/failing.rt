@@ -1,7 +1,7 @@
 //! Files that are cut, one failing read, and one failing write.
 
 use super::show::lines;
-use super::words::{cut, file};
+use super::words::{SQUARE, cut, file};
 use super::{no_tops, shown, sink, written};
 use lvl_io::Counted;
 use lvl_io::fake::{Pieces, Sink};
@@ -29,18 +29,16 @@ fn begun(starts: &[usize], k: usize) -> usize {
 
 /// Whether the file is refused so as the first, and when it is shown.
 fn is_first_cut(alloc: Global, cut: &[u8], fault: &str) -> Result<bool, Fail> {
-    let square = file(alloc, "square.gds")?;
     let line = format!(in alloc; "refused: first: {fault}")?;
-    let (text, _) = written(alloc, cut, &square, &no_tops(), 1000)?;
+    let (text, _) = written(alloc, cut, SQUARE, &no_tops(), 1000)?;
     let (shown, _) = shown(alloc, cut, None, 1000)?;
     Ok(text.as_slice() == line.as_bytes() && shown.as_slice() == line.as_bytes())
 }
 
 /// Whether the file is refused so as the second.
 fn is_second_cut(alloc: Global, cut: &[u8], fault: &str) -> Result<bool, Fail> {
-    let square = file(alloc, "square.gds")?;
     let line = format!(in alloc; "refused: second: {fault}")?;
-    let (text, _) = written(alloc, &square, cut, &no_tops(), 1000)?;
+    let (text, _) = written(alloc, SQUARE, cut, &no_tops(), 1000)?;
     Ok(text.as_slice() == line.as_bytes())
 }
 
@@ -73,7 +71,7 @@ fn check_cuts(
 #[test]
 fn cuts(rt: HostRuntime) -> Result<(), Fail> {
     let alloc = rt.alloc();
-    check_cuts(&rt, alloc, &file(alloc, "square.gds")?, &GDS, "gds")?;
+    check_cuts(&rt, alloc, SQUARE, &GDS, "gds")?;
     check_cuts(&rt, alloc, &file(alloc, "square.oas")?, &OASIS, "oasis")
 }
 
@@ -89,9 +87,8 @@ fn failing(bytes: &[u8]) -> Pieces<'_> {
 
 /// What is written of two files of which one fails, or of one that is shown.
 fn failed(alloc: Global, bytes: &[u8], side: &str) -> Result<Vec<u8>, Fail> {
-    let square = file(alloc, "square.gds")?;
     let mut out = sink(alloc, 1000)?;
-    let mut whole = Pieces::new(&square, 1000);
+    let mut whole = Pieces::new(SQUARE, 1000);
     let mut cut = failing(bytes);
     let ran = match side {
         "first" => run(alloc, &mut cut, &mut whole, &no_tops(), &mut out),
@@ -101,10 +98,23 @@ fn failed(alloc: Global, bytes: &[u8], side: &str) -> Result<Vec<u8>, Fail> {
     if ran != Ok(Status::Refused) || cut.errors != 1 {
         return Err("not refused, or asked again".into());
     }
-    if side == "first" && whole.rest.len() != square.len() {
+    if side == "first" && whole.rest.len() != SQUARE.len() {
         return Err("the second file was read".into());
     }
     Ok(out.taken)
+}
+
+/// A failure after these bytes is reported so.
+fn check_read(
+    rt: &impl Abort,
+    alloc: Global,
+    bytes: &[u8],
+    side: &str,
+    want: &str,
+) -> Result<(), Fail> {
+    let text = failed(alloc, bytes, side)?;
+    assert!(rt; text.as_slice() == want.as_bytes(), "{side}: {want}");
+    Ok(())
 }
 
 /// A failure after each number of bytes from `from` on is reported at the record that isn't whole.
@@ -121,10 +131,10 @@ pub fn check_reads(
         let start = begun(starts, k);
         let first = format!(in alloc; "refused: first: {step} Read at {start}\n")?;
         let second = format!(in alloc; "refused: second: {step} Read at {start}\n")?;
-        for (side, want) in [("first", &first), ("second", &second), ("shown", &first)] {
-            let text = failed(alloc, &bytes[..k], side)?;
-            assert!(rt; text.as_slice() == want.as_bytes(), "{side} after {k}");
-        }
+        let cut = &bytes[..k];
+        check_read(rt, alloc, cut, "first", first.as_str())?;
+        check_read(rt, alloc, cut, "second", second.as_str())?;
+        check_read(rt, alloc, cut, "shown", first.as_str())?;
     }
     Ok(())
 }
@@ -132,7 +142,7 @@ pub fn check_reads(
 #[test]
 fn failing_read(rt: HostRuntime) -> Result<(), Fail> {
     let alloc = rt.alloc();
-    check_reads(&rt, alloc, &file(alloc, "square.gds")?, &GDS, "gds 6", 0)?;
+    check_reads(&rt, alloc, SQUARE, &GDS, "gds 6", 0)?;
     check_reads(
         &rt,
         alloc,
@@ -160,25 +170,36 @@ impl io::Read for Interrupted<'_> {
     }
 }
 
+/// A file, and how it is refused where its reader is interrupted at its end.
+const INTERRUPTED: &str = "\
+square.gds <99 | refused: first: gds 6 Read at 96
+square.gds | refused: first: gds 6 Read at 168
+square.oas <40 | refused: first: oasis 12 Read at 39
+square.oas | refused: first: oasis 12 Read at 303
+";
+
+fn check_interrupted(rt: &impl Abort, alloc: Global, bytes: &[u8], line: &str) -> Result<(), Fail> {
+    let mut cut = Interrupted {
+        rest: bytes,
+        times: 0,
+    };
+    let mut out = sink(alloc, 1000)?;
+    let ran = run_show(alloc, &mut Counted::new(&mut cut), None, &mut out);
+    assert_eq!(rt; ran, Ok(Status::Refused));
+    assert!(rt;
+        out.taken.strip_suffix(b"\n") == Some(line.as_bytes()),
+        "{line}"
+    );
+    assert_eq!(rt; cut.times, 1);
+    Ok(())
+}
+
 #[test]
 fn interrupted_read(rt: HostRuntime) -> Result<(), Fail> {
     let alloc = rt.alloc();
-    for (words, line) in [
-        ("square.gds <99", "refused: first: gds 6 Read at 96\n"),
-        ("square.gds", "refused: first: gds 6 Read at 168\n"),
-        ("square.oas <40", "refused: first: oasis 12 Read at 39\n"),
-        ("square.oas", "refused: first: oasis 12 Read at 303\n"),
-    ] {
-        let bytes = file(alloc, words)?;
-        let mut cut = Interrupted {
-            rest: &bytes,
-            times: 0,
-        };
-        let mut out = sink(alloc, 1000)?;
-        let ran = run_show(alloc, &mut Counted::new(&mut cut), None, &mut out);
-        assert_eq!(rt; ran, Ok(Status::Refused));
-        assert!(rt; out.taken.as_slice() == line.as_bytes(), "{words}");
-        assert_eq!(rt; cut.times, 1);
+    for row in INTERRUPTED.lines() {
+        let (words, line) = cut(row);
+        check_interrupted(&rt, alloc, &file(alloc, words)?, line)?;
     }
     Ok(())
 }
@@ -210,6 +231,29 @@ fn ran(
     Ok(run(alloc, &mut reader, &mut other, &no_tops(), out))
 }
 
+/// A writer has room for each number of bytes of the text, and takes no more.
+fn check_room(
+    rt: &impl Abort,
+    alloc: Global,
+    [first, second]: [&str; 2],
+    text: &[u8],
+    takes_nothing: bool,
+) -> Result<(), Fail> {
+    for k in 0..text.len() {
+        let mut out = sink(alloc, 40)?;
+        out.room = k;
+        out.takes_nothing = takes_nothing;
+        let ran = ran(alloc, first, second, &mut out)?;
+        assert_eq!(rt;
+            (ran, out.errors),
+            (Err(RunFault::Output), 1),
+            "room for {k}"
+        );
+        assert_eq!(rt; Some(out.taken.as_slice()), text.get(..k));
+    }
+    Ok(())
+}
+
 #[test]
 fn failing_write(rt: HostRuntime) -> Result<(), Fail> {
     let alloc = rt.alloc();
@@ -217,22 +261,31 @@ fn failing_write(rt: HostRuntime) -> Result<(), Fail> {
         let (first, row) = cut(row);
         let (second, parts) = cut(row);
         let text = lines(alloc, parts)?;
-        for k in 0..text.len() {
-            for takes_nothing in [false, true] {
-                let mut out = sink(alloc, 40)?;
-                out.room = k;
-                out.takes_nothing = takes_nothing;
-                let ran = ran(alloc, first, second, &mut out)?;
-                assert_eq!(rt;
-                    (ran, out.errors),
-                    (Err(RunFault::Output), 1),
-                    "room for {k}"
-                );
-                assert_eq!(rt; Some(out.taken.as_slice()), text.as_bytes().get(..k));
-            }
+        for takes_nothing in [false, true] {
+            check_room(&rt, alloc, [first, second], text.as_bytes(), takes_nothing)?;
         }
     }
     assert_eq!(rt; RunFault::Output.code(), 4);
+    Ok(())
+}
+
+/// A writer takes all of the text, a byte at a time, and its flush may fail.
+fn check_flush(
+    rt: &impl Abort,
+    alloc: Global,
+    [first, second]: [&str; 2],
+    text: &[u8],
+    flush_fails: bool,
+) -> Result<(), Fail> {
+    let mut out = sink(alloc, 1)?;
+    out.flush_fails = flush_fails;
+    let ran = ran(alloc, first, second, &mut out)?;
+    assert_eq!(rt;
+        ran.err(),
+        flush_fails.then_some(RunFault::Output),
+        "{first}"
+    );
+    assert!(rt; out.taken.as_slice() == text, "{first}");
     Ok(())
 }
 
@@ -244,15 +297,7 @@ fn failing_flush_and_a_byte_a_call(rt: HostRuntime) -> Result<(), Fail> {
         let (second, parts) = cut(row);
         let text = lines(alloc, parts)?;
         for flush_fails in [false, true] {
-            let mut out = sink(alloc, 1)?;
-            out.flush_fails = flush_fails;
-            let ran = ran(alloc, first, second, &mut out)?;
-            assert_eq!(rt;
-                ran.err(),
-                flush_fails.then_some(RunFault::Output),
-                "{first}"
-            );
-            assert!(rt; out.taken.as_slice() == text.as_bytes(), "{first}");
+            check_flush(&rt, alloc, [first, second], text.as_bytes(), flush_fails)?;
         }
     }
     Ok(())

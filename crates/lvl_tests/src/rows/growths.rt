@@ -1,13 +1,13 @@
 //! Rows with each allocation refused in turn: what is written is the row's own text, or that memory is
 //! out, or nothing at all.
 
+use super::compared::tops;
 use super::view::{given, viewed};
 use super::words::{cut, file};
 use super::{Answer, is_answer, no_tops, shown, written};
-use lvl::Tops;
 use lvl_report::{RunFault, Status};
 use lvl_view::View;
-use std::alloc::AllocError;
+use std::alloc::{AllocError, Global};
 use std::process::Abort;
 use std::test::Fail;
 
@@ -51,6 +51,13 @@ edge-of-range, past it | oasis-cells 0E 01 A 15 3B 01 00 00 02 03 02 FF*9 01 00 
 spaces | oasis 14 7F 01 00 0A 0A 00 00 04 01 0C 14 | gds 0,0..10,10 12,0..22,10 32,0..42,10 | same
 ";
 
+/// What is written of two files in words.
+fn written_of(alloc: Global, first: &str, second: &str) -> Result<Answer, Fail> {
+    let bytes = file(alloc, first)?;
+    let others = file(alloc, second)?;
+    Ok(written(alloc, &bytes, &others, &no_tops(), 1000)?)
+}
+
 /// The answer is the row's own, or the test ends since memory is out.
 fn settle(rt: &impl Abort, answer: &Answer, line: &str) -> Result<(), Fail> {
     end_out_of_memory(rt, answer)?;
@@ -65,22 +72,21 @@ fn growths_of_rows(rt: HostRuntime) -> Result<(), Fail> {
         let (_, row) = cut(row);
         let (first, row) = cut(row);
         let (second, line) = cut(row);
-        let (first, second) = (file(alloc, first)?, file(alloc, second)?);
-        let answer = written(alloc, &first, &second, &no_tops(), 1000)?;
-        settle(&rt, &answer, line)?;
+        settle(&rt, &written_of(alloc, first, second)?, line)?;
     }
     Ok(())
 }
 
+/// What is written of the square in OASIS and itself with these tops.
+fn written_of_tops(alloc: Global, first: &str, second: &str) -> Result<Answer, Fail> {
+    let square = file(alloc, "square.oas")?;
+    let tops = tops(alloc, first, second)?;
+    Ok(written(alloc, &square, &square, &tops, 1000)?)
+}
+
 #[test]
 fn growths_of_tops(rt: HostRuntime) -> Result<(), Fail> {
-    let alloc = rt.alloc();
-    let square = file(alloc, "square.oas")?;
-    let tops = Tops {
-        first: Some(Vec::from_slice(alloc, b"TOP")?),
-        second: Some(Vec::from_slice(alloc, b"X")?),
-    };
-    let answer = written(alloc, &square, &square, &tops, 1000)?;
+    let answer = written_of_tops(rt.alloc(), "TOP", "X")?;
     settle(&rt, &answer, "refused: second: cells 5 TopMissing")
 }
 
@@ -101,8 +107,7 @@ fn growths_of_a_view(rt: HostRuntime) -> Result<(), Fail> {
         let (map, row) = cut(row);
         let (window, line) = cut(row);
         let view = View::read(alloc, given(map), given(window))?;
-        let answer = viewed(alloc, &file(alloc, first)?, &file(alloc, second)?, &view)?;
-        settle(&rt, &answer, line)?;
+        settle(&rt, &viewed(alloc, first, second, &view)?, line)?;
     }
     Ok(())
 }
@@ -111,14 +116,20 @@ fn growths_of_a_view(rt: HostRuntime) -> Result<(), Fail> {
 const SHOWN: &[u8] =
     b"file: OASIS 1.0 unit 1000 scheme 0\ntop: TOP\ncells: 1\nlayer 1 datatype 0 rings 1\n";
 
+/// The square in OASIS is shown so, or the test ends since memory is out.
+fn check_shown(rt: &impl Abort, alloc: Global, square: &[u8]) -> Result<(), Fail> {
+    let answer = shown(alloc, square, None, 1000)?;
+    end_out_of_memory(rt, &answer)?;
+    assert!(rt; answer.0.as_slice() == SHOWN);
+    assert_eq!(rt; answer.1, Ok(Status::Shown));
+    Ok(())
+}
+
 #[test]
 fn growths_of_a_show(rt: HostRuntime) -> Result<(), Fail> {
     let alloc = rt.alloc();
     let square = file(alloc, "square.oas")?;
-    let answer = shown(alloc, &square, None, 1000)?;
-    end_out_of_memory(&rt, &answer)?;
-    assert!(rt; answer.0.as_slice() == SHOWN);
-    assert_eq!(rt; answer.1, Ok(Status::Shown));
+    check_shown(&rt, alloc, &square)?;
     let answer = shown(alloc, &square, Some(b"X"), 1000)?;
     settle(&rt, &answer, "refused: first: cells 5 TopMissing")
 }

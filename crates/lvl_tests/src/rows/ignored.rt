@@ -1,12 +1,13 @@
 //! Files with records that are ignored, as the first file, as the second, shown and hashed.
 
 use super::compared::exchanged;
-use super::words::{cut, file};
+use super::words::{SQUARE, cut, file};
 use super::{Answer, is_answer, no_tops, sink, status_of};
 use lvl_ignore::Ignore;
 use lvl_io::fake::Pieces;
 use lvl_report::{Status, run_by, run_digest, run_show_by};
 use std::alloc::{AllocError, Global};
+use std::process::Abort;
 use std::test::Fail;
 
 /// What is ignored, `-` where nothing is; a file; and why it is refused, or `same` where it is read as the
@@ -93,9 +94,8 @@ fn refusals(alloc: Global, found: &str) -> Result<(String, String), AllocError> 
 
 /// Whether the file is the same as the square, as the first file and as the second.
 fn is_the_square(alloc: Global, bytes: &[u8], ignore: Ignore) -> Result<bool, Fail> {
-    let square = file(alloc, "square.gds")?;
-    let ours = compared(alloc, bytes, &square, ignore)?;
-    let theirs = compared(alloc, &square, bytes, ignore)?;
+    let ours = compared(alloc, bytes, SQUARE, ignore)?;
+    let theirs = compared(alloc, SQUARE, bytes, ignore)?;
     Ok(is_answer(&ours, "same") && is_answer(&theirs, "same"))
 }
 
@@ -108,10 +108,9 @@ fn is_shown_as_the_square(alloc: Global, bytes: &[u8], ignore: Ignore) -> Result
 
 /// Whether the file is refused so, beside the square, as the first file and as the second.
 fn is_refused(alloc: Global, bytes: &[u8], ignore: Ignore, found: &str) -> Result<bool, Fail> {
-    let square = file(alloc, "square.gds")?;
     let (first, second) = refusals(alloc, found)?;
-    let ours = compared(alloc, bytes, &square, ignore)?;
-    let theirs = compared(alloc, &square, bytes, ignore)?;
+    let ours = compared(alloc, bytes, SQUARE, ignore)?;
+    let theirs = compared(alloc, SQUARE, bytes, ignore)?;
     Ok(is_answer(&ours, first.as_str()) && is_answer(&theirs, second.as_str()))
 }
 
@@ -123,6 +122,24 @@ fn is_not_shown(alloc: Global, bytes: &[u8], ignore: Ignore, found: &str) -> Res
     Ok(is_answer(&shown, first.as_str()) && is_answer(&digested, first.as_str()))
 }
 
+/// The file of a row is read as the square, or refused as the row says.
+fn check_file(
+    rt: &impl Abort,
+    alloc: Global,
+    bytes: &[u8],
+    ignore: Ignore,
+    (found, row): (&str, &str),
+) -> Result<(), Fail> {
+    if found == "same" {
+        assert!(rt; is_the_square(alloc, bytes, ignore)?, "{row}");
+        assert!(rt; is_shown_as_the_square(alloc, bytes, ignore)?, "{row}");
+    } else {
+        assert!(rt; is_refused(alloc, bytes, ignore, found)?, "{row}");
+        assert!(rt; is_not_shown(alloc, bytes, ignore, found)?, "{row}, shown");
+    }
+    Ok(())
+}
+
 #[test]
 fn files_with_ignored_records(rt: HostRuntime) -> Result<(), Fail> {
     let alloc = rt.alloc();
@@ -130,14 +147,7 @@ fn files_with_ignored_records(rt: HostRuntime) -> Result<(), Fail> {
         let (text, parts) = cut(row);
         let (words, found) = cut(parts);
         let ignore = ignored(alloc, text)?;
-        let bytes = file(alloc, words)?;
-        if found == "same" {
-            assert!(rt; is_the_square(alloc, &bytes, ignore)?, "{row}");
-            assert!(rt; is_shown_as_the_square(alloc, &bytes, ignore)?, "{row}");
-        } else {
-            assert!(rt; is_refused(alloc, &bytes, ignore, found)?, "{row}");
-            assert!(rt; is_not_shown(alloc, &bytes, ignore, found)?, "{row}, shown");
-        }
+        check_file(&rt, alloc, &file(alloc, words)?, ignore, (found, row))?;
     }
     Ok(())
 }

@@ -2,7 +2,7 @@
 ghost use Rattle.std.specs.Prelude.{None, []};
 
 use super::failing::check_reads;
-use super::words::{cut, file};
+use super::words::{SQUARE, cut, file};
 use super::{no_tops, sink};
 use lvl_io::{Failure, Read};
 use lvl_report::{Status, run, run_show, run_view};
@@ -47,6 +47,19 @@ fn put(
     Ok(())
 }
 
+/// Adds the parts of a file of `count` squares.
+fn put_squares(
+    alloc: Global,
+    bytes: &mut Vec<u8>,
+    starts: &mut Vec<usize>,
+    [head, square, end]: [Part; 3],
+    count: u32,
+) -> Result<(), Fail> {
+    put(alloc, bytes, starts, head, 1)?;
+    put(alloc, bytes, starts, square, count)?;
+    put(alloc, bytes, starts, end, 1)
+}
+
 /// A file of `count` squares fails at each byte from `from` on.
 fn check_squares(
     rt: &impl Abort,
@@ -58,10 +71,7 @@ fn check_squares(
 ) -> Result<(), Fail> {
     let mut bytes = Vec::new(alloc);
     let mut starts = Vec::new(alloc);
-    let [head, square, end] = parts;
-    put(alloc, &mut bytes, &mut starts, head, 1)?;
-    put(alloc, &mut bytes, &mut starts, square, count)?;
-    put(alloc, &mut bytes, &mut starts, end, 1)?;
+    put_squares(alloc, &mut bytes, &mut starts, parts, count)?;
     check_reads(rt, alloc, &bytes, &starts, step, from)
 }
 
@@ -167,22 +177,21 @@ fn check_asked(
     rt: &impl Abort,
     alloc: Global,
     words: &str,
+    bytes: &[u8],
     most: u64,
     end: Status,
 ) -> Result<(), Fail> {
-    let bytes = file(alloc, words)?;
-    let square = file(alloc, "square.gds")?;
     let is_read = end != Status::Refused;
     let few = if is_read { 3 } else { 0 };
     let next = if is_read { most } else { 0 };
-    assert!(rt; is_shown_by(alloc, &bytes, most, end)?, "{words}, shown");
-    assert!(rt; are_asked(alloc, &bytes, &square, [most, few])?, "{words}");
+    assert!(rt; is_shown_by(alloc, bytes, most, end)?, "{words}, shown");
+    assert!(rt; are_asked(alloc, bytes, SQUARE, [most, few])?, "{words}");
     assert!(rt;
-        are_asked(alloc, &square, &bytes, [3, most])?,
+        are_asked(alloc, SQUARE, bytes, [3, most])?,
         "{words}, second"
     );
     assert!(rt;
-        are_asked_in_a_view(alloc, &bytes, [most, next])?,
+        are_asked_in_a_view(alloc, bytes, [most, next])?,
         "{words}, in a view"
     );
     Ok(())
@@ -201,7 +210,8 @@ fn asked_readers(rt: HostRuntime) -> Result<(), Fail> {
         } else {
             Status::Refused
         };
-        check_asked(&rt, rt.alloc(), words, most, end)?;
+        let bytes = file(rt.alloc(), words)?;
+        check_asked(&rt, rt.alloc(), words, &bytes, most, end)?;
     }
     Ok(())
 }

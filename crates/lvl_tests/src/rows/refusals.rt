@@ -7,6 +7,7 @@ use lvl_path::PathFault;
 use lvl_region::Side;
 use lvl_report::form;
 use std::alloc::{AllocError, Global};
+use std::process::Abort;
 use std::test::Fail;
 
 fn reported(alloc: Global, refusal: Refusal) -> Result<Vec<u8>, AllocError> {
@@ -22,17 +23,23 @@ fn reported_of_path(alloc: Global, fault: PathFault) -> Result<Vec<u8>, AllocErr
     reported(alloc, Refusal::File(Side::Second, fault))
 }
 
+fn check_path(
+    rt: &impl Abort,
+    alloc: Global,
+    fault: PathFault,
+    name: &str,
+) -> Result<(), AllocError> {
+    let text = reported_of_path(alloc, fault)?;
+    let line = format!(in alloc; "refused: second: gds 21 Path {name} at 4294967295\n")?;
+    assert_eq!(rt; text.as_slice(), line.as_bytes());
+    Ok(())
+}
+
 #[test]
 fn faults_of_paths(rt: HostRuntime) -> Result<(), Fail> {
-    for (fault, name) in [
-        (PathFault::NoWidth, "1 NoWidth"),
-        (PathFault::FewPoints, "2 FewPoints"),
-        (PathFault::OutOfRange, "7 OutOfRange"),
-    ] {
-        let text = reported_of_path(rt.alloc(), fault)?;
-        let line = format!(in rt.alloc(); "refused: second: gds 21 Path {name} at 4294967295\n")?;
-        assert_eq!(rt; text.as_slice(), line.as_bytes());
-    }
+    check_path(&rt, rt.alloc(), PathFault::NoWidth, "1 NoWidth")?;
+    check_path(&rt, rt.alloc(), PathFault::FewPoints, "2 FewPoints")?;
+    check_path(&rt, rt.alloc(), PathFault::OutOfRange, "7 OutOfRange")?;
     Ok(())
 }
 

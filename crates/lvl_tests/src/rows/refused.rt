@@ -1,6 +1,6 @@
 //! Every refusal by its number, as the first file, as the second and shown.
 
-use super::words::{cut, file};
+use super::words::{SQUARE, cut, file};
 use super::{is_answer, no_tops, shown, written};
 use std::alloc::Global;
 use std::process::Abort;
@@ -160,9 +160,8 @@ oasis-cells 0E 01 A 15 3B 01 00 00 02 03 02 FF*9 01 00 0E 03 TOP 11 B4 01 A 00 0
 
 /// Whether the file is refused so as the first, in pieces of that size.
 fn is_first_refused(alloc: Global, refused: &[u8], fault: &str, most: usize) -> Result<bool, Fail> {
-    let square = file(alloc, "square.gds")?;
     let first = format!(in alloc; "refused: first: {fault}")?;
-    let answer = written(alloc, refused, &square, &no_tops(), most)?;
+    let answer = written(alloc, refused, SQUARE, &no_tops(), most)?;
     let shown = shown(alloc, refused, None, most)?;
     Ok(is_answer(&answer, first.as_str()) && is_answer(&shown, first.as_str()))
 }
@@ -174,25 +173,34 @@ fn is_second_refused(
     fault: &str,
     most: usize,
 ) -> Result<bool, Fail> {
-    let square = file(alloc, "square.gds")?;
     let second = format!(in alloc; "refused: second: {fault}")?;
-    let answer = written(alloc, &square, refused, &no_tops(), most)?;
+    let answer = written(alloc, SQUARE, refused, &no_tops(), most)?;
     Ok(is_answer(&answer, second.as_str()))
 }
 
-/// Each file of the table is refused so, as the first file, as the second and shown, whether it comes
-/// byte by byte or whole.
+/// The file is refused so, as the first file, as the second and shown, whether it comes byte by byte or whole.
+fn check_file(
+    rt: &impl Abort,
+    alloc: Global,
+    refused: &[u8],
+    fault: &str,
+    row: &str,
+) -> Result<(), Fail> {
+    for most in [1, 65_536] {
+        assert!(rt; is_first_refused(alloc, refused, fault, most)?, "{row}");
+        assert!(rt;
+            is_second_refused(alloc, refused, fault, most)?,
+            "{row}, exchanged"
+        );
+    }
+    Ok(())
+}
+
+/// Each file of the table is refused so.
 fn check(rt: &impl Abort, alloc: Global, table: &str) -> Result<(), Fail> {
     for row in table.lines() {
         let (words, fault) = cut(row);
-        let refused = file(alloc, words)?;
-        for most in [1, 65_536] {
-            assert!(rt; is_first_refused(alloc, &refused, fault, most)?, "{row}");
-            assert!(rt;
-                is_second_refused(alloc, &refused, fault, most)?,
-                "{row}, exchanged"
-            );
-        }
+        check_file(rt, alloc, &file(alloc, words)?, fault, row)?;
     }
     Ok(())
 }

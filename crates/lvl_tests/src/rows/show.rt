@@ -1,10 +1,11 @@
 //! What is shown of a file, in pieces of every size, and what two files say of themselves.
 
 use super::compared::{PIECES, name_of};
-use super::words::{cut, file};
+use super::words::{SQUARE, cut, file};
 use super::{no_tops, shown, written};
 use lvl_report::Status;
 use std::alloc::{AllocError, Global};
+use std::process::Abort;
 use std::test::Fail;
 
 /// What a row is, its file, the name of its top, `-` where there is none, and the lines.
@@ -39,6 +40,22 @@ pub fn lines(alloc: Global, parts: &str) -> Result<String, AllocError> {
     Ok(text)
 }
 
+/// A file is shown in pieces of each size, and this is written.
+fn check_pieces(
+    rt: &impl Abort,
+    alloc: Global,
+    name: &str,
+    file: &[u8],
+    top: Option<&[u8]>,
+    want: &[u8],
+) -> Result<(), Fail> {
+    for most in PIECES {
+        let (text, _) = shown(alloc, file, top, most)?;
+        assert!(rt; text.as_slice() == want, "{name} in pieces of {most}");
+    }
+    Ok(())
+}
+
 #[test]
 fn shown_in_pieces(rt: HostRuntime) -> Result<(), Fail> {
     let alloc = rt.alloc();
@@ -46,16 +63,9 @@ fn shown_in_pieces(rt: HostRuntime) -> Result<(), Fail> {
         let (name, row) = cut(row);
         let (words, row) = cut(row);
         let (top, parts) = cut(row);
-        let bytes = file(alloc, words)?;
-        let top = name_of(alloc, top)?;
         let want = lines(alloc, parts)?;
-        for most in PIECES {
-            let (text, _) = shown(alloc, &bytes, top.as_deref(), most)?;
-            assert!(rt;
-                text.as_slice() == want.as_bytes(),
-                "{name} in pieces of {most}"
-            );
-        }
+        let bytes = file(alloc, words)?;
+        check_pieces(&rt, alloc, name, &bytes, name_of(top), want.as_bytes())?;
     }
     Ok(())
 }
@@ -84,17 +94,15 @@ const GDS: &str = "GDSII version 600 units 4110000000000000 4110000000000000";
 
 /// Whether the file and the square are the same, and each says this of itself.
 fn says_first(alloc: Global, bytes: &[u8], head: &str) -> Result<bool, Fail> {
-    let square = file(alloc, "square.gds")?;
     let want = format!(in alloc; "first: {head}\nsecond: {GDS}\nsame\n")?;
-    let (text, status) = written(alloc, bytes, &square, &no_tops(), 1000)?;
+    let (text, status) = written(alloc, bytes, SQUARE, &no_tops(), 1000)?;
     Ok(text.as_slice() == want.as_bytes() && status == Ok(Status::Same))
 }
 
 /// The same with the file as the second.
 fn says_second(alloc: Global, bytes: &[u8], head: &str) -> Result<bool, Fail> {
-    let square = file(alloc, "square.gds")?;
     let want = format!(in alloc; "first: {GDS}\nsecond: {head}\nsame\n")?;
-    let (text, status) = written(alloc, &square, bytes, &no_tops(), 1000)?;
+    let (text, status) = written(alloc, SQUARE, bytes, &no_tops(), 1000)?;
     Ok(text.as_slice() == want.as_bytes() && status == Ok(Status::Same))
 }
 
@@ -105,15 +113,20 @@ fn shows(alloc: Global, bytes: &[u8], head: &str) -> Result<bool, Fail> {
     Ok(text.as_slice() == want.as_bytes() && status == Ok(Status::Shown))
 }
 
+/// The file says this of itself, as the first file, as the second, and where it is shown.
+fn check_head(rt: &impl Abort, alloc: Global, bytes: &[u8], head: &str) -> Result<(), Fail> {
+    assert!(rt; says_first(alloc, bytes, head)?, "{head}");
+    assert!(rt; says_second(alloc, bytes, head)?, "{head}, exchanged");
+    assert!(rt; shows(alloc, bytes, head)?, "{head}, shown");
+    Ok(())
+}
+
 #[test]
 fn heads(rt: HostRuntime) -> Result<(), Fail> {
     let alloc = rt.alloc();
     for row in HEADS.lines() {
         let (words, head) = cut(row);
-        let bytes = file(alloc, words)?;
-        assert!(rt; says_first(alloc, &bytes, head)?, "{head}");
-        assert!(rt; says_second(alloc, &bytes, head)?, "{head}, exchanged");
-        assert!(rt; shows(alloc, &bytes, head)?, "{head}, shown");
+        check_head(&rt, alloc, &file(alloc, words)?, head)?;
     }
     Ok(())
 }

@@ -9,7 +9,7 @@ use std::alloc::{AllocError, Global};
 use std::test::Fail;
 
 /// What is written of two files under a view.
-pub fn viewed(
+fn written_under(
     alloc: Global,
     first: &[u8],
     second: &[u8],
@@ -20,6 +20,13 @@ pub fn viewed(
     let mut second = Pieces::new(second, 1000);
     let ran = run_view(alloc, &mut first, &mut second, &no_tops(), view, &mut out);
     Ok((out.taken, ran))
+}
+
+/// What is written of two files in words under a view.
+pub fn viewed(alloc: Global, first: &str, second: &str, view: &View) -> Result<Answer, Fail> {
+    let bytes = file(alloc, first)?;
+    let others = file(alloc, second)?;
+    Ok(written_under(alloc, &bytes, &others, view)?)
 }
 
 /// An option's value; a dash where the option is not given.
@@ -69,7 +76,7 @@ fn two_files_under_a_view(rt: HostRuntime) -> Result<(), Fail> {
         let (map, row) = cut(row);
         let (window, line) = cut(row);
         let view = View::read(alloc, given(map), given(window))?;
-        let answer = viewed(alloc, &file(alloc, first)?, &file(alloc, second)?, &view)?;
+        let answer = viewed(alloc, first, second, &view)?;
         assert!(rt; is_answer(&answer, line), "{name}");
     }
     Ok(())
