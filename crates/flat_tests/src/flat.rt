@@ -7,6 +7,7 @@ use lvl_grid::{Map, Point, Ring, Rings, Square, Turn, Window};
 use lvl_names::{Layer, Offsets};
 use lvl_refusal::Cause;
 use std::alloc::{AllocError, Global};
+use std::process::Abort;
 use std::test::Fail;
 
 /// The corners of a square of one step.
@@ -366,13 +367,19 @@ fn maps(x: i64, y: i64) -> [Map; 8] {
     ]
 }
 
+/// Checks the L, placed by this map and then by each of eight.
+fn check_maps(rt: &impl Abort, alloc: Global, inner: Map) -> Result<(), Fail> {
+    for outer in maps(-3, 1) {
+        let found = flat_astray(alloc, outer, inner)?;
+        assert_eq!(rt; found, None, "{inner:?} {outer:?}");
+    }
+    Ok(())
+}
+
 #[test]
 fn all_maps_of_an_l(rt: HostRuntime) -> Result<(), Fail> {
     for inner in maps(2, -1) {
-        for outer in maps(-3, 1) {
-            let found = flat_astray(rt.alloc(), outer, inner)?;
-            assert_eq!(rt; found, None, "{inner:?} {outer:?}");
-        }
+        check_maps(&rt, rt.alloc(), inner)?;
     }
     Ok(())
 }

@@ -56,15 +56,26 @@ fn lattice(step: &str, times: &str) -> Result<Offsets, Fail> {
     Ok(shifts.ok_or("lattice")?)
 }
 
+/// What is held of a shape.
+fn held_drawn(alloc: Global, shifts: &Offsets, most: usize) -> Result<String, Fail> {
+    held(alloc, drawn(alloc, shifts)?, most)
+}
+
+/// What is held of a reference.
+fn held_spread(alloc: Global, shifts: Offsets, most: usize) -> Result<String, Fail> {
+    held(alloc, spread(alloc, shifts)?, most)
+}
+
 /// Checks what is held of a shape and of a reference.
 fn check_held(rt: &impl Abort, alloc: Global, row: &str) -> Result<(), Fail> {
     let (words, want) = cut(row, " | ");
     let (step, words) = cut(words, " ");
     let (times, most) = cut(words, " ");
-    let shifts = lattice(step, times)?;
     let most = most.parse::<usize>()?;
-    check_text(rt, &held(alloc, drawn(alloc, &shifts)?, most)?, want, row);
-    check_text(rt, &held(alloc, spread(alloc, shifts)?, most)?, want, row);
+    let shape = held_drawn(alloc, &lattice(step, times)?, most)?;
+    check_text(rt, &shape, want, row);
+    let reference = held_spread(alloc, lattice(step, times)?, most)?;
+    check_text(rt, &reference, want, row);
     Ok(())
 }
 

@@ -203,10 +203,14 @@ fn pair_apart(alloc: Global, pair: &Pair) -> Result<Option<(Layer, Square, Side)
 }
 
 /// What two such tops differ in.
-fn layered_text(alloc: Global, words: &str) -> Result<String, Fail> {
+fn layered_apart(alloc: Global, words: &str) -> Result<Option<(Layer, Square, Side)>, Fail> {
     let (ours, theirs) = cut(words, " ");
     let pair = layered_pair(alloc, ours, theirs)?;
-    let found = pair_apart(alloc, &pair)?;
+    pair_apart(alloc, &pair)
+}
+
+fn layered_text(alloc: Global, words: &str) -> Result<String, Fail> {
+    let found = layered_apart(alloc, words)?;
     Ok(found_text(alloc, found)?)
 }
 

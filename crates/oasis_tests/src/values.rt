@@ -292,13 +292,18 @@ fn reads_pieces_of_any_size_alike(rt: HostRuntime) -> Result<(), Fail> {
     Ok(())
 }
 
-/// After a fault each call for a number or a delta answers `Failed`.
+/// After a fault each call for a number answers `Failed`.
 fn check_numbers_failed<R: Read>(rt: &impl Abort, values: &mut Input<R>) {
     let failed = ValueFault::Failed;
     assert_eq!(rt; values.byte(), Err(failed));
     assert_eq!(rt; values.unsigned(), Err(failed));
     assert_eq!(rt; values.signed(), Err(failed));
     assert_eq!(rt; values.real(), Err(failed));
+}
+
+/// After a fault each call for a delta answers `Failed`.
+fn check_deltas_failed<R: Read>(rt: &impl Abort, values: &mut Input<R>) {
+    let failed = ValueFault::Failed;
     assert_eq!(rt; values.two_delta(), Err(failed));
     assert_eq!(rt; values.three_delta(), Err(failed));
     assert_eq!(rt; values.g_delta(), Err(failed));
@@ -320,6 +325,7 @@ fn check_lists_failed<R: Read>(rt: &impl Abort, alloc: Global, values: &mut Inpu
 fn check_failed<R: Read>(rt: &impl Abort, alloc: Global, values: &mut Input<R>) {
     let at = values.offset();
     check_numbers_failed(rt, values);
+    check_deltas_failed(rt, values);
     check_lists_failed(rt, alloc, values);
     assert_eq!(rt; values.offset(), at);
 }
