@@ -8,8 +8,10 @@ use lvl_count::LayerRings;
 use lvl_grid::Square;
 use lvl_names::Layer;
 use lvl_region::Side;
-use lvl_text::{push_cell_fault, push_flat_fault, push_gds_fault, push_gds_head, push_name};
-use lvl_text::{push_oasis_fault, push_oasis_head};
+use lvl_text::{
+    push_cell_fault, push_flat_fault, push_gds_fault, push_gds_head, push_name, push_oasis_fault,
+    push_oasis_head,
+};
 use std::alloc::{AllocError, Global};
 use std::io;
 use std::io::Write;

@@ -11,7 +11,9 @@
 //! ```
 #![tactic(auto)]
 
-pub use faults::{ignore_fault, path_fault, push_cell_fault, push_flat_fault, push_name, view_fault};
+pub use faults::{
+    ignore_fault, path_fault, push_cell_fault, push_flat_fault, push_name, view_fault,
+};
 pub use gds::{push_gds_fault, push_gds_head, push_hex};
 pub use oasis::{push_oasis_fault, push_oasis_head};
 
