@@ -1,7 +1,9 @@
 //! Libraries with records that are read and ignored: where each may come, its form, and what is refused.
 
+use crate::cells::library_text;
 use crate::rows::{add_bytes, check_text, cut};
-use gds_library::{GdsFault, GdsKind, Misplaced, read_gds_by};
+use gds_library::{GdsFault, GdsHead, GdsKind, Misplaced, read_gds_by};
+use lvl_cells::Library;
 use lvl_ignore::Ignore;
 use lvl_io::fake::Pieces;
 use lvl_refusal::Cause;
@@ -91,10 +93,16 @@ fn fault_text(alloc: Global, fault: GdsFault) -> Result<String, AllocError> {
     }
 }
 
+/// A head and the cells of a library as text.
+fn text_of(alloc: Global, head: GdsHead, library: &Library) -> Result<String, AllocError> {
+    let cells = library_text(alloc, library)?;
+    format!(in alloc; "{head:?} {cells}")
+}
+
 /// A library and its head as text, or what is refused.
 fn read(alloc: Global, bytes: &[u8], most: usize, ignore: Ignore) -> Result<String, AllocError> {
     match read_gds_by(alloc, &mut Pieces::new(bytes, most), ignore) {
-        Ok((library, head)) => format!(in alloc; "{head:?} {library:?}"),
+        Ok((library, head)) => text_of(alloc, head, &library),
         Err(Cause::Breach(fault)) => fault_text(alloc, fault),
         Err(Cause::OutOfMemory) => Err(AllocError),
     }
