@@ -19,9 +19,9 @@ from assembler import boundary, g_delta, polygon, rectangle
 FIELD = 100_000
 
 
-def of_size(rng, width, height):
+def of_size(rng, width, height, field=FIELD):
     """A rectangle anywhere in the field: its lower left corner, its width and its height."""
-    return rng.randrange(FIELD), rng.randrange(FIELD), width, height
+    return rng.randrange(field), rng.randrange(field), width, height
 
 
 def rows(count, side):
@@ -52,7 +52,7 @@ def crossing(count):
 
 # The rectangles of each kind.
 RECTANGLES = {
-    "squares": lambda rng, count: [of_size(rng, 100, 100) for _ in range(count)],
+    "squares": lambda rng, count: [of_size(rng, 100, 100, field=10 * FIELD) for _ in range(count)],
     "overlapping": lambda rng, count: [of_size(rng, *rng.choices(range(20, 401), k=2)) for _ in range(count)],
     "sizes": lambda rng, count: [of_size(rng, *divmod(rng.randrange(400) * 51 + 2020, 101)) for _ in range(count)],
     "tiles": lambda rng, count: rows(count, 10),
