@@ -98,7 +98,7 @@ def slope(number, steps=2000):
 
 def in_gds(shapes):
     for x, y, width, height in shapes:
-        yield boundary([(x, y), (x + width, y), (x + width, y + height), (x, y + height), (x, y)])
+        yield boundary([(x, y), (x + width, y), (x + width, y + height), (x, y + height)])
 
 
 def in_oasis(shapes):
@@ -125,7 +125,7 @@ def pair(kind, rng, count):
     """The records of both files, and whether they draw the same."""
     if kind in ("combs", "stairs", "slopes"):
         rings, others = polygons(kind, rng, count)
-        return (boundary([*it, it[0]]) for it in rings), others, True
+        return (boundary(it) for it in rings), others, True
     shapes = RECTANGLES["squares" if kind in ("same", "moved") else kind](rng, count)
     if kind not in ("same", "moved"):
         return in_gds(shapes), in_oasis(halved(shapes)), True
