@@ -214,7 +214,7 @@ along the other axis | T A,-9223372036854775807,1,90; A 0..2 | true | false
 fn judged(alloc: Global, text: &str) -> Result<(bool, bool), Fail> {
     let library = library(alloc, text)?;
     let fits = fits_by_boxes(alloc, &library)?;
-    Ok((fits, pays_by_cells(alloc, &library)?))
+    Ok((fits, pays_by_cells(&library)))
 }
 
 #[test]

@@ -21,7 +21,8 @@ use Rattle.lvl_cells.specs.Cells.{drawn, kept}
 use Rattle.lvl_cells.specs.Coverage.{ShapeCovers, PullsBack, CoversWithin, CellCovers, moved_back}
 use Rattle.lvl_cells.specs.Soundness.{links, AreLinked, IsRanked, IsTop, IsSound}
 use Rattle.lvl_cells.specs.Chains.{Chain, IsComposed, IsInRange, over_chains, chains, own_rings, placed_rings}
-use Rattle.lvl_cells.specs.Chains.{most_placed, FitsLimits}
+use Rattle.lvl_ignore.specs.declared.limits.Limits.{Limits}
+use Rattle.lvl_cells.specs.Chains.{FitsLimits}
 use Rattle.oasis_figures.proofs.Moved.{All-unmap}
 
 -- names and references
@@ -271,19 +272,19 @@ range_kept rings m d = (
   },
 )
 
-pub fits_kept : {F : Type 0} (rings : F → Rings) (cells : List (PlainCell F)) (top : PlainCell F)
-    → FitsLimits rings cells top ↔ FitsLimits each_ring (kept rings cells) (drawn rings top)
-fits_kept rings cells top = (
+pub fits_kept : {F : Type 0} (limits : Limits) (rings : F → Rings) (cells : List (PlainCell F)) (top : PlainCell F)
+    → FitsLimits limits rings cells top ↔ FitsLimits limits each_ring (kept rings cells) (drawn rings top)
+fits_kept limits rings cells top = (
   λ h. record {
-    few_chains = subst (λ n. n ≤ most_placed) (chains_kept rings cells top) h.few_chains;
-    few_rings = subst (λ n. n ≤ most_placed) (placed_kept rings cells top) h.few_rings;
+    few_chains = subst (λ n. n ≤ limits.placed) (chains_kept rings cells top) h.few_chains;
+    few_rings = subst (λ n. n ≤ limits.placed) (placed_kept rings cells top) h.few_rings;
     in_range =
         λ n m d chain. (let b = chain_back rings cells top n m d chain in
         subst (IsInRange each_ring m) b.2 ((range_kept rings m b.0).0 (h.in_range n m b.0 b.1)));
   },
   λ h. record {
-    few_chains = subst (λ n. n ≤ most_placed) (sym (chains_kept rings cells top)) h.few_chains;
-    few_rings = subst (λ n. n ≤ most_placed) (sym (placed_kept rings cells top)) h.few_rings;
+    few_chains = subst (λ n. n ≤ limits.placed) (sym (chains_kept rings cells top)) h.few_chains;
+    few_rings = subst (λ n. n ≤ limits.placed) (sym (placed_kept rings cells top)) h.few_rings;
     in_range =
         λ n m d chain.
         (range_kept rings m d).1 (h.in_range n m (drawn rings d) (chain_kept rings cells top n m d chain));

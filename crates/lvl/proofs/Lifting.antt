@@ -9,7 +9,8 @@ use Rattle.lvl_names.specs.declared.layer.Layer.{Layer}
 use Rattle.lvl_cells.specs.Cells.{PlainCell, Rings, each_ring, names, drawn, kept}
 use Rattle.lvl_cells.specs.Coverage.{CellCovers}
 use Rattle.lvl_cells.specs.Soundness.{IsSound}
-use Rattle.lvl_cells.specs.Chains.{Chain, FitsLimits, chains, placed_rings, most_placed}
+use Rattle.lvl_ignore.specs.Limits.{standard}
+use Rattle.lvl_cells.specs.Chains.{Chain, FitsLimits, chains, placed_rings}
 use Rattle.lvl_cells.proofs.Arcs.{once_named}
 use Rattle.std.proofs.lemmas.List.{length-map}
 use Rattle.std.proofs.lemmas.Option.{slice_get-get_or}
@@ -60,7 +61,7 @@ pub cell_unaccepted : (file : File) (cells : List (PlainCell Rings)) (head : Hea
     → (fault : CellFault) → IsCellFault (record { cells = cells; top = file.top }) fault → IsUnaccepted file
 cell_unaccepted file cells head read fault reported others top accepted =
     let here = cell_reported file cells head read fault reported others accepted.head accepted.spelled in
-    let fits = (fits_kept figure_rings others top).0 accepted.fits in
+    let fits = (fits_kept standard figure_rings others top).0 accepted.fits in
     here.unsound (record {
       index = accepted.index;
       cell = drawn figure_rings top;
@@ -85,14 +86,14 @@ pub one_cell : (cells : List (PlainCell Rings)) (i j : ℕ) (c d : PlainCell Rin
     → slice_get cells j ≡ Some d → i ≡ j → c ≡ d
 one_cell cells i j c d p q e = let f : Some c ≡ Some d = sym p ∙ (ap (slice_get cells) e ∙ q) in cc
 
-fits_settled : (file : File) (k : Kept) (s : Settled) → IsSettled file.top s → (r : IsInRangeAs k s)
-    → FitsLimits each_ring s.cells r.top
+fits_settled : (file : File) (k : Kept) (s : Settled) → IsSettled standard file.top s → (r : IsInRangeAs k s)
+    → FitsLimits standard each_ring s.cells r.top
 fits_settled file k s settled r =
     let same : settled.cell ≡ r.top = one_cell s.cells s.top s.top settled.cell r.top settled.is r.is_top refl in
     record {
-      few_chains = subst (λ (c : PlainCell Rings). chains s.cells c ≤ most_placed) same settled.few_chains;
+      few_chains = subst (λ (c : PlainCell Rings). chains s.cells c ≤ standard.placed) same settled.few_chains;
       few_rings =
-          subst (λ (c : PlainCell Rings). placed_rings each_ring s.cells c ≤ most_placed) same settled.few_rings;
+          subst (λ (c : PlainCell Rings). placed_rings each_ring s.cells c ≤ standard.placed) same settled.few_rings;
       in_range = r.in_range;
     }
 
@@ -114,8 +115,8 @@ top_lifted file cells head read s r =
     let b =
     cell_back figure_rings others s.top r.top
     (subst (λ (c : List (PlainCell Rings)). slice_get c s.top ≡ Some r.top) e r.is_top) in
-    let fits = subst (λ (c : PlainCell Rings). FitsLimits each_ring (kept figure_rings others) c) (sym b.2)
-    (subst (λ (c : List (PlainCell Rings)). FitsLimits each_ring c r.top) e
+    let fits = subst (λ (c : PlainCell Rings). FitsLimits standard each_ring (kept figure_rings others) c) (sym b.2)
+    (subst (λ (c : List (PlainCell Rings)). FitsLimits standard each_ring c r.top) e
     (fits_settled file (record { cells = cells; top = file.top }) s r.checked.sound r)) in
     record {
       top = b.0;
@@ -127,7 +128,7 @@ top_lifted file cells head read s r =
             (sound_kept figure_rings others file.top s.top).1
             (subst (λ (c : List (PlainCell Rings)). IsSound c file.top s.top) e r.checked.sound.sound);
         top_is = b.1;
-        fits = (fits_kept figure_rings others b.0).1 fits;
+        fits = (fits_kept standard figure_rings others b.0).1 fits;
       };
       kept_as = b.2;
       draws = λ layer t.
@@ -163,7 +164,7 @@ out_of_range file others top s name accepted checked reported =
     let cell : drawn figure_rings top ≡ reported.top =
     one_cell (kept figure_rings others) accepted.index s.top (drawn figure_rings top) reported.top
     (cell_kept figure_rings others accepted.index top accepted.top_is) at same in
-    let fits = (fits_kept figure_rings others top).0 accepted.fits in
+    let fits = (fits_kept standard figure_rings others top).0 accepted.fits in
     let chain : Chain (kept figure_rings others) (drawn figure_rings top) reported.steps reported.map reported.cell =
     subst
     (λ (c : PlainCell Rings). Chain (kept figure_rings others) c reported.steps reported.map reported.cell) (sym cell)

@@ -3,6 +3,7 @@ use Rattle.std.specs.Prelude.{◌≡◌, ◌↔◌, ℕ, List, Some, slice_get}
 use Rattle.lvl_grid.specs.declared.point.Square.{Square}
 use Rattle.lvl_path.specs.Figure.{figure_rings, FigureCovers}
 use Rattle.lvl_names.specs.declared.layer.Layer.{Layer}
+use Rattle.lvl_ignore.specs.Limits.{standard}
 use Rattle.lvl_cells.specs.Coverage.{CellCovers}
 use Rattle.lvl_cells.specs.Soundness.{IsSound}
 use Rattle.lvl_cells.specs.Chains.{FitsLimits}
@@ -24,7 +25,7 @@ pub record IsAccepted (file : File) (cells : List Drawing) (top : Drawing) : Typ
   pub index : ℕ
   pub sound : IsSound cells file.top index
   pub top_is : slice_get cells index ≡ Some top
-  pub fits : FitsLimits figure_rings cells top
+  pub fits : FitsLimits standard figure_rings cells top
 
 -- the file isn't accepted
 abbrev pub IsUnaccepted : File → Type 0

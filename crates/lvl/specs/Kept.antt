@@ -6,6 +6,7 @@ use Rattle.lvl_grid.specs.declared.point.Square.{Square}
 use Rattle.lvl_names.specs.declared.layer.Layer.{Layer}
 use Rattle.lvl_cells.specs.Coverage.{CellCovers}
 use Rattle.lvl_columns.specs.Windows.{IsShown}
+use Rattle.lvl_ignore.specs.Limits.{standard}
 use Rattle.lvl_cells.specs.Checks.{Settled, IsSettled, PlacesFew}
 use Rattle.lvl_cells.specs.Faults.{IsFaultOf, IsSoundWith}
 use Rattle.lvl_cells.specs.declared.fault.CellFault.{CellFault}
@@ -29,7 +30,7 @@ pub record Kept : Type 0 where
 -- the library passes the check of cells, as s
 pub record IsCheckedAs (k : Kept) (s : Settled) : Type 0 where
   pub cells : s.cells ≡ k.cells
-  pub sound : IsSettled k.top s
+  pub sound : IsSettled standard k.top s
 
 -- the same, for some s
 abbrev pub Passes : Kept → Type 0
@@ -44,8 +45,8 @@ pub record IsFlatLibrary (k : Kept) (found : FlatLibrary) : Type 0 where
 
 -- the fault is true, so the check of cells refuses the library
 pub record IsCellFault (k : Kept) (fault : CellFault) : Type 0 where
-  pub reported : IsFaultOf k.cells k.top fault
-  pub unsound : ¬ IsSoundWith k.cells k.top (PlacesFew k.cells)
+  pub reported : IsFaultOf standard k.cells k.top fault
+  pub unsound : ¬ IsSoundWith k.cells k.top (PlacesFew standard k.cells)
 
 -- the library passes the check of cells, but what its top places is out of range, as the fault says
 pub record IsRangeFault (k : Kept) (fault : FlatFault) : Type 0 where

@@ -15,9 +15,6 @@ use std::alloc::{AllocError, Global};
 /// columns that compare them, the points of both sides then take about 50 megabytes.
 const LEAST_BUDGET: usize = 600_000;
 
-/// The number of points that the rings of one side may have in a strip of any files.
-const GREATEST_BUDGET: usize = 1 << 20;
-
 /// The number of shapes in the cells of a library.
 fn shapes_of(fitted: &Fitted) -> usize {
     let mut shapes: usize = 0;
@@ -28,10 +25,10 @@ fn shapes_of(fitted: &Fitted) -> usize {
 }
 
 /// The greatest number of points that the rings of one side have in a strip. Each strip looks at
-/// all shapes, so if there are many, strips are wider.
+/// all shapes, so strips grow with the files: a strip takes about a fifth of what the shapes take.
 fn most_points(first: &Fitted, second: &Fitted) -> usize {
     let shapes = shapes_of(first).saturating_add(shapes_of(second));
-    LEAST_BUDGET.saturating_add(shapes / 4).min(GREATEST_BUDGET)
+    LEAST_BUDGET.saturating_add(shapes / 4)
 }
 
 /// The first Layer, and the first square of the window on it, that only one of the two draws, with the Layers of

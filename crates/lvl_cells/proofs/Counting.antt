@@ -1,12 +1,11 @@
 -- A sum over chains from a cell doesn't grow with more references than the rank of the cell.
-use Rattle.std.proofs.Common.{◌≡◌, ℕ, zero, suc, ◌+◌, ◌*◌, ◌<◌, ◌≤◌, min, true, false, cond, List, [], ◌∷◌, length}
-use Rattle.std.proofs.Common.{Some, None, All, sum_by, refl, sym, ap, ◌∙◌, subst, ⊎_elim, arith}
+use Rattle.std.proofs.Common.{◌≡◌, ℕ, zero, suc, ◌+◌, ◌*◌, ◌<◌, ◌≤◌, true, false, cond, List, [], ◌∷◌, length}
+use Rattle.std.proofs.Common.{Some, None, All, sum_by, refl, sym, ap, ◌∙◌, subst, arith}
 use Rattle.std.specs.Str.{bytes_eq}
 use Rattle.std.specs.Option.{option_map_or}
 use Rattle.std.proofs.lemmas.Slice.Eq.{bytes_eq-Decides}
 use Rattle.std.proofs.lemmas.List.Elements.{All-head, All-tail, All-weaker}
 use Rattle.std.proofs.lemmas.List.Sums.{sum_by-cons}
-use Rattle.std.proofs.lemmas.Bool.{cases_lt}
 use Rattle.lvl_cells.specs.Cells.{PlainCell, PlainReference, cell_named, Rings}
 use Rattle.lvl_cells.specs.Chains.{over_chains}
 
@@ -81,10 +80,3 @@ pub over_chains_is : (w : PlainCell Rings → ℕ) (cells : List (PlainCell Ring
     ≡ w c
     + sum_by (λ r. length r.shifts * option_map_or (over_chains w cells n) (cell_named cells r.cell) 0) c.references
 over_chains_is w cells rank n all c falls h = sym (steady w cells rank all n c falls h)
-
--- sums that are capped
-pub capped_times : (most a x : ℕ) → min most (a * min most x) ≡ min most (a * x)
-capped_times most zero x = omega arith
-capped_times most (suc a) x =
-    ⊎_elim (λ h. let e : min most x ≡ most = omega (arith, h) in ap (λ y. min most (suc a * y)) e ∙ omega (arith, h))
-    (λ h. let e : min most x ≡ x = omega (arith, h) in ap (λ y. min most (suc a * y)) e) (cases_lt most x)

@@ -1,5 +1,5 @@
 -- The faults of the steps are faults of the library.
-use Rattle.std.proofs.Common.{◌≡◌, ℕ, zero, suc, ◌+◌, ◌<◌, ◌≤◌, min, ◌-◌, true, false, cond, get_or, ◌⊎◌, inl, inr}
+use Rattle.std.proofs.Common.{◌≡◌, ℕ, zero, suc, ◌+◌, ◌<◌, ◌≤◌, ◌-◌, true, false, cond, get_or, ◌⊎◌, inl, inr}
 use Rattle.std.proofs.Common.{⊎_elim, List, [], ◌∷◌, map, length, Option, Some, IfSome, All, Contains, refl, sym, ap}
 use Rattle.std.proofs.Common.{◌∙◌, subst, arith}
 use Rattle.std.specs.List.{slice_get, IsDistinct}
@@ -11,16 +11,18 @@ use Rattle.lvl_names.proofs.Elements.{contains_at}
 use Rattle.std.proofs.lemmas.Slice.Eq.{bytes_eq-Decides}
 use Rattle.std.proofs.Math.ListN.{length-map}
 use Rattle.lvl_cells.specs.Cells.{PlainCell, PlainReference, Rings, each_ring, names}
-use Rattle.lvl_cells.specs.Chains.{over_chains, own_rings, most_placed}
+use Rattle.lvl_ignore.specs.declared.limits.Limits.{Limits}
+use Rattle.lvl_cells.specs.Chains.{over_chains, own_rings}
 use Rattle.lvl_cells.specs.Soundness.{links, AreLinked, IsRanked, IsTop, IsOrder}
 use Rattle.lvl_cells.specs.Faults.{IsFaultOf}
 use Rattle.lvl_cells.specs.inside.Steps.{AreAllTargets, IsCycleFault, IsTopFault}
-use Rattle.lvl_cells.specs.Checks.{IsSettled, PlacesFew}
+use Rattle.lvl_cells.specs.Checks.{Settled, IsSettled, PlacesFew}
+use Rattle.lvl_cells.specs.inside.Times.{HasFew, IsCountFault}
 use Rattle.lvl_cells.specs.declared.fault.CellFault.{CellFault}
 use Rattle.lvl_cells.specs.declared.fault.CellFault.TheVariants.{Cycle, TopMissing}
 use Rattle.lvl_cells.specs.declared.fault.CellFault.TheVariants.{ManyTops, TooManyPlacements, TooManyRings}
 use Rattle.lvl_cells.proofs.Missing.{named_links}
-use Rattle.lvl_cells.proofs.Sequences.{item_there}
+use Rattle.lvl_cells.proofs.Sequences.{item_there, one_answer}
 
 pub linked_by : (cells : List (PlainCell Rings)) (tss : List (List ℕ)) → IsDistinct bytes_eq (names cells)
     → AreAllTargets cells tss → AreLinked cells
@@ -141,82 +143,61 @@ ranked_by cells order l o =
           falls_by cells order l o link.0 link.1 there,
     )
 
-pub cycle_fault : (cells : List (PlainCell Rings)) (given : Option (List ℕ)) (f : CellFault) → AreLinked cells
-    → IsCycleFault cells f → IsFaultOf cells given f
-cycle_fault cells given (Cycle round) l h = (l, h)
-cycle_fault cells given _ l h = absurd h
+pub cycle_fault : (limits : Limits) (cells : List (PlainCell Rings)) (given : Option (List ℕ)) (f : CellFault) → AreLinked cells
+    → IsCycleFault cells f → IsFaultOf limits cells given f
+cycle_fault limits cells given (Cycle round) l h = (l, h)
+cycle_fault limits cells given _ l h = absurd h
 
-pub top_fault : (cells : List (PlainCell Rings)) (given : Option (List ℕ)) (f : CellFault) → 0 < length cells
-    → AreLinked cells → IsRanked cells → IsTopFault cells given f → IsFaultOf cells given f
-top_fault cells given TopMissing n l r h =
+pub top_fault : (limits : Limits) (cells : List (PlainCell Rings)) (given : Option (List ℕ)) (f : CellFault) → 0 < length cells
+    → AreLinked cells → IsRanked cells → IsTopFault cells given f → IsFaultOf limits cells given f
+top_fault limits cells given TopMissing n l r h =
     (l, r, (λ e. let none : length cells ≡ 0 = ap length e in absurd (omega (arith, n))), h)
-top_fault cells given ManyTops n l r h = (l, r, h.0, h.1)
-top_fault cells given _ n l r h = absurd h
+top_fault limits cells given ManyTops n l r h = (l, r, h.0, h.1)
+top_fault limits cells given _ n l r h = absurd h
 
--- a sum that is capped at one more than the limit is beyond the limit, or exact
-pub sum_at : (cells : List (PlainCell Rings)) (k : ℕ) (c : PlainCell Rings) (w : PlainCell Rings → ℕ) (sum : ℕ)
-    → slice_get cells k ≡ Some c
-    → IfSome (slice_get cells k) (λ d. sum ≡ min (most_placed + 1) (over_chains w cells (length cells) d))
-    → sum ≡ min (most_placed + 1) (over_chains w cells (length cells) c)
-sum_at cells k c w sum e h = rw e at h
-
-pub too_many_chains : (cells : List (PlainCell Rings)) (given : Option (List ℕ)) (k : ℕ) (sum : ℕ) → AreLinked cells
-    → IsRanked cells → IsTop cells given k → k < length cells
-    → IfSome (slice_get cells k) (λ d. sum ≡ min (most_placed + 1) (over_chains (λ _. 1) cells (length cells) d))
-    → most_placed < sum
-    → IsFaultOf cells given TooManyPlacements
-too_many_chains cells given k sum l r t h s m =
-    let at = item_there cells k h in
-    let e = sum_at cells k at.0 (λ _. 1) sum at.1 s in
+pub count_fault : (limits : Limits) (s : Settled) (given : Option (List ℕ)) (f : CellFault) → AreLinked s.cells
+    → IsRanked s.cells → IsTop s.cells given s.top → IsCountFault limits s f → IsFaultOf limits s.cells given f
+count_fault limits s given TooManyPlacements l r t h = record {
+  index = s.top;
+  cell = h.top;
+  sound = record { linked = l; ranked = r; is_top = t };
+  is = h.is_top;
+  counts = h.more;
+}
+count_fault limits s given TooManyRings l r t h =
+    let same : h.0.top ≡ h.1.top = one_answer h.0.is_top h.1.is_top in
     record {
-      index = k;
-      cell = at.0;
+      index = s.top;
+      cell = h.1.top;
       sound = record { linked = l; ranked = r; is_top = t };
-      is = at.1;
-      counts = omega (arith, e, m);
+      is = h.1.is_top;
+      counts = (
+        subst (λ (c : PlainCell Rings). over_chains (λ _. 1) s.cells (length s.cells) c ≤ limits.placed) same h.0.few,
+        h.1.more,
+      );
     }
+count_fault limits s given _ l r t h = absurd h
 
-pub too_many_rings : (cells : List (PlainCell Rings)) (given : Option (List ℕ)) (k : ℕ) (few sum : ℕ) → AreLinked cells
-    → IsRanked cells → IsTop cells given k → k < length cells
-    → IfSome (slice_get cells k) (λ d. few ≡ min (most_placed + 1) (over_chains (λ _. 1) cells (length cells) d))
-    → few ≤ most_placed
-    → IfSome (slice_get cells k)
-    (λ d. sum ≡ min (most_placed + 1) (over_chains (own_rings each_ring) cells (length cells) d)) → most_placed < sum
-    → IsFaultOf cells given TooManyRings
-too_many_rings cells given k few sum l r t h s m s2 m2 =
-    let at = item_there cells k h in
-    let e = sum_at cells k at.0 (λ _. 1) few at.1 s in
-    let e2 = sum_at cells k at.0 (own_rings each_ring) sum at.1 s2 in
-    record {
-      index = k;
-      cell = at.0;
-      sound = record { linked = l; ranked = r; is_top = t };
-      is = at.1;
-      counts = (omega (arith, e, m), omega (arith, e2, m2));
-    }
+-- few chains and few rings are within the limits
+pub places_few : (limits : Limits) (s : Settled) → HasFew (λ _. 1) s limits.placed
+    → HasFew (own_rings each_ring) s limits.placed → IfSome (slice_get s.cells s.top) (PlacesFew limits s.cells)
+places_few limits s one own =
+    let same : one.top ≡ own.top = one_answer one.is_top own.is_top in
+    let counts : PlacesFew limits s.cells own.top = record {
+      few_chains =
+          subst (λ (c : PlainCell Rings). over_chains (λ _. 1) s.cells (length s.cells) c ≤ limits.placed) same
+          one.few;
+      few_rings = own.few;
+    } in
+    subst (λ o. IfSome o (PlacesFew limits s.cells)) (sym own.is_top) counts
 
--- two sums that are capped, and within the limit, are exact
-pub places_few : (cells : List (PlainCell Rings)) (k : ℕ) (few sum : ℕ) → k < length cells
-    → IfSome (slice_get cells k) (λ d. few ≡ min (most_placed + 1) (over_chains (λ _. 1) cells (length cells) d))
-    → few ≤ most_placed
-    → IfSome (slice_get cells k)
-    (λ d. sum ≡ min (most_placed + 1) (over_chains (own_rings each_ring) cells (length cells) d)) → sum ≤ most_placed
-    → IfSome (slice_get cells k) (PlacesFew cells)
-places_few cells k few sum h s m s2 m2 =
-    let at = item_there cells k h in
-    let e = sum_at cells k at.0 (λ _. 1) few at.1 s in
-    let e2 = sum_at cells k at.0 (own_rings each_ring) sum at.1 s2 in
-    let counts : PlacesFew cells at.0 =
-    record { few_chains = omega (arith, e, m); few_rings = omega (arith, e2, m2) } in
-    subst (λ o. IfSome o (PlacesFew cells)) (sym at.1) counts
-
-pub settled_by : (cells : List (PlainCell Rings)) (given : Option (List ℕ)) (order : List ℕ) (k : ℕ)
+pub settled_by : (limits : Limits) (cells : List (PlainCell Rings)) (given : Option (List ℕ)) (order : List ℕ) (k : ℕ)
     → AreLinked cells → IsOrder cells order → IsTop cells given k → k < length cells
-    → IfSome (slice_get cells k) (PlacesFew cells)
-    → IsSettled given (record { cells = cells; top = k; order = order })
-settled_by cells given order k l o t h few =
+    → IfSome (slice_get cells k) (PlacesFew limits cells)
+    → IsSettled limits given (record { cells = cells; top = k; order = order })
+settled_by limits cells given order k l o t h few =
     let at = item_there cells k h in
-    let counts : PlacesFew cells at.0 = rw at.1 at few in
+    let counts : PlacesFew limits cells at.0 = rw at.1 at few in
     record {
       cell = at.0;
       sound = record { linked = l; ranked = ranked_by cells order l o; is_top = t };

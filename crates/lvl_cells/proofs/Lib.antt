@@ -12,6 +12,9 @@ pub mod Sequences
 pub mod Orders
 pub mod Roots
 pub mod Summing
+pub mod Weighing
+pub mod Passing
+pub mod Adding
 pub mod Refusing
 pub mod Looking
 pub mod Moving

@@ -7,7 +7,8 @@ use Rattle.std.proofs.lemmas.List.Elements.{All-head, All-tail, All-weaker, All-
 use Rattle.std.proofs.lemmas.Option.{slice_get_within}
 use Rattle.lvl_grid.specs.Winding.{last_or, path_edges, edges}
 use Rattle.lvl_cells.specs.Cells.{PlainCell, Rings, each_ring, names}
-use Rattle.lvl_cells.specs.Chains.{chains, placed_rings, most_placed}
+use Rattle.lvl_ignore.specs.declared.limits.Limits.{Limits}
+use Rattle.lvl_cells.specs.Chains.{chains, placed_rings}
 use Rattle.lvl_cells.specs.Soundness.{links, AreLinked, IsRanked, IsTop}
 use Rattle.lvl_cells.specs.Faults.{IsFaultOf, IsFirstRepeat, IsFirstMissing, IsCycle, IsSoundWith}
 use Rattle.lvl_cells.specs.Checks.{PlacesFew}
@@ -89,29 +90,29 @@ same_cell cells given P Q v w =
     one_answer v.is (subst (λ n. slice_get cells n ≡ Some w.cell) (sym place) w.is)
 
 -- a library with the fault isn't sound, or places too much
-pub refused : (cells : List (PlainCell Rings)) (given : Option (List ℕ)) (f : CellFault) → IsFaultOf cells given f
-    → IsSoundWith cells given (PlacesFew cells) → ⊥
-refused cells given NoCell h w =
+pub refused : (limits : Limits) (cells : List (PlainCell Rings)) (given : Option (List ℕ)) (f : CellFault) → IsFaultOf limits cells given f
+    → IsSoundWith cells given (PlacesFew limits cells) → ⊥
+refused limits cells given NoCell h w =
     let none : slice_get cells w.index ≡ None = ap (λ (l : List (PlainCell Rings)). slice_get l w.index) h in
     let s : Some w.cell ≡ None = sym w.is ∙ none in cc
-refused cells given (DuplicateCell name) h w = not_repeated (names cells) name.items w.sound.linked.distinct h
-refused cells given (MissingCell from name) h w = not_missing cells from.items name.items w.sound.linked h.1
-refused cells given (Cycle round) h w = not_cyclic cells (map (λ name. name.items) round.items) w.sound.ranked h.1
-refused cells given TopMissing h w =
+refused limits cells given (DuplicateCell name) h w = not_repeated (names cells) name.items w.sound.linked.distinct h
+refused limits cells given (MissingCell from name) h w = not_missing cells from.items name.items w.sound.linked h.1
+refused limits cells given (Cycle round) h w = not_cyclic cells (map (λ name. name.items) round.items) w.sound.ranked h.1
+refused limits cells given TopMissing h w =
     let top : IsTop cells (Some h.3.0) w.index =
     subst (λ (o : Option (List ℕ)). IsTop cells o w.index) h.3.1 w.sound.is_top in
     h.3.2 (contains_at (names cells) w.index h.3.0 top)
-refused cells given ManyTops h w =
+refused limits cells given ManyTops h w =
     let two = h.3 in
     let top : IsTop cells None w.index = subst (λ (o : Option (List ℕ)). IsTop cells o w.index) h.2 w.sound.is_top in
     let a : two.first ≡ w.index = (top.1 two.first two.first_name two.first_is).0 two.first_free in
     let b : two.second ≡ w.index = (top.1 two.second two.second_name two.second_is).0 two.second_free in
     absurd (omega (arith, a, b, two.apart))
-refused cells given TooManyPlacements h w =
-    let same : h.cell ≡ w.cell = same_cell cells given (λ c. most_placed < chains cells c) (PlacesFew cells) h w in
+refused limits cells given TooManyPlacements h w =
+    let same : h.cell ≡ w.cell = same_cell cells given (λ c. limits.placed < chains cells c) (PlacesFew limits cells) h w in
     absurd (omega (arith, h.counts, w.counts.few_chains, ap (chains cells) same))
-refused cells given TooManyRings h w =
+refused limits cells given TooManyRings h w =
     let same : h.cell ≡ w.cell =
-    same_cell cells given (λ c. (chains cells c ≤ most_placed) × (most_placed < placed_rings each_ring cells c))
-    (PlacesFew cells) h w in
+    same_cell cells given (λ c. (chains cells c ≤ limits.placed) × (limits.placed < placed_rings each_ring cells c))
+    (PlacesFew limits cells) h w in
     absurd (omega (arith, h.counts.1, w.counts.few_rings, ap (placed_rings each_ring cells) same))

@@ -6,6 +6,7 @@ use Rattle.lvl_grid.specs.declared.point.Point.{Point}
 use Rattle.lvl_grid.specs.declared.map.Map.{Map}
 use Rattle.lvl_grid.specs.declared.map.Turn.TheVariants.{R0}
 use Rattle.lvl_grid.specs.Turn.{image, shifted, FitsPoint}
+use Rattle.lvl_ignore.specs.declared.limits.Limits.{Limits}
 use Rattle.lvl_names.specs.declared.layer.Layer.{Layer}
 use Rattle.lvl_cells.specs.Cells.{PlainCell, Rings, map_at, cell_named}
 use Rattle.lvl_names.specs.Layers.{same_layer}
@@ -62,12 +63,9 @@ own_rings_on rings layer c =
 abbrev pub placed_rings_on : {F : Type 0} → (F → Rings) → Layer → List (PlainCell F) → PlainCell F → ℕ
 placed_rings_on rings layer cells c = over_chains (own_rings_on rings layer) cells (length cells) c
 
--- the greatest number of chains from a top, and of rings that they place
-abbrev pub most_placed : ℕ
-most_placed = 16777216
-
--- the top has at most `most_placed` chains and placed rings, and every cell that a chain places is in range
-pub record FitsLimits {F : Type 0} (rings : F → Rings) (cells : List (PlainCell F)) (top : PlainCell F) : Type 0 where
-  pub few_chains : chains cells top ≤ most_placed
-  pub few_rings : placed_rings rings cells top ≤ most_placed
+-- the top has no more chains and placed rings than the limits allow, and every cell that a chain places is in range
+pub record FitsLimits {F : Type 0} (limits : Limits) (rings : F → Rings) (cells : List (PlainCell F))
+    (top : PlainCell F) : Type 0 where
+  pub few_chains : chains cells top ≤ limits.placed
+  pub few_rings : placed_rings rings cells top ≤ limits.placed
   pub in_range : (n : ℕ) (m : Map) (d : PlainCell F) → Chain cells top n m d → IsInRange rings m d

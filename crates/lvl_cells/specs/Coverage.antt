@@ -4,7 +4,7 @@ use Rattle.lvl_grid.specs.declared.point.Point.{Point}
 use Rattle.lvl_grid.specs.declared.point.Square.{Square}
 use Rattle.lvl_grid.specs.Turn.{image_square}
 use Rattle.lvl_names.specs.declared.layer.Layer.{Layer}
-use Rattle.lvl_cells.specs.Cells.{PlainShape, PlainReference, PlainCell, Rings, map_at, cell_named}
+use Rattle.lvl_cells.specs.Cells.{PlainShape, PlainReference, PlainCell, map_at, cell_named}
 
 -- the square that the shift moves to s
 abbrev pub moved_back : Point → Square → Square

@@ -4,8 +4,9 @@ use Rattle.std.specs.Prelude.{None}
 use Rattle.std.specs.List.{IsDistinct}
 use Rattle.std.specs.Str.{bytes_eq}
 use Rattle.lvl_grid.specs.Winding.{edges}
+use Rattle.lvl_ignore.specs.declared.limits.Limits.{Limits}
 use Rattle.lvl_cells.specs.Cells.{PlainCell, Rings, each_ring, names}
-use Rattle.lvl_cells.specs.Chains.{chains, placed_rings, most_placed}
+use Rattle.lvl_cells.specs.Chains.{chains, placed_rings}
 use Rattle.lvl_cells.specs.Soundness.{links, AreNamed, AreLinked, IsRanked, IsReferred, IsSound}
 use Rattle.lvl_cells.specs.declared.fault.CellFault.{CellFault}
 use Rattle.lvl_cells.specs.declared.fault.CellFault.TheVariants.{NoCell, DuplicateCell, MissingCell, Cycle, TopMissing}
@@ -58,16 +59,17 @@ pub record IsSoundWith (cells : List (PlainCell Rings)) (given : Option (List �
   pub counts : P cell
 
 -- the library has the fault, and none of those above it here
-abbrev pub IsFaultOf : List (PlainCell Rings) → Option (List ℕ) → CellFault → Type 0
-IsFaultOf cells given NoCell = cells ≡ []
-IsFaultOf cells given (DuplicateCell name) = IsFirstRepeat (names cells) name.items
-IsFaultOf cells given (MissingCell from name) =
+abbrev pub IsFaultOf : Limits → List (PlainCell Rings) → Option (List ℕ) → CellFault → Type 0
+IsFaultOf limits cells given NoCell = cells ≡ []
+IsFaultOf limits cells given (DuplicateCell name) = IsFirstRepeat (names cells) name.items
+IsFaultOf limits cells given (MissingCell from name) =
     IsDistinct bytes_eq (names cells) × IsFirstMissing cells from.items name.items
-IsFaultOf cells given (Cycle round) = AreLinked cells × IsCycle cells (map (λ name. name.items) round.items)
-IsFaultOf cells given TopMissing =
+IsFaultOf limits cells given (Cycle round) = AreLinked cells × IsCycle cells (map (λ name. name.items) round.items)
+IsFaultOf limits cells given TopMissing =
     AreLinked cells × IsRanked cells × (cells ≢ [])
     × ((name : List ℕ) × (given ≡ Some name) × (¬ Contains (names cells) name))
-IsFaultOf cells given ManyTops = AreLinked cells × IsRanked cells × (given ≡ None) × HasTwoTops cells
-IsFaultOf cells given TooManyPlacements = IsSoundWith cells given (λ c. most_placed < chains cells c)
-IsFaultOf cells given TooManyRings =
-    IsSoundWith cells given (λ c. (chains cells c ≤ most_placed) × (most_placed < placed_rings each_ring cells c))
+IsFaultOf limits cells given ManyTops = AreLinked cells × IsRanked cells × (given ≡ None) × HasTwoTops cells
+IsFaultOf limits cells given TooManyPlacements = IsSoundWith cells given (λ c. limits.placed < chains cells c)
+IsFaultOf limits cells given TooManyRings =
+    IsSoundWith cells given
+    (λ c. (chains cells c ≤ limits.placed) × (limits.placed < placed_rings each_ring cells c))

@@ -3,6 +3,8 @@ pub mod Rows
 pub mod Targets
 pub mod Steps
 pub mod Settling
+pub mod Linking
+pub mod Times
 pub mod Walking
 pub mod Rounding
 pub mod Topping

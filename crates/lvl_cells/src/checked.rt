@@ -1,28 +1,32 @@
 //! The check that a library is sound for its top and that the top doesn't place too much.
-ghost use Rattle.std.specs.Prelude.{◌≡◌, ◌≢◌, ◌<◌, ℕ, List, Option, length, slice_get, option_copied};
+ghost use Rattle.std.specs.Prelude.{◌≡◌, ◌<◌, Some, length, slice_get, option_copied};
 ghost use Rattle.std.specs.Prelude.{IfOk, IfErr, IfSome, IfNone, OnOk};
+ghost use Rattle.lvl_ignore.specs.Limits.{standard};
+ghost use Rattle.lvl_ignore.specs.declared.limits.Limits.{Limits as AllLimits};
 ghost use Rattle.lvl_cells.specs.Checks.{IsSettled, IsChecked, PlacesFew, IsTargetOf, HasReference};
 ghost use Rattle.lvl_cells.specs.Faults.{IsFaultOf, IsSoundWith};
 ghost use Rattle.lvl_cells.specs.Cells.{names};
 ghost use Rattle.lvl_cells.specs.Resolving.{IsPlaceOf};
-ghost use Rattle.lvl_cells.specs.Soundness.{AreLinked, IsOrder, IsTop};
+ghost use Rattle.lvl_cells.specs.Soundness.{AreLinked, IsOrder};
+ghost use Rattle.lvl_cells.specs.Times.{AreTimes};
 ghost use Rattle.lvl_cells.specs.inside.Steps.{AreAllTargets};
+ghost use Rattle.lvl_cells.specs.inside.Times.{IsCountFault};
 ghost use Rattle.lvl_refusal.specs.Refused.{Says};
 
-use crate::counts::{Weight, count_from};
+use crate::counts::{Weight, are_few};
 use crate::fault::CellFault;
 use crate::library::{Cell, Library};
+use crate::linked::Linked;
 use crate::names::index_of;
 use crate::order::order_of;
 use crate::rows::Targets;
 use crate::targets::all_targets;
+use crate::times::times_of;
 use crate::top::top_of;
+use lvl_ignore::Limits;
 use lvl_refusal::Cause;
 use std::alloc::Global;
 use std::marker::Model;
-
-/// The greatest number of chains from the top, and of placed rings (own rule).
-const MOST_PLACED: u64 = 16_777_216;
 
 /// A library that is sound for its top and within the limits on what the top places. Only [`check`]
 /// makes one.
@@ -32,6 +36,7 @@ pub struct Checked {
     top: usize,
     order: Vec<usize>,
     targets: Targets,
+    times: Vec<u64>,
 }
 
 impl Model for Checked {
@@ -56,7 +61,8 @@ fn resolve(
     ensures linked { IfOk result (λ found. AreLinked cells.now) }
     ensures targets { IfOk result (λ found. AreAllTargets cells.now found.0) }
     ensures index { IfOk result (λ found. IsPlaceOf (names cells.now) (option_copied given.entry) found.1) }
-    ensures err { IfErr result (λ refusal. Says refusal (IsFaultOf cells.now (option_copied given.entry))) }
+    ensures err { IfErr result (λ refusal. Says refusal (λ fault. (limits : AllLimits)
+        → IsFaultOf limits cells.now (option_copied given.entry) fault)) }
 {
     let index = index_of(alloc, cells)?;
     let targets = all_targets(alloc, cells, &index)?;
@@ -69,82 +75,125 @@ fn resolve(
     }
 }
 
-/// Checks that the cell at index `top` places at most [`MOST_PLACED`] cells and rings.
+/// How often the top places each cell. Refuses a library whose top places more cells or rings than the limits allow.
 fn check_counts(
     alloc: Global,
-    cells: &[Cell],
-    targets: &Targets,
-    order: &[usize],
-    top: usize,
-) -> Result<(), Cause<CellFault>>
-    requires linked { AreLinked cells.now }
-    requires targets { AreAllTargets cells.now targets.now }
-    requires order { IsOrder cells.now order.now }
-    requires top { top < length cells.now }
-    ensures ok { OnOk result (IfSome (slice_get cells.now top) (PlacesFew cells.now)) }
-    ensures err { IfErr result (λ refusal. Says refusal (λ fault.
-        (given : Option (List ℕ)) → IsTop cells.now given top → IsFaultOf cells.now given fault)) }
+    linked: &Linked<'_>,
+    limits: Limits,
+) -> Result<Vec<u64>, Cause<CellFault>>
+    ensures times { IfOk result (λ times. AreTimes linked.now times.items) }
+    ensures few { OnOk result (IfSome (slice_get linked.now.cells linked.now.top) (PlacesFew limits linked.now.cells)) }
+    ensures err { IfErr result (λ refusal. Says refusal (IsCountFault limits linked.now)) }
 {
-    let chains = count_from(alloc, Weight::One, cells, targets, order, top)?;
-    if chains > MOST_PLACED {
+    let most = limits.placed;
+    let Some(times) = times_of(alloc, linked, most)? else {
+        return Err(Cause::Breach(CellFault::TooManyPlacements));
+    };
+    if !are_few(Weight::One, linked, &times, most) {
         return Err(Cause::Breach(CellFault::TooManyPlacements));
     }
-    let rings = count_from(alloc, Weight::OwnRings, cells, targets, order, top)?;
-    if rings > MOST_PLACED {
+    if !are_few(Weight::OwnRings, linked, &times, most) {
         return Err(Cause::Breach(CellFault::TooManyRings));
     }
-    Ok(())
+    Ok(times)
 }
 
-/// The top, the order and the targets of the cells, if [`check`] accepts them.
+/// What [`check_with`] finds out about the cells of a library that it accepts.
+#[derive(Drop)]
+struct Examined {
+    top: usize,
+    order: Vec<usize>,
+    targets: Targets,
+    times: Vec<u64>,
+}
+
+/// What is found out about the cells, if [`check_with`] accepts them.
 fn examine(
     alloc: Global,
     cells: &[Cell],
     given: Option<&[u8]>,
-) -> Result<(usize, Vec<usize>, Targets), Cause<CellFault>>
+    limits: Limits,
+) -> Result<Examined, Cause<CellFault>>
     requires { 0 < length cells.now }
     ensures ok { IfOk result
-        (λ found. IsSettled (option_copied given.entry)
-        (record { cells = cells.now; top = found.0; order = found.1.items })) }
-    ensures targets { IfOk result (λ found. AreAllTargets cells.now found.2) }
-    ensures err { IfErr result (λ refusal. Says refusal (IsFaultOf cells.now (option_copied given.entry))) }
+        (λ found. IsSettled limits (option_copied given.entry)
+        (record { cells = cells.now; top = found.top; order = found.order.items })) }
+    ensures targets { IfOk result (λ found. AreAllTargets cells.now found.targets) }
+    ensures times { IfOk result
+        (λ found. AreTimes (record { cells = cells.now; top = found.top; order = found.order.items })
+        found.times.items) }
+    ensures err { IfErr result (λ refusal. Says refusal (IsFaultOf limits cells.now (option_copied given.entry))) }
 {
     let (targets, index) = resolve(alloc, cells, given)?;
     let order = order_of(alloc, cells, &targets)?;
     let top = top_of(alloc, cells, &targets, &order, given, index)?;
-    check_counts(alloc, cells, &targets, &order, top)?;
-    Ok((top, order, targets))
+    let linked = Linked {
+        cells,
+        targets: &targets,
+        order: &order,
+        top,
+    };
+    let times = check_counts(alloc, &linked, limits)?;
+    Ok(Examined {
+        top,
+        order,
+        targets,
+        times,
+    })
 }
 
-/// Checks that a library is sound for its top and that the top doesn't place too much (own rules).
+/// Checks that a library is sound for its top and that the top places no more than the limits allow (own rules).
 ///
 /// A library is sound if it has a cell, the names of its cells are distinct, each reference names a
 /// cell, no cell is placed in itself through any number of references, and there is a top: the cell
 /// of the given name or, if `top` is None, the only cell to which no cell refers. The top may place
-/// at most 16,777,216 cells, itself included, and at most 16,777,216 rings. If the library has
+/// at most [`Limits::placed`] cells, itself included, and as many rings. If the library has
 /// several faults, the first in the order of [`CellFault`] is reported.
+pub fn check_with(
+    alloc: Global,
+    library: Library,
+    top: Option<&[u8]>,
+    limits: Limits,
+) -> Result<Checked, Cause<CellFault>>
+    ensures same { IfOk result (λ checked. checked.cells ≡ library) }
+    ensures sound { IfOk result (λ checked. IsSettled limits (option_copied top.entry) checked) }
+    ensures fault { IfErr result (λ refusal. Says refusal (IsFaultOf limits library (option_copied top.entry))) }
+    ensures refused { IfErr result
+        (λ refusal. Says refusal (λ _. ¬ IsSoundWith library (option_copied top.entry) (PlacesFew limits library))) }
+{
+    let Library { cells } = library;
+    if cells.is_empty() {
+        return Err(Cause::Breach(CellFault::NoCell));
+    }
+    let Examined {
+        top,
+        order,
+        targets,
+        times,
+    } = examine(alloc, &cells, top, limits)?;
+    Ok(Checked {
+        cells,
+        top,
+        order,
+        targets,
+        times,
+    })
+}
+
+/// Checks a library as [`check_with`] does, within the standard limits: the top may place at most 16,777,216 cells,
+/// itself included, and at most 16,777,216 rings (own rules).
 pub fn check(
     alloc: Global,
     library: Library,
     top: Option<&[u8]>,
 ) -> Result<Checked, Cause<CellFault>>
     ensures same { IfOk result (λ checked. checked.cells ≡ library) }
-    ensures sound { IfOk result (λ checked. IsSettled (option_copied top.entry) checked) }
-    ensures fault { IfErr result (λ refusal. Says refusal (IsFaultOf library (option_copied top.entry))) }
+    ensures sound { IfOk result (λ checked. IsSettled standard (option_copied top.entry) checked) }
+    ensures fault { IfErr result (λ refusal. Says refusal (IsFaultOf standard library (option_copied top.entry))) }
     ensures refused { IfErr result
-        (λ refusal. Says refusal (λ _. ¬ IsSoundWith library (option_copied top.entry) (PlacesFew library))) }
+        (λ refusal. Says refusal (λ _. ¬ IsSoundWith library (option_copied top.entry) (PlacesFew standard library))) }
 {
-    let Library { cells } = library;
-    if cells.is_empty() {
-        return Err(Cause::Breach(CellFault::NoCell));
-    }
-    let (index, order, targets) = examine(alloc, &cells, top)?;
-    Ok(Checked {
-        cells,
-        top: index,
-        order,
-        targets,
-    })
+    check_with(alloc, library, top, Limits::STANDARD)
 }
 
 impl Checked {
@@ -172,15 +221,49 @@ impl Checked {
         &self.order
     }
 
+    /// The cell at an index.
+    pub fn cell(&self, index: usize) -> &Cell
+        requires { index < length self.now.cells }
+        ensures { slice_get self.now.cells index ≡ Some result.now }
+    {
+        &self.cells[index]
+    }
+
+    /// How often the top places each cell, by the index of the cell: the number of chains from the top that end in it.
+    pub fn times(&self) -> &[u64]
+        ensures { AreTimes self.now result.now }
+    {
+        &self.times
+    }
+
+    fn linked(&self) -> Linked<'_>
+        ensures { result ≡ self.now }
+    {
+        Linked {
+            cells: &self.cells,
+            targets: &self.targets,
+            order: &self.order,
+            top: self.top,
+        }
+    }
+
     /// The index of the cell to which a reference refers, given the index of the cell that has the
     /// reference and that of the reference in this cell. None if there is no such reference.
     pub fn target(&self, cell: usize, reference: usize) -> Option<usize>
         ensures target { IfSome result (IsTargetOf self.now.cells cell reference) }
         ensures past { IfNone result (¬ HasReference self.now.cells cell reference) }
     {
-        if cell >= self.targets.len() {
-            return None;
+        self.linked().target(cell, reference)
+    }
+
+    /// The index of the cell to which reference `reference` of the cell at index `cell` refers.
+    pub fn target_of(&self, cell: usize, reference: usize) -> usize
+        requires { HasReference self.now.cells cell reference }
+        ensures { IsTargetOf self.now.cells cell reference result }
+    {
+        match self.target(cell, reference) {
+            Some(target) => target,
+            None => unreachable!(),
         }
-        self.targets.row(cell).get(reference)
     }
 }

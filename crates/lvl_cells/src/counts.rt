@@ -1,16 +1,14 @@
-//! How many cells and rings a top places. Counts are capped at one more than the limit.
-ghost use Rattle.std.specs.Prelude.{◌≡◌, ◌<◌, ◌≤◌, ◌+◌, ◌*◌, length, min, slice_get, All, IfOk, IfSome, OnErr};
+//! How many chains and rings a top places, against a limit.
+ghost use Rattle.std.specs.Prelude.{◌≡◌, ◌<◌, ◌≤◌, ◌+◌, ◌*◌, IsTrue, IfSome, IsNone};
 ghost use Rattle.lvl_cells.specs.Cells.{each_ring};
-ghost use Rattle.lvl_cells.specs.Chains.{over_chains, own_rings, most_placed};
-ghost use Rattle.lvl_cells.specs.Soundness.{AreLinked, IsOrder};
-ghost use Rattle.lvl_cells.specs.inside.Steps.{AreAllTargets, weigh, placed_sum};
+ghost use Rattle.lvl_cells.specs.Chains.{own_rings};
+ghost use Rattle.lvl_cells.specs.Times.{AreTimes};
+ghost use Rattle.lvl_cells.specs.inside.Steps.{weigh};
+ghost use Rattle.lvl_cells.specs.inside.Times.{HasFew, HasMore};
 
 use crate::library::Cell;
-use crate::rows::{Row, Targets};
-use std::alloc::{AllocError, Global};
-
-/// One more than the greatest number of chains, and of placed rings.
-const PAST_MOST: u64 = 16_777_217;
+use crate::linked::Linked;
+use crate::times::plus_times;
 
 /// What is added up over chains: 1 for each, or the number of rings of its last cell.
 #[derive(Clone, Copy)]
@@ -19,86 +17,63 @@ pub(crate) enum Weight {
     OwnRings,
 }
 
-/// The product, capped at one more than the limit.
-fn capped_product(a: u64, b: u64) -> u64
-    ensures { result ≡ min (most_placed + 1) (a * b) }
-{
-    (a.min(PAST_MOST) * b.min(PAST_MOST)).min(PAST_MOST)
-}
-
-/// The sum, capped at one more than the limit.
-fn capped_sum(a: u64, b: u64) -> u64
-    requires left { a ≤ most_placed + 1 }
-    requires right { b ≤ most_placed + 1 }
-    ensures { result ≡ min (most_placed + 1) (a + b) }
-{
-    (a + b).min(PAST_MOST)
-}
-
-/// The number of rings that the cell itself draws: each counts once for each shift of its shape.
-fn rings_of(cell: &Cell) -> u64
-    ensures { result ≡ min (most_placed + 1) (own_rings each_ring cell.now) }
+/// The number of rings that the cell itself draws: each counts once for each shift of its shape. None if there are more
+/// than `most`.
+fn rings_of(cell: &Cell, most: u64) -> Option<u64>
+    ensures value { IfSome result (λ rings. rings ≡ own_rings each_ring cell.now) }
+    ensures many { IsNone result → most < own_rings each_ring cell.now }
 {
     let mut sum = 0;
     let shapes = &cell.shapes;
     for i in 0..shapes.len() {
-        let placed = capped_product(shapes.ring_count(i) as u64, shapes.shift_count(i));
-        sum = capped_sum(sum, placed);
+        sum = plus_times(
+            sum,
+            shapes.ring_count(i) as u64,
+            shapes.shift_count(i),
+            most,
+        )?;
     }
-    sum
+    Some(sum)
 }
 
-/// What a chain that ends in the cell adds.
-fn weight_of(weight: Weight, cell: &Cell) -> u64
-    ensures { result ≡ min (most_placed + 1) (weigh weight cell.now) }
+/// What a chain that ends in the cell adds. None if that is more than `most`.
+fn weight_of(weight: Weight, cell: &Cell, most: u64) -> Option<u64>
+    ensures value { IfSome result (λ added. added ≡ weigh weight cell.now) }
+    ensures many { IsNone result → most < weigh weight cell.now }
 {
     match weight {
-        Weight::One => 1,
-        Weight::OwnRings => rings_of(cell),
+        Weight::One => Some(1),
+        Weight::OwnRings => rings_of(cell, most),
     }
 }
 
-/// The sum of the weights over the chains from the cell, given the sums of the cells that it refers
-/// to.
-fn sum_of(weight: Weight, cell: &Cell, targets: &Row<'_>, sums: &[u64]) -> u64
-    requires row { length targets.now ≡ length cell.now.references }
-    requires within { All (λ t. t < length sums.now) targets.now }
-    ensures { result
-        ≡ min (most_placed + 1) (weigh weight cell.now + placed_sum cell.now.references targets.now sums.now) }
+/// The sum, and what `times` chains that end in the cell add to it. None if that is more than `most`.
+fn plus_cell(sum: u64, weight: Weight, cell: &Cell, times: u64, most: u64) -> Option<u64>
+    requires { sum ≤ most }
+    ensures value { IfSome result (λ all. all ≡ sum + times * weigh weight cell.now) }
+    ensures few { IfSome result (λ all. all ≤ most) }
+    ensures many { IsNone result → most < sum + times * weigh weight cell.now }
 {
-    let mut sum = weight_of(weight, cell);
-    for j in 0..cell.references.len() {
-        let reference = cell.references.reference(j);
-        let Some(target) = targets.get(j) else {
-            unreachable!()
+    if times == 0 {
+        return Some(sum);
+    }
+    let added = weight_of(weight, cell, most)?;
+    plus_times(sum, times, added, most)
+}
+
+/// Whether the sum of the weights over the chains from the top is at most `most`, given how often each cell is placed.
+pub(crate) fn are_few(weight: Weight, linked: &Linked<'_>, times: &[u64], most: u64) -> bool
+    requires { AreTimes linked.now times.now }
+    ensures few { IsTrue result → HasFew (weigh weight) linked.now most }
+    ensures many { (¬ IsTrue result) → HasMore (weigh weight) linked.now most }
+{
+    let mut sum = 0;
+    for index in linked.order() {
+        let cell = &linked.cells()[*index];
+        let Some(all) = plus_cell(sum, weight, cell, times[*index], most) else {
+            return false;
         };
-        let placed = capped_product(reference.shifts().len(), sums[target]);
-        sum = capped_sum(sum, placed);
+        sum = all;
     }
-    sum
-}
-
-/// The sum of the weights over the chains from the cell at index `top`, capped at one more than the
-/// limit.
-pub(crate) fn count_from(
-    alloc: Global,
-    weight: Weight,
-    cells: &[Cell],
-    targets: &Targets,
-    order: &[usize],
-    top: usize,
-) -> Result<u64, AllocError>
-    requires linked { AreLinked cells.now }
-    requires targets { AreAllTargets cells.now targets.now }
-    requires order { IsOrder cells.now order.now }
-    requires top { top < length cells.now }
-    ensures { IfOk result (λ sum. IfSome (slice_get cells.now top)
-        (λ c. sum ≡ min (most_placed + 1) (over_chains (weigh weight) cells.now (length cells.now) c))) }
-{
-    let mut sums = vec![in alloc; 0; cells.len()]?;
-    for i in (0..order.len()).rev() {
-        let index = order[i];
-        sums[index] = sum_of(weight, &cells[index], &targets.row(index), &sums);
-    }
-    Ok(sums[top])
+    true
 }

@@ -25,7 +25,7 @@
 #![tactic(auto)]
 
 pub use builder::{Builder, MOST_CELLS};
-pub use checked::{Checked, check};
+pub use checked::{Checked, check, check_with};
 pub use fault::CellFault;
 pub use library::{Cell, Library};
 pub use moved::MovedRing;
@@ -43,6 +43,7 @@ mod fault;
 mod forms;
 mod layers;
 mod library;
+mod linked;
 mod lists;
 mod moved;
 mod names;
@@ -57,5 +58,6 @@ mod shape_lists;
 mod shapes;
 mod shared;
 mod targets;
+mod times;
 mod top;
 mod walk;

@@ -13,7 +13,7 @@ ghost use Rattle.lvl_changed.specs.inside.Windows.{AlikeOutside, Has};
 ghost use Rattle.lvl_changed.specs.inside.Finding.{AreFound, IsFound};
 
 use crate::found::Found;
-use crate::partners::{index_by_name, placed_partner, times_placed};
+use crate::partners::{index_by_name, placed_partner};
 use crate::references::hold_references;
 use crate::shapes::hold_shapes;
 use crate::windows::Windows;
@@ -66,8 +66,8 @@ fn changes_of(
         (IsMoved view.now.pairs (CoversAt second.now.cells theirs))) }
 {
     let mut windows = Windows::none(alloc, most);
-    let our_cell = &first.checked().cells()[ours];
-    let their_cell = &second.checked().cells()[theirs];
+    let our_cell = first.checked().cell(ours);
+    let their_cell = second.checked().cell(theirs);
     hold_shapes(&mut windows, alloc, our_cell, their_cell, view)?;
     hold_references(&mut windows, alloc, first, ours, second, theirs, known)?;
     Ok(windows)
@@ -164,15 +164,15 @@ pub fn changed(
     let Some(index) = index_by_name(alloc, theirs)? else {
         return Ok(None);
     };
-    let times = times_placed(alloc, ours)?;
-    let their_times = times_placed(alloc, theirs)?;
+    let times = ours.times();
+    let their_times = theirs.times();
     let mut known = none_known(alloc, ours.cells().len())?;
     for i in (0..ours.order().len()).rev() {
         let cell = ours.order()[i];
         if times[cell] == 0 {
             continue;
         }
-        let partner = placed_partner(ours, cell, theirs, &index, &their_times);
+        let partner = placed_partner(ours, cell, theirs, &index, their_times);
         let most = most_windows(times[cell]);
         let found = found_of(alloc, first, cell, second, partner, view, &known, most)?;
         keep(&mut known, cell, found);

@@ -44,7 +44,7 @@ fn windows_to_compare(
     ensures { IfOk result (λ found. IfSome found (λ windows.
         DrawSame (IsOutside windows.items) (TopCovers first.now) (IsMoved view.now.pairs (TopCovers second.now)))) }
 {
-    if !pays_by_cells(alloc, first.checked())? || !pays_by_cells(alloc, second.checked())? {
+    if !pays_by_cells(first.checked()) || !pays_by_cells(second.checked()) {
         return Ok(None);
     }
     let Some(windows) = changed(alloc, first, second, view)? else {

@@ -1,5 +1,5 @@
 //! Which cells of two libraries are compared with each other, and whether that is likely to pay.
-ghost use Rattle.std.specs.Prelude.{◌≡◌, ◌<◌, length, IfOk, IfSome, vec_len};
+ghost use Rattle.std.specs.Prelude.{◌<◌, length, IfOk, IfSome};
 ghost use Rattle.lvl_cells.specs.Cells.{names};
 ghost use Rattle.lvl_cells.specs.Resolving.{IsIndexOf};
 ghost use Rattle.lvl_changed.specs.inside.Partners.{IsPartner};
@@ -63,37 +63,6 @@ pub(crate) fn placed_partner(
     }
 }
 
-/// How often the top places each cell, at most `u64::MAX`; 0 if no chain leads to the cell. Used
-/// for questions of cost only.
-pub(crate) fn times_placed(alloc: Global, checked: &Checked) -> Result<Vec<u64>, AllocError>
-    ensures { IfOk result (λ times. vec_len times ≡ length checked.now.cells) }
-{
-    let mut times = vec![in alloc; 0; checked.cells().len()]?;
-    times[checked.top()] = 1;
-    for cell in checked.order() {
-        add_places(checked, *cell, &mut times);
-    }
-    Ok(times)
-}
-
-/// Adds how often the references of a cell place others.
-fn add_places(checked: &Checked, cell: usize, times: &mut [u64])
-    requires cell { cell < length checked.now.cells }
-    requires long { length times.old ≡ length checked.now.cells }
-{
-    let here = times[cell];
-    let parent = &checked.cells()[cell];
-    for j in 0..parent.references.len() {
-        let reference = parent.references.reference(j);
-        if let Some(target) = checked.target(cell, j) {
-            if target < times.len() {
-                let more = here.saturating_mul(reference.shifts().len());
-                times[target] = times[target].saturating_add(more);
-            }
-        }
-    }
-}
-
 /// The number of rings that a cell itself draws, at most `u64::MAX`: each counts once for each
 /// shift of its shape.
 fn rings_of(cell: &Cell) -> u64 {
@@ -122,18 +91,17 @@ fn shifts_of(cell: &Cell) -> u64 {
 /// cells that are placed have at most a quarter as many own rings as are placed in all, and if all
 /// cells together have at most about twice as many shifts as there are placed rings, since each
 /// shift is looked at. The answer is one of cost only.
-pub fn pays_by_cells(alloc: Global, checked: &Checked) -> Result<bool, AllocError> {
-    let times = times_placed(alloc, checked)?;
+pub fn pays_by_cells(checked: &Checked) -> bool {
     let mut own = 0u64;
     let mut placed = 0u64;
     let mut shifts = 0u64;
-    for (cell, count) in checked.cells().iter().zip(&times) {
+    for (cell, times) in checked.cells().iter().zip(checked.times()) {
         shifts = shifts.saturating_add(shifts_of(cell));
-        if *count > 0 {
+        if *times > 0 {
             let rings = rings_of(cell);
             own = own.saturating_add(rings);
-            placed = placed.saturating_add(rings.saturating_mul(*count));
+            placed = placed.saturating_add(rings.saturating_mul(*times));
         }
     }
-    Ok(placed / 4 >= own && shifts / 2 <= placed)
+    placed / 4 >= own && shifts / 2 <= placed
 }

@@ -1,5 +1,5 @@
 -- Counts, while the rings of shapes and of cells are added to them.
-use Rattle.std.proofs.Common.{◌≡◌, ◌<◌, ◌≤◌, ◌+◌, ◌*◌, ℕ, Bool, true, false, cond, List, [], ◌∷◌, length, get_or}
+use Rattle.std.proofs.Common.{◌≡◌, ◌<◌, ◌≤◌, ◌+◌, ◌*◌, ◌^◌, ℕ, Bool, true, false, cond, List, [], ◌∷◌, length, get_or}
 use Rattle.std.proofs.Common.{map, take, All, Contains, refl, sym, ap, ◌∙◌, arith}
 use Rattle.std.proofs.Math.ListN.{length-map}
 use Rattle.std.proofs.lemmas.List.{get_or-map}
@@ -9,11 +9,10 @@ use Rattle.lvl_names.specs.Layers.{ComesBefore, same_layer}
 use Rattle.lvl_names.proofs.Layers.{same_is}
 use Rattle.std.proofs.Math.Nat.{mul-le-mul_left}
 use Rattle.lvl_cells.specs.Cells.{PlainShape, Rings, shape_at}
-use Rattle.lvl_cells.specs.Chains.{most_placed}
 use Rattle.lvl_count.specs.declared.counts.LayerRings.{LayerRings}
 use Rattle.lvl_count.specs.inside.Counts.{AreSorted, more, rings_on}
 use Rattle.lvl_count.proofs.Listing.{pairs-map}
-use Rattle.lvl_count.proofs.Passing.{le_product}
+use Rattle.lvl_cells.proofs.Passing.{le_product}
 
 abbrev pub layer_of : LayerRings → Layer
 layer_of c = c.layer
@@ -86,8 +85,8 @@ shape_added layer l shapes times i r s low r_is s_is layer_is =
 pub shape_few : (old counts : List LayerRings) (layer : Layer) (shapes : List (PlainShape Rings)) (times i r s : ℕ)
     → i < length shapes → r ≡ length (shape_at shapes i).figure → s ≡ length (shape_at shapes i).shifts
     → layer ≡ (shape_at shapes i).layer → counts ≡ map (more (λ l. times * rings_on l (take i shapes))) old
-    → All (λ c. c.rings + times * rings_on c.layer shapes ≤ most_placed) old
-    → All (λ c. c.layer ≡ layer → c.rings + times * (r * s) ≤ most_placed) counts
+    → All (λ c. c.rings + times * rings_on c.layer shapes < 2 ^ 64) old
+    → All (λ c. c.layer ≡ layer → c.rings + times * (r * s) < 2 ^ 64) counts
 shape_few old counts layer shapes times i r s low r_is s_is layer_is so_far few k d within here =
     let f : Layer → ℕ = λ l. times * rings_on l (take i shapes) in
     let at = at_more f old counts k d so_far within in
@@ -105,8 +104,8 @@ shape_few old counts layer shapes times i r s low r_is s_is layer_is so_far few 
 -- so its rings are within the limit
 pub product_few : (old counts : List LayerRings) (layer : Layer) (times n : ℕ) (f : Layer → ℕ)
     → counts ≡ map (more f) old → Contains (map (λ c. c.layer) old) layer → 0 < times
-    → All (λ c. c.layer ≡ layer → c.rings + times * n ≤ most_placed) counts
-    → (n ≤ most_placed) × (times * n ≤ most_placed)
+    → All (λ c. c.layer ≡ layer → c.rings + times * n < 2 ^ 64) counts
+    → (n < 2 ^ 64) × (times * n < 2 ^ 64)
 product_few old counts layer times n f so_far (k, within, is) placed few =
     let no : LayerRings = of layer 0 in
     let low : k < length old = omega (arith, within, length-map old layer_of) in
@@ -114,15 +113,15 @@ product_few old counts layer times n f so_far (k, within, is) placed few =
     let at = at_more f old counts k no so_far low_now in
     let here : (get_or counts k no).layer ≡ layer =
     ap layer_of at.1 ∙ (sym (get_or-map layer_of old k no layer low) ∙ is) in
-    let most : (get_or counts k no).rings + times * n ≤ most_placed = few k no low_now here in
+    let most : (get_or counts k no).rings + times * n < 2 ^ 64 = few k no low_now here in
     (omega (arith, most, le_product n times placed), omega (arith, most))
 
 pub shape_fits : (old counts : List LayerRings) (shapes : List (PlainShape Rings)) (times i r s : ℕ)
     → i < length shapes → r ≡ length (shape_at shapes i).figure → s ≡ length (shape_at shapes i).shifts
     → counts ≡ map (more (λ l. times * rings_on l (take i shapes))) old
     → All (λ h. Contains (map (λ c. c.layer) old) h.layer) shapes → 0 < times
-    → All (λ c. c.rings + times * rings_on c.layer shapes ≤ most_placed) old
-    → (r * s ≤ most_placed) × (times * (r * s) ≤ most_placed)
+    → All (λ c. c.rings + times * rings_on c.layer shapes < 2 ^ 64) old
+    → (r * s < 2 ^ 64) × (times * (r * s) < 2 ^ 64)
 shape_fits old counts shapes times i r s low r_is s_is so_far there placed few =
     let layer : Layer = (shape_at shapes i).layer in
     product_few old counts layer times (r * s) (λ l. times * rings_on l (take i shapes)) so_far (there i _ low) placed

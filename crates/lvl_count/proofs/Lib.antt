@@ -1,5 +1,3 @@
-pub mod Weighing
-pub mod Passing
 pub mod Listing
 pub mod Adding
 pub mod Growing

@@ -1,5 +1,5 @@
 -- The rings of all cells, multiplied by how often each is placed, are those that the top places.
-use Rattle.std.proofs.Common.{◌≡◌, ◌<◌, ◌≤◌, ◌+◌, ◌*◌, ◌⊎◌, inl, inr, ℕ, zero, suc, Bool, true, false, cond, nat_lt}
+use Rattle.std.proofs.Common.{◌≡◌, ◌<◌, ◌≤◌, ◌+◌, ◌*◌, ◌^◌, ◌⊎◌, inl, inr, ℕ, zero, suc, Bool, true, false, cond, nat_lt}
 use Rattle.std.proofs.Common.{List, []}
 use Rattle.std.proofs.Common.{◌∷◌, length, get_or, map, take, filter, sum_by, Option, Some, None, All, Contains, refl}
 use Rattle.std.proofs.Common.{ap, ◌∙◌, subst, arith}
@@ -16,13 +16,13 @@ use Rattle.lvl_names.specs.Layers.{ComesBefore, same_layer}
 use Rattle.lvl_names.proofs.Elements.{contains_at}
 use Rattle.lvl_names.proofs.Layers.{is_same}
 use Rattle.lvl_cells.specs.Cells.{PlainCell, PlainShape, Rings, each_ring}
-use Rattle.lvl_cells.specs.Chains.{own_rings, own_rings_on, over_chains, placed_rings_on, most_placed}
-use Rattle.lvl_cells.specs.Checks.{Settled, IsSettled}
+use Rattle.lvl_cells.specs.Chains.{own_rings, own_rings_on, over_chains, placed_rings_on}
+use Rattle.lvl_cells.specs.Checks.{Settled, IsChecked}
 use Rattle.lvl_cells.proofs.Sequences.{one_answer}
 use Rattle.lvl_count.specs.Counted.{AreCounted}
 use Rattle.lvl_count.specs.declared.counts.LayerRings.{LayerRings}
 use Rattle.lvl_count.specs.inside.Counts.{AreSorted, AreListed, more, rings_on, placed_on}
-use Rattle.lvl_count.specs.inside.Times.{at_place, AreTimes}
+use Rattle.lvl_cells.specs.Times.{at_place, AreTimes}
 use Rattle.lvl_count.proofs.Growing.{layer_of, at_more, sorted_kept}
 
 -- what one more cell adds
@@ -73,14 +73,14 @@ at_place_le v w cells k less =
     ]
 
 -- the rings on a Layer are within the limit
-pub placed_few : (s : Settled) (given : Option (List ℕ)) (times : List ℕ) (layer : Layer) → IsSettled given s
-    → AreTimes s times → placed_on layer s.cells times s.order ≤ most_placed
-placed_few s given times layer settled t =
+pub placed_few : (s : Settled) (times : List ℕ) (layer : Layer) → IsChecked s → AreTimes s times → placed_on layer s.cells times s.order < 2 ^ 64
+placed_few s times layer checked t =
     let on : PlainCell Rings → ℕ = own_rings_on each_ring layer in
     let all : PlainCell Rings → ℕ = own_rings each_ring in
-    let same : settled.cell ≡ t.top = one_answer settled.is t.is_top in
-    let few : over_chains all s.cells (length s.cells) t.top ≤ most_placed =
-    subst (λ (c : PlainCell Rings). over_chains all s.cells (length s.cells) c ≤ most_placed) same settled.few_rings in
+    let same : checked.settled.cell ≡ t.top = one_answer checked.settled.is t.is_top in
+    let few : over_chains all s.cells (length s.cells) t.top < 2 ^ 64 =
+    subst (λ (c : PlainCell Rings). over_chains all s.cells (length s.cells) c < 2 ^ 64) same
+    (omega (arith, checked.settled.few_rings, checked.narrow)) in
     omega (
       arith,
       few,
@@ -90,12 +90,12 @@ placed_few s given times layer settled t =
     )
 
 -- the rings of a cell that are added are within the limit
-pub cell_few : (s : Settled) (given : Option (List ℕ)) (times : List ℕ) (old counts : List LayerRings) (i : ℕ)
-    (c : PlainCell Rings) → IsSettled given s → AreTimes s times → i < length s.order
+pub cell_few : (s : Settled) (times : List ℕ) (old counts : List LayerRings) (i : ℕ)
+    (c : PlainCell Rings) → IsChecked s → AreTimes s times → i < length s.order
     → slice_get s.cells (get_or s.order i 0) ≡ Some c → All (λ n. n.rings ≡ 0) old
     → counts ≡ map (more (λ l. placed_on l s.cells times (take i s.order))) old
-    → All (λ n. n.rings + get_or times (get_or s.order i 0) 0 * rings_on n.layer c.shapes ≤ most_placed) counts
-cell_few s given times old counts i c settled t low at none so_far k d within =
+    → All (λ n. n.rings + get_or times (get_or s.order i 0) 0 * rings_on n.layer c.shapes < 2 ^ 64) counts
+cell_few s times old counts i c checked t low at none so_far k d within =
     let f : Layer → ℕ = λ l. placed_on l s.cells times (take i s.order) in
     let place = at_more f old counts k d so_far within in
     let n : LayerRings = get_or old k d in
@@ -113,7 +113,7 @@ cell_few s given times old counts i c settled t low at none so_far k d within =
       part,
       none k d place.0,
       cell_more n.layer s.cells times s.order i c low at,
-      placed_few s given times n.layer settled t,
+      placed_few s times n.layer checked t,
     )
 
 nothing_or_more : (n : ℕ) → (n ≡ 0) ⊎ (0 < n)

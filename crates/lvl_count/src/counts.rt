@@ -1,15 +1,13 @@
 //! The number of rings on each Layer.
-ghost use Rattle.std.specs.Prelude.{◌≡◌, ◌+◌, ◌*◌, ◌<◌, ◌≤◌, if◌then◌else◌, map, slice_get, All, Contains};
+ghost use Rattle.std.specs.Prelude.{◌≡◌, ◌+◌, ◌*◌, ◌^◌, ◌<◌, if◌then◌else◌, map, slice_get, All, Contains};
 ghost use Rattle.std.specs.Prelude.{IfOk, IfSome};
 ghost use Rattle.lvl_cells.specs.Cells.{each_ring};
-ghost use Rattle.lvl_cells.specs.Chains.{most_placed};
 ghost use Rattle.lvl_count.specs.Counted.{AreCounted};
 ghost use Rattle.lvl_count.specs.inside.Counts.{AreListed, AreSorted, IsCountOf, more, rings_on, placed_on};
-ghost use Rattle.lvl_count.specs.inside.Times.{AreTimes};
+ghost use Rattle.lvl_cells.specs.Times.{AreTimes};
 ghost use Rattle.lvl_names.specs.Layers.{same_layer};
 
 use crate::layers::layers_of;
-use crate::times::times_of;
 use lvl_cells::{Checked, Shapes};
 use lvl_names::{Layer, comes_before, in_order};
 use std::alloc::{AllocError, Global};
@@ -56,7 +54,7 @@ fn index_of(counts: &[LayerRings], layer: Layer) -> usize
 fn add_rings(counts: &mut [LayerRings], layer: Layer, rings: usize)
     requires sorted { AreSorted counts.old }
     requires there { Contains (map (λ c. c.layer) counts.old) layer }
-    requires few { All (λ c. c.layer ≡ layer → c.rings + rings ≤ most_placed) counts.old }
+    requires few { All (λ c. c.layer ≡ layer → c.rings + rings < 2 ^ 64) counts.old }
     ensures { counts.new ≡ map (more (λ l. if same_layer layer l then rings else 0)) counts.old }
 {
     let index = index_of(counts, layer);
@@ -68,7 +66,7 @@ fn add_shapes(counts: &mut [LayerRings], shapes: &Shapes, times: u64)
     requires sorted { AreSorted counts.old }
     requires there { All (λ h. Contains (map (λ c. c.layer) counts.old) h.layer) shapes.now }
     requires placed { 0 < times }
-    requires few { All (λ c. c.rings + times * rings_on c.layer shapes.now ≤ most_placed) counts.old }
+    requires few { All (λ c. c.rings + times * rings_on c.layer shapes.now < 2 ^ 64) counts.old }
     ensures { counts.new ≡ map (more (λ l. times * rings_on l shapes.now)) counts.old }
 {
     for i in 0..shapes.len() {
@@ -102,10 +100,10 @@ pub fn rings_by_layer(alloc: Global, checked: &Checked) -> Result<Vec<LayerRings
     ensures { IfOk result (λ layers. IfSome (slice_get checked.now.cells checked.now.top)
         (λ top. AreCounted each_ring checked.now.cells top layers.items)) }
 {
-    let times = times_of(alloc, checked)?;
-    let layers = layers_of(alloc, checked, &times)?;
+    let times = checked.times();
+    let layers = layers_of(alloc, checked, times)?;
     let mut counts = counts_for(alloc, layers)?;
-    add_cells(&mut counts, checked, &times);
+    add_cells(&mut counts, checked, times);
     counts.retain(|count| count.rings > 0);
     Ok(counts)
 }

@@ -25,4 +25,3 @@ pub use counts::{LayerRings, rings_by_layer};
 
 mod counts;
 mod layers;
-mod times;

@@ -16,5 +16,7 @@
 #![tactic(auto)]
 
 pub use ignore::{Ignore, IgnoreFault};
+pub use limits::Limits;
 
 mod ignore;
+mod limits;

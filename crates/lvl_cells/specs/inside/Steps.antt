@@ -1,7 +1,6 @@
 -- What the steps of the check return.
-use Rattle.std.specs.Prelude.{◌≡◌, ℕ, ◌+◌, ◌*◌, List, [], ◌∷◌, length, slice_index, map, Option, Some, None, Contains}
-use Rattle.std.specs.Prelude.{slice_get}
-use Rattle.lvl_cells.specs.Cells.{PlainCell, PlainReference, Rings, each_ring, names}
+use Rattle.std.specs.Prelude.{◌≡◌, ℕ, List, map, Option, Some, None, Contains, slice_get}
+use Rattle.lvl_cells.specs.Cells.{PlainCell, Rings, each_ring, names}
 use Rattle.lvl_cells.specs.Chains.{own_rings}
 use Rattle.lvl_cells.specs.Faults.{IsFirstMissing, IsCycle, HasTwoTops}
 use Rattle.lvl_cells.specs.declared.counts.Weight.{Weight}
@@ -34,9 +33,3 @@ IsTopFault cells given _ = ⊥
 abbrev pub weigh : Weight → PlainCell Rings → ℕ
 weigh One c = 1
 weigh OwnRings c = own_rings each_ring c
-
--- the sum over the references: each adds the sum of its target once for each of its shifts
-abbrev pub placed_sum : List PlainReference → List ℕ → List ℕ → ℕ
-placed_sum [] targets sums = 0
-placed_sum (r ∷ rs) [] sums = 0
-placed_sum (r ∷ rs) (t ∷ ts) sums = length r.shifts * slice_index sums t + placed_sum rs ts sums

@@ -6,7 +6,7 @@ use Rattle.lvl_names.specs.Layers.{ComesBefore, same_layer}
 use Rattle.lvl_cells.specs.Cells.{PlainCell, PlainShape, Rings, each_ring}
 use Rattle.lvl_cells.specs.Chains.{own_rings_on}
 use Rattle.lvl_count.specs.declared.counts.LayerRings.{LayerRings}
-use Rattle.lvl_count.specs.inside.Times.{at_place}
+use Rattle.lvl_cells.specs.Times.{at_place}
 
 -- the counts are sorted by Layer, and no Layer has two
 abbrev pub AreSorted : List LayerRings → Type 0

@@ -1,15 +1,14 @@
-use Rattle.std.proofs.Common.{◌≡◌, ◌<◌, ◌≤◌, ◌+◌, ◌*◌, ℕ, List, Some, length, get_or, map, take, All, Contains, refl}
+use Rattle.std.proofs.Common.{◌≡◌, ◌<◌, ◌≤◌, ◌+◌, ◌*◌, ◌^◌, ℕ, List, Some, length, get_or, map, take, All, Contains, refl}
 use Rattle.std.proofs.Common.{sym, ap, ◌∙◌}
 use Rattle.std.proofs.Common.{subst, arith}
 use Rattle.std.specs.List.{slice_get}
 use Rattle.std.proofs.lemmas.List.{take_all}
 use Rattle.lvl_names.specs.declared.layer.Layer.{Layer}
 use Rattle.lvl_cells.specs.Cells.{PlainCell, PlainShape, Rings}
-use Rattle.lvl_cells.specs.Chains.{most_placed}
 use Rattle.lvl_cells.specs.Checks.{Settled}
 use Rattle.lvl_count.specs.inside.Counts.{AreSorted, more, rings_on, placed_on}
 use Rattle.lvl_count.proofs.Growing.{layer_of, more_none, more_more, layers_kept, sorted_kept}
-use Rattle.lvl_count.proofs.Passing.{cell_read}
+use Rattle.lvl_cells.proofs.Passing.{cell_read}
 use Rattle.lvl_count.proofs.Totals.{cell_more, cell_skipped, cell_few}
 use Rattle.lvl_count.proofs.counts.add_cells.Goals.{then-here-gt0, else-here-gt0}
 use Rattle.lvl_count.proofs.counts.add_cells.Goals as goal
@@ -34,8 +33,7 @@ add_shapes-requires-clause-there c =
     let ordered : places ≡ s.order = c.order-index-items.ensures.value in
     let low : i < length s.order = omega (arith, c.loop-index-test.true, ap length ordered) in
     let at =
-    cell_read s c.cells.ensures.checked.0 places c.cells.result.now i c.index-cells-index.result
-    c.cells.ensures.checked.1 ordered c.cells.ensures.value low c.index-cells-index.is in
+    cell_read s places c.cells.result.now i c.index-cells-index.result c.cells.ensures.checked.settled.sorted ordered c.cells.ensures.value low c.index-cells-index.is in
     let same : map layer_of c.loop-index.counts ≡ map layer_of c.args.counts.now =
     ap (map layer_of) c.loop-index.invariant
     ∙ layers_kept (λ l. placed_on l s.cells c.args.times.now (take i places)) c.args.counts.now in
@@ -59,19 +57,18 @@ add_shapes-requires-clause-few c =
     let ordered : places ≡ s.order = c.order-index-items.ensures.value in
     let low : i < length s.order = omega (arith, c.loop-index-test.true, ap length ordered) in
     let at =
-    cell_read s c.cells.ensures.checked.0 s.order c.cells.result.now i c.index-cells-index.result
-    c.cells.ensures.checked.1 refl c.cells.ensures.value low
+    cell_read s s.order c.cells.result.now i c.index-cells-index.result c.cells.ensures.checked.settled.sorted refl c.cells.ensures.value low
     (subst (λ l. c.index-cells-index.result ≡ get_or c.cells.result.now (get_or l i 0) c.index-cells-index.result)
     ordered c.index-cells-index.is) in
     let few =
-    cell_few s c.cells.ensures.checked.0 times c.args.counts.now c.loop-index.counts i c.index-cells-index.result
-    c.cells.ensures.checked.1 c.requires.times low at.1 c.requires.zero
+    cell_few s times c.args.counts.now c.loop-index.counts i c.index-cells-index.result c.cells.ensures.checked
+    c.requires.times low at.1 c.requires.zero
     (subst (λ l. c.loop-index.counts ≡ map (more (λ layer. placed_on layer s.cells times (take i l))) c.args.counts.now)
     ordered c.loop-index.invariant) in
-    subst (λ l. All (λ n. n.rings + get_or times (get_or l i 0) 0 * rings_on n.layer c.cell.inside.shapes ≤ most_placed)
+    subst (λ l. All (λ n. n.rings + get_or times (get_or l i 0) 0 * rings_on n.layer c.cell.inside.shapes < 2 ^ 64)
     c.loop-index.counts) (sym ordered)
     (subst
-    (λ hs. All (λ n. n.rings + get_or times (get_or s.order i 0) 0 * rings_on n.layer hs ≤ most_placed)
+    (λ hs. All (λ n. n.rings + get_or times (get_or s.order i 0) 0 * rings_on n.layer hs < 2 ^ 64)
     c.loop-index.counts) (sym (ap (λ (d : PlainCell Rings). d.shapes) c.cell.view_is)) few)
 
 pub loop-index-preserved : goal.loop-index-preserved
@@ -88,9 +85,8 @@ loop-index-preserved c =
           let low : i < length s.order =
           omega (arith, c.loop-index-test.true, ap length c.order-index-items.ensures.value) in
           let at =
-          cell_read s w.cells.ensures.checked.0 places w.cells.result.now i w.index-cells-index.result
-          w.cells.ensures.checked.1 c.order-index-items.ensures.value w.cells.ensures.value low
-          w.index-cells-index.is in
+          cell_read s places w.cells.result.now i w.index-cells-index.result w.cells.ensures.checked.settled.sorted
+          c.order-index-items.ensures.value w.cells.ensures.value low w.index-cells-index.is in
           let g : Layer → ℕ = λ l. get_or times k 0 * rings_on l w.cell.inside.shapes in
           w.counts-is
           ∙ (w.add_shapes.ensures

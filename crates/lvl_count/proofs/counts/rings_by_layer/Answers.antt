@@ -16,33 +16,29 @@ use Rattle.lvl_count.proofs.Totals.{is_filled, all_counted}
 use Rattle.lvl_count.proofs.counts.rings_by_layer.Goals as goal
 
 -- each Layer of a cell that is placed has a count
-listed : (s : Settled) (first second : List ℕ) (layers : List Layer) (counts now : List LayerRings) → second ≡ first
-    → now ≡ counts → All (Contains (map (λ c. c.layer) counts)) layers
-    → All (AreListed s.cells first layers) s.order
-    → All (AreListed s.cells second (map (λ c. c.layer) now)) s.order
-listed s first second layers counts now times_are counts_are there all =
+listed : (s : Settled) (times : List ℕ) (layers : List Layer) (counts now : List LayerRings) → now ≡ counts
+    → All (Contains (map (λ c. c.layer) counts)) layers → All (AreListed s.cells times layers) s.order
+    → All (AreListed s.cells times (map (λ c. c.layer) now)) s.order
+listed s times layers counts now counts_are there all =
     let of : LayerRings → Layer = λ c. c.layer in
-    subst (λ ts. All (AreListed s.cells ts (map of now)) s.order) (sym times_are)
-    (subst (λ cs. All (AreListed s.cells first (map of cs)) s.order) (sym counts_are)
-    (still_listed s.cells first layers (map of counts) s.order there all))
+    subst (λ cs. All (AreListed s.cells times (map of cs)) s.order) (sym counts_are)
+    (still_listed s.cells times layers (map of counts) s.order there all)
 
 pub add_cells-requires-clause-there : goal.add_cells-requires-clause-there
 add_cells-requires-clause-there c =
-    listed c.args.checked.now c.deref.result.now c.deref-2.result.now c.in_ok-layers.layers.items
-    c.in_ok-counts.counts.items c.deref_mut.result.now (c.deref-2.ensures.value ∙ sym c.deref.ensures.value)
-    c.deref_mut.ensures.value c.in_ok-counts.ensures.layers c.in_ok-layers.ensures
+    listed c.args.checked.now c.times-times.result.now c.in_ok-layers.layers.items c.in_ok-counts.counts.items
+    c.deref_mut.result.now c.deref_mut.ensures.value c.in_ok-counts.ensures.layers c.in_ok-layers.ensures
 
 pub returns : goal.returns
 returns c =
     let s : Settled = c.args.checked.now in
-    let times : List ℕ = c.in_ok-times.times.items in
+    let times : List ℕ = c.times-times.result.now in
     let old : List LayerRings = c.in_ok-counts.counts.items in
     let added : List LayerRings = map (more (λ l. placed_on l s.cells times s.order)) old in
     let kept = filter_same _ is_filled _ (λ m b q h. search rules) _ _ c.retain.ensures.filtered in
     let new : c.add_cells.new.counts ≡ added =
     c.add_cells.ensures
-    ∙ (ap (λ ts. map (more (λ l. placed_on l s.cells ts s.order)) c.deref_mut.result.now) c.deref-2.ensures.value
-    ∙ ap (map (more (λ l. placed_on l s.cells times s.order))) c.deref_mut.ensures.value) in
+    ∙ ap (map (more (λ l. placed_on l s.cells times s.order))) c.deref_mut.ensures.value in
     let long : length c.add_cells.new.counts ≡ c.in_ok-counts.counts.len =
     ap length c.add_cells.ensures ∙ (length-map c.deref_mut.result.now _ ∙ c.deref_mut.ensures.len) in
     let all : c.retain.new.self.items ≡ filter is_filled added =
@@ -50,14 +46,13 @@ returns c =
     ∙ ap (filter is_filled)
     (take_at c.add_cells.new.counts (drop (length c.add_cells.new.counts) old) c.in_ok-counts.counts.len long ∙ new) in
     let there =
-    listed s c.deref.result.now times c.in_ok-layers.layers.items old old (sym c.deref.ensures.value) refl
-    c.in_ok-counts.ensures.layers c.in_ok-layers.ensures in
+    listed s times c.in_ok-layers.layers.items old old refl c.in_ok-counts.ensures.layers c.in_ok-layers.ensures in
     elim (slice_get s.cells s.top)
     as (λ o. slice_get s.cells s.top ≡ o
     → IfSome o (λ top. AreCounted each_ring s.cells top c.retain.new.self.items)) [
       | None ↦ λ e. tt
       | Some top ↦ λ e.
           subst (AreCounted each_ring s.cells top) (sym all)
-          (all_counted s times old top c.in_ok-times.ensures e c.in_ok-counts.ensures.sorted there
+          (all_counted s times old top c.times-times.ensures e c.in_ok-counts.ensures.sorted there
           c.in_ok-counts.ensures.zero)
     ] refl

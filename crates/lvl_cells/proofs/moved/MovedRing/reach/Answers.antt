@@ -1,6 +1,6 @@
-use Rattle.std.proofs.Common.{◌≡◌, List, All, map, sym, subst, arith, rules}
+use Rattle.std.proofs.Common.{◌≡◌, List, All, subst, arith}
 use Rattle.std.proofs.lemmas.Int.{ints}
-use Rattle.std.proofs.lemmas.List.Elements.{All-map, All-weaker}
+use Rattle.std.proofs.lemmas.List.Elements.{All-map}
 use Rattle.lvl_grid.specs.declared.point.Point.{Point}
 use Rattle.lvl_grid.specs.Turn.{shifted}
 use Rattle.lvl_names.specs.Shifts.{IsBetween}

@@ -4,7 +4,7 @@ use Rattle.std.proofs.Common.{sum_by, Some, refl, ap, ◌∙◌, arith}
 use Rattle.std.specs.List.{slice_get}
 use Rattle.std.proofs.lemmas.List.{get_or-set_same, get_or-set_other}
 use Rattle.std.proofs.lemmas.List.Sums.{sum_by-cons}
-use Rattle.lvl_count.specs.inside.Times.{weighed}
+use Rattle.lvl_cells.specs.inside.Times.{weighed}
 
 -- no index occurs twice
 abbrev pub Once : List ℕ → Type 0

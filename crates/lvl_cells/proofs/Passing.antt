@@ -1,6 +1,6 @@
 -- The placements of one cell, passed on along its references.
 use Rattle.std.proofs.Common.{◌≡◌, ℕ, zero, suc, ◌+◌, ◌*◌, ◌<◌, ◌≤◌, List, [], length, get_or, set, drop, sum_by}
-use Rattle.std.proofs.Common.{replicate, Option, Some, refl, sym, ap, ◌∙◌, subst, arith}
+use Rattle.std.proofs.Common.{replicate, Some, refl, sym, ap, ◌∙◌, subst, arith}
 use Rattle.std.specs.List.{slice_get}
 use Rattle.std.specs.Option.{option_map, option_map_or}
 use Rattle.std.proofs.Math.ListN.{length-set}
@@ -9,8 +9,8 @@ use Rattle.std.proofs.lemmas.List.Sums.{sum_by-drop_more}
 use Rattle.std.proofs.lemmas.Option.{slice_get-map, slice_get_within, slice_get-get_or, slice_get_read}
 use Rattle.std.proofs.lemmas.Option.{get_or_from_slice_get}
 use Rattle.lvl_cells.specs.Cells.{PlainCell, PlainReference, Rings, names, cell_named}
-use Rattle.lvl_cells.specs.Chains.{over_chains, most_placed}
-use Rattle.lvl_cells.specs.Checks.{Settled, IsSettled, IsTargetOf}
+use Rattle.lvl_cells.specs.Chains.{over_chains}
+use Rattle.lvl_cells.specs.Checks.{Settled, IsTargetOf}
 use Rattle.lvl_cells.specs.Soundness.{AreLinked, IsOrder}
 use Rattle.std.proofs.lemmas.List.Elements.{All-contains}
 use Rattle.lvl_names.proofs.Elements.{contains_at}
@@ -18,27 +18,9 @@ use Rattle.lvl_cells.proofs.Arcs.{is_link}
 use Rattle.lvl_cells.proofs.Counting.{found}
 use Rattle.lvl_cells.proofs.Sequences.{one_answer}
 use Rattle.lvl_cells.proofs.Summing.{count_step}
-use Rattle.lvl_count.specs.inside.Times.{at_place, chains_at, weighed, IsUnderWay, AreTimes}
-use Rattle.lvl_count.proofs.Weighing.{set_later, weighed_more, weighed_all, weighed_least, weighed_none}
-
--- the sum of the weights over all chains from a cell
-abbrev pub over_all : (PlainCell Rings → ℕ) → List (PlainCell Rings) → PlainCell Rings → ℕ
-over_all w cells c = over_chains w cells (length cells) c
-
--- what a reference adds to that sum for the cell that has it
-abbrev pub adds : (PlainCell Rings → ℕ) → List (PlainCell Rings) → PlainReference → ℕ
-adds w cells r = length r.shifts * option_map_or (over_all w cells) (cell_named cells r.cell) 0
-
--- the first i cells of the order and the references of the next one, except for those that are left, passed on
--- their placements
-pub record IsPassing (s : Settled) (i here : ℕ) (left : List PlainReference) (times : List ℕ) : Type 0 where
-  pub top : PlainCell Rings
-  pub is_top : slice_get s.cells s.top ≡ Some top
-  pub long : length times ≡ length s.cells
-  pub whole : (w : PlainCell Rings → ℕ)
-      → weighed (at_place w s.cells) (chains_at w s.cells) times (suc i) s.order
-      + here * sum_by (adds w s.cells) left
-      ≡ over_all w s.cells top
+use Rattle.lvl_cells.specs.Times.{at_place, AreTimes}
+use Rattle.lvl_cells.specs.inside.Times.{over_all, chains_at, weighed, IsUnderWay, adds, IsPassing, HasMoreChains}
+use Rattle.lvl_cells.proofs.Weighing.{set_later, weighed_more, weighed_all, weighed_least, weighed_none}
 
 at_cell : (w : PlainCell Rings → ℕ) (cells : List (PlainCell Rings)) (k : ℕ) (c : PlainCell Rings)
     → slice_get cells k ≡ Some c → at_place w cells k ≡ w c
@@ -149,59 +131,59 @@ pub le_product : (a m : ℕ) → 1 ≤ m → a ≤ a * m
 le_product a zero h = absurd (omega (arith, h))
 le_product a (suc m) h = omega arith
 
--- the placements of the target of a reference are within the limit
-pub passing_few : (s : Settled) (given : Option (List ℕ)) (i k here j q : ℕ) (c : PlainCell Rings) (r : PlainReference)
-    (times : List ℕ) → IsSettled given s → slice_get s.order i ≡ Some k → slice_get s.cells k ≡ Some c
+-- if the target of a reference is placed more often than `most`, the top has more chains than that
+pub passing_many : (s : Settled) (i k here j q most : ℕ) (c : PlainCell Rings) (r : PlainReference) (times : List ℕ)
+    → IsOrder s.cells s.order → slice_get s.order i ≡ Some k → slice_get s.cells k ≡ Some c
     → slice_get c.references j ≡ Some r → IsTargetOf s.cells k j q → IsPassing s i here (drop j c.references) times
-    → get_or times q 0 + here * length r.shifts ≤ most_placed
-passing_few s given i k here j q c r times settled at cell_is reference_is t p =
+    → most < get_or times q 0 + here * length r.shifts → HasMoreChains s most
+passing_many s i k here j q most c r times ordered at cell_is reference_is t p many =
     let cells : List (PlainCell Rings) = s.cells in
     let one : PlainCell Rings → ℕ = λ d. 1 in
-    let next = passing_more s i k here j q c r times settled.sorted at cell_is reference_is t p in
+    let next = passing_more s i k here j q c r times ordered at cell_is reference_is t p in
     let new : ℕ = get_or times q 0 + here * length r.shifts in
     let f : ℕ → ℕ = at_place one cells in
     let g : ℕ → ℕ = chains_at one cells in
-    let later = later_in s i k j q settled.sorted at t in
+    let later = later_in s i k j q ordered at t in
     let low : q < length times = omega (arith, slice_get_within cells q t.target t.target_is, p.long) in
     let least = weighed_least f g (set times q new) (suc i) later.0 q s.order later.1 later.2 in
     let now : get_or (set times q new) q 0 * g q ≡ new * g q = ap (λ n. n * g q) (get_or-set_same times q new 0 low) in
     let full : 1 ≤ g q =
     subst (λ n. 1 ≤ n) (sym (at_cell (over_all one cells) cells q t.target t.target_is))
     (one_at_least cells (length cells) t.target) in
-    let same : settled.cell ≡ next.top = one_answer settled.is next.is_top in
-    let few : over_all one cells next.top ≤ most_placed =
-    subst (λ (d : PlainCell Rings). over_all one cells d ≤ most_placed) same settled.few_chains in
-    omega (arith, least, now, le_product new (g q) full, next.whole one, few)
+    record {
+      top = next.top;
+      is_top = next.is_top;
+      more = omega (arith, least, now, le_product new (g q) full, next.whole one, many);
+    }
 
 -- one step of the code, for one reference
 pub record IsStep (s : Settled) (i here j q x : ℕ) (items : List PlainReference) (times : List ℕ) : Type 0 where
   pub low : q < length times
-  pub few : get_or times q 0 + x ≤ most_placed
+  pub many : (most : ℕ) → most < get_or times q 0 + x → HasMoreChains s most
   pub next : IsPassing s i here (drop (j + 1) items) (set times q (get_or times q 0 + x))
 
 -- the cell at an index of the order, as the code reads it
-pub cell_read : (s : Settled) (given : Option (List ℕ)) (order : List ℕ) (cells : List (PlainCell Rings)) (i : ℕ)
-    (c : PlainCell Rings) → IsSettled given s → order ≡ s.order → cells ≡ s.cells → i < length s.order
+pub cell_read : (s : Settled) (order : List ℕ) (cells : List (PlainCell Rings)) (i : ℕ) (c : PlainCell Rings)
+    → IsOrder s.cells s.order → order ≡ s.order → cells ≡ s.cells → i < length s.order
     → c ≡ get_or cells (get_or order i 0) c
     → (slice_get s.order i ≡ Some (get_or order i 0)) × (slice_get s.cells (get_or order i 0) ≡ Some c)
-cell_read s given order cells i c settled ordered celled low read =
+cell_read s order cells i c sorted ordered celled low read =
     let k : ℕ = get_or order i 0 in
     let at : slice_get s.order i ≡ Some k =
     slice_get-get_or s.order i 0 low ∙ ap (λ l. Some (get_or l i 0)) (sym ordered) in
     let there : k < length s.cells =
-    All-contains (λ n. n < length s.cells) s.order k settled.sorted.within (contains_at s.order i k at) in
+    All-contains (λ n. n < length s.cells) s.order k sorted.within (contains_at s.order i k at) in
     (at, slice_get_read s.cells (length s.cells) k c refl there (read ∙ ap (λ l. get_or l k c) celled))
 
-pub step_along : (s : Settled) (given : Option (List ℕ)) (i here j q n : ℕ) (order : List ℕ)
-    (cells : List (PlainCell Rings)) (items : List PlainReference) (c : PlainCell Rings) (r : PlainReference)
-    (times : List ℕ) → IsSettled given s → order ≡ s.order → cells ≡ s.cells → i < length s.order
+pub step_along : (s : Settled) (i here j q n : ℕ) (order : List ℕ) (cells : List (PlainCell Rings))
+    (items : List PlainReference) (c : PlainCell Rings) (r : PlainReference) (times : List ℕ)
+    → IsOrder s.cells s.order → order ≡ s.order → cells ≡ s.cells → i < length s.order
     → c ≡ get_or cells (get_or order i 0) c → items ≡ c.references → j < length items → r ≡ get_or items j r
     → n ≡ length r.shifts → IsTargetOf s.cells (get_or order i 0) j q → IsPassing s i here (drop j items) times
     → IsStep s i here j q (here * n) items times
-step_along s given i here j q n order cells items c r times settled ordered celled within cell_is listed low read is t
-    p =
+step_along s i here j q n order cells items c r times sorted ordered celled within cell_is listed low read is t p =
     let k : ℕ = get_or order i 0 in
-    let at = cell_read s given order cells i c settled ordered celled within cell_is in
+    let at = cell_read s order cells i c sorted ordered celled within cell_is in
     let there : slice_get c.references j ≡ Some r =
     subst (λ l. slice_get l j ≡ Some r) listed (slice_get_read items (length items) j r refl low read) in
     let now : IsPassing s i here (drop j c.references) times =
@@ -210,39 +192,37 @@ step_along s given i here j q n order cells items c r times settled ordered cell
     (subst (λ l. IsStep s i here j q (here * length r.shifts) l times) (sym listed)
     (record {
       low = omega (arith, slice_get_within s.cells q t.target t.target_is, p.long);
-      few = passing_few s given i k here j q c r times settled at.0 at.1 there t now;
-      next = passing_more s i k here j q c r times settled.sorted at.0 at.1 there t now;
+      many = λ most. passing_many s i k here j q most c r times sorted at.0 at.1 there t now;
+      next = passing_more s i k here j q c r times sorted at.0 at.1 there t now;
     }))
 
 -- the top is placed once, and nothing else so far
-pub under_way_begins : (s : Settled) (given : Option (List ℕ)) (n : ℕ) → IsSettled given s → n ≡ length s.cells
-    → IsUnderWay s 0 (set (replicate n 0) s.top 1)
-under_way_begins s given n settled long =
+pub under_way_begins : (s : Settled) (top : PlainCell Rings) (n : ℕ) → IsOrder s.cells s.order
+    → slice_get s.cells s.top ≡ Some top → n ≡ length s.cells → IsUnderWay s 0 (set (replicate n 0) s.top 1)
+under_way_begins s top n sorted is long =
     let cells : List (PlainCell Rings) = s.cells in
-    let place = settled.sorted.there s.top (slice_get_within cells s.top settled.cell settled.is) in
+    let place = sorted.there s.top (slice_get_within cells s.top top is) in
     let there : slice_get s.order place.0 ≡ Some s.top =
     slice_get-get_or s.order place.0 s.top place.1 ∙ ap Some place.2 in
     let zeros : List ℕ = replicate n 0 in
     let count : length zeros ≡ length cells = length-replicate n 0 ∙ long in
-    let within : s.top < length cells = slice_get_within cells s.top settled.cell settled.is in
+    let within : s.top < length cells = slice_get_within cells s.top top is in
     let low : s.top < length zeros = omega (arith, count, within) in
     let none : get_or zeros s.top 0 + 1 ≡ 1 =
     ap (λ t. t + 1) (get_or-replicate n s.top 0 0 (omega (arith, within, long))) in
     record {
-      top = settled.cell;
-      is_top = settled.is;
+      top = top;
+      is_top = is;
       long = length-set zeros s.top 1 ∙ count;
       whole = λ w.
           let f : ℕ → ℕ = at_place w cells in
           let g : ℕ → ℕ = chains_at w cells in
-          let grown =
-          set_later f g zeros s.top 1 0 place.0 s.order settled.sorted.once there (omega arith) low in
+          let grown = set_later f g zeros s.top 1 0 place.0 s.order sorted.once there (omega arith) low in
           let same : weighed f g (set zeros s.top (get_or zeros s.top 0 + 1)) 0 s.order
           ≡ weighed f g (set zeros s.top 1) 0 s.order =
           ap (λ x. weighed f g (set zeros s.top x) 0 s.order) none in
-          let top : g s.top ≡ over_all w cells settled.cell =
-          at_cell (over_all w cells) cells s.top settled.cell settled.is in
-          omega (arith, grown, same, top, weighed_none f g n 0 s.order);
+          let all : g s.top ≡ over_all w cells top = at_cell (over_all w cells) cells s.top top is in
+          omega (arith, grown, same, all, weighed_none f g n 0 s.order);
     }
 
 -- once all cells passed on their placements, the times are those of all placements

@@ -1,6 +1,0 @@
-use Rattle.lvl_count.specs.inside.Times.{IsUnderWay}
-use Rattle.lvl_count.proofs.times.times_of.Given as goal
-
--- the cells of the order so far passed on their placements
-abbrev pub invariant-loop-i : goal.invariant-loop-i
-invariant-loop-i l = IsUnderWay l.checked l.i l.times.items
