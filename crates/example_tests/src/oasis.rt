@@ -1,6 +1,6 @@
 //! What the documentation of the crates shows, line by line.
 
-use lvl_ignore::Ignore;
+use lvl_profile::Ignore;
 use lvl_io::fake::Pieces;
 use oasis_figures::{Drawn, Modal};
 use oasis_library::read_oasis;

@@ -3,8 +3,8 @@ use Rattle.std.proofs.Common.{◌≡◌, ◌==◌, inl, inr, ℕ, Bool, true, fa
 use Rattle.std.proofs.Common.{None, refl, sym, ap, ◌∙◌, subst, arith, length, append_assoc, ◌⊎◌}
 use Rattle.std.proofs.lemmas.List.{append-nil}
 use Rattle.std.specs.Prelude.{Option, is_some, ◌&&◌}
-use Rattle.lvl_ignore.specs.Ignored.{IsSubsetOf}
-use Rattle.lvl_ignore.specs.declared.ignore.Ignore.{Ignore}
+use Rattle.lvl_profile.specs.Ignored.{IsSubsetOf}
+use Rattle.lvl_profile.specs.declared.ignore.Ignore.{Ignore}
 use Rattle.lvl_grammar.specs.Front.{SpellsAll, FollowAll}
 use Rattle.lvl_grammar.proofs.Orders.{by_test}
 use Rattle.gds_records.specs.Table.{Row, table, property_rows, name_rows, ignored_rows, form_among, form_of, is_ignored}

@@ -1,5 +1,5 @@
 -- GDSII has the properties that the laws of streams need of a format.
-use Rattle.lvl_ignore.specs.declared.ignore.Ignore.{Ignore}
+use Rattle.lvl_profile.specs.declared.ignore.Ignore.{Ignore}
 use Rattle.std.proofs.Common.{◌≡◌, ◌≢◌, ℕ, ◌<◌, ◌≤◌, ◌⊎◌, List, [], ◌∷◌, ◌++◌, length, Err, refl, sym, ap, ◌∙◌, subst}
 use Rattle.std.proofs.Common.{append_assoc, true, false, inl, inr, arith, length-append}
 use Rattle.std.proofs.lemmas.List.{append-nil}

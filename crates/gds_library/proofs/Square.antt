@@ -12,7 +12,7 @@ use Rattle.lvl_grammar.specs.Front.{SpellsAll, FollowAll}
 use Rattle.lvl_grammar.specs.Order.{IsWord, Begins}
 use Rattle.lvl_names.specs.Names.{IsName}
 use Rattle.lvl_cells.specs.Building.{cell_limit}
-use Rattle.lvl_ignore.specs.Ignored.{nothing}
+use Rattle.lvl_profile.specs.Ignored.{nothing}
 use Rattle.gds_records.specs.Table.{form_of}
 use Rattle.gds_records.specs.Spelled.{IsOfForm}
 use Rattle.gds_elements.specs.Types.{boundary, strname, bgnstr, layer, datatype, xy}

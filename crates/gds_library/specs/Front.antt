@@ -1,6 +1,6 @@
 -- GDSII (Stream Release 6) as a format of streams of records, and what its files spell.
 use Rattle.std.specs.Prelude.{◌≡◌, ◌≢◌, ℕ, ◌<◌, ◌≤◌, ◌⊎◌, List, ◌∷◌, ◌++◌, length, Err}
-use Rattle.lvl_ignore.specs.declared.ignore.Ignore.{Ignore}
+use Rattle.lvl_profile.specs.declared.ignore.Ignore.{Ignore}
 use Rattle.gds_records.specs.Records.{file_limit}
 use Rattle.gds_records.specs.Spelled.{IsRecord, IsSpelling, IsBegun}
 use Rattle.gds_records.specs.Step.{step}

@@ -4,7 +4,7 @@ ghost use Rattle.gds_elements.specs.Order.{opens};
 ghost use Rattle.gds_elements.specs.Rec.{Rec};
 ghost use Rattle.gds_elements.specs.inside.Reading.{record_of};
 ghost use Rattle.gds_elements.specs.inside.Formed.{IsFormed as IsFormedInElement};
-ghost use Rattle.lvl_ignore.specs.declared.ignore.Ignore.{Ignore as PlainIgnore};
+ghost use Rattle.lvl_profile.specs.declared.ignore.Ignore.{Ignore as PlainIgnore};
 ghost use Rattle.gds_library.specs.Ignoring.{comes_after, is_passed, AwaitsValue, MayPass};
 ghost use Rattle.gds_library.specs.inside.Faults.{IsFormed};
 ghost use Rattle.gds_library.specs.inside.Holds.{HasReadBy, TakesBy};
@@ -15,7 +15,7 @@ use crate::reading::Reading;
 use gds_elements::{Misplaced, misplaced};
 use gds_records::{is_ignored, record_type};
 use lvl_cells::Library;
-use lvl_ignore::Ignore;
+use lvl_profile::Ignore;
 use lvl_refusal::Cause;
 use std::alloc::Global;
 

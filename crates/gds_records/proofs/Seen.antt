@@ -1,5 +1,5 @@
 -- Faults that hold whatever comes after the bytes that were seen.
-use Rattle.lvl_ignore.specs.declared.ignore.Ignore.{Ignore}
+use Rattle.lvl_profile.specs.declared.ignore.Ignore.{Ignore}
 use Rattle.std.proofs.Common.{◌≡◌, ℕ, ◌+◌, ◌<◌, ◌≤◌, true, nat_le, List, ◌++◌, length, take, Result, Ok, Err, IfErr}
 use Rattle.std.proofs.Common.{refl, ap, ◌∙◌, arith, length-append, length-take}
 use Rattle.std.proofs.lemmas.Bool.Decides.{nat_tests}

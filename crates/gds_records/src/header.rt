@@ -8,7 +8,7 @@ use crate::fault::RecordFault;
 use crate::form::{Form, Lengths};
 use crate::record_type::*;
 use byteorder::{BigEndian, ByteOrder};
-use lvl_ignore::Ignore;
+use lvl_profile::Ignore;
 
 /// The data type of records without payload.
 const NO_DATA: u8 = 0;

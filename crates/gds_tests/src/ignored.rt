@@ -4,7 +4,7 @@ use crate::cells::library_text;
 use crate::rows::{add_bytes, check_text, cut};
 use gds_library::{GdsFault, GdsHead, GdsKind, Misplaced, read_gds_by};
 use lvl_cells::Library;
-use lvl_ignore::Ignore;
+use lvl_profile::Ignore;
 use lvl_io::fake::Pieces;
 use lvl_refusal::Cause;
 use std::alloc::{AllocError, Global};

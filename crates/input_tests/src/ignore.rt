@@ -1,6 +1,6 @@
 //! Texts, and what they name.
 
-use lvl_ignore::{Ignore, IgnoreFault};
+use lvl_profile::{Ignore, IgnoreFault};
 use lvl_refusal::Cause;
 use std::alloc::AllocError;
 use std::test::Fail;

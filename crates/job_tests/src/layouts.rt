@@ -8,7 +8,7 @@ use lvl::{
 use lvl_cells::CellFault;
 use lvl_corners::LayerDigest;
 use lvl_grid::Square;
-use lvl_ignore::Ignore;
+use lvl_profile::Ignore;
 use lvl_io::fake::Pieces;
 use lvl_names::Layer;
 use lvl_region::Side;

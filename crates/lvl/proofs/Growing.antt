@@ -1,8 +1,8 @@
 -- What is ignored changes no layout that is read without it, in any format.
 use Rattle.std.proofs.Common.{ℕ, List}
 use Rattle.lvl_cells.specs.Cells.{PlainCell, Rings}
-use Rattle.lvl_ignore.specs.Ignored.{IsSubsetOf}
-use Rattle.lvl_ignore.specs.declared.ignore.Ignore.{Ignore}
+use Rattle.lvl_profile.specs.Ignored.{IsSubsetOf}
+use Rattle.lvl_profile.specs.declared.ignore.Ignore.{Ignore}
 use Rattle.gds_library.proofs.Growing.{library_grows as gds_grows}
 use Rattle.gds_library.proofs.Readable.{law_only as gds_only}
 use Rattle.oasis_library.proofs.Ignoring.{library_grows as oasis_grows}

@@ -21,7 +21,7 @@ use Rattle.lvl_cells.specs.Cells.{drawn, kept}
 use Rattle.lvl_cells.specs.Coverage.{ShapeCovers, PullsBack, CoversWithin, CellCovers, moved_back}
 use Rattle.lvl_cells.specs.Soundness.{links, AreLinked, IsRanked, IsTop, IsSound}
 use Rattle.lvl_cells.specs.Chains.{Chain, IsComposed, IsInRange, over_chains, chains, own_rings, placed_rings}
-use Rattle.lvl_ignore.specs.declared.limits.Limits.{Limits}
+use Rattle.lvl_profile.specs.declared.limits.Limits.{Limits}
 use Rattle.lvl_cells.specs.Chains.{FitsLimits}
 use Rattle.oasis_figures.proofs.Moved.{All-unmap}
 

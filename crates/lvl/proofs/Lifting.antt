@@ -9,7 +9,7 @@ use Rattle.lvl_names.specs.declared.layer.Layer.{Layer}
 use Rattle.lvl_cells.specs.Cells.{PlainCell, Rings, each_ring, names, drawn, kept}
 use Rattle.lvl_cells.specs.Coverage.{CellCovers}
 use Rattle.lvl_cells.specs.Soundness.{IsSound}
-use Rattle.lvl_ignore.specs.Limits.{standard}
+use Rattle.lvl_profile.specs.Limits.{standard}
 use Rattle.lvl_cells.specs.Chains.{Chain, FitsLimits, chains, placed_rings}
 use Rattle.lvl_cells.proofs.Arcs.{once_named}
 use Rattle.std.proofs.lemmas.List.{length-map}

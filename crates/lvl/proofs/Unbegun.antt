@@ -1,7 +1,7 @@
 -- An empty file: as GDSII it ends before its first record, and it spells nothing in either format.
 use Rattle.std.proofs.Common.{◌≡◌, [], ℕ, List, Option, None, Some, refl, sym, arith, inl, false, true≢false}
 use Rattle.std.specs.Option.{is_some}
-use Rattle.lvl_ignore.specs.declared.ignore.Ignore.{Ignore}
+use Rattle.lvl_profile.specs.declared.ignore.Ignore.{Ignore}
 use Rattle.lvl_grammar.specs.Refused.{IsTruncated}
 use Rattle.lvl_grammar.proofs.Orders.{empty_word}
 use Rattle.lvl_grammar.proofs.Stuck.{truncated_none}

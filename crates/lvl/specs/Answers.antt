@@ -1,6 +1,6 @@
 -- What a result says about two files: a verdict, or why one of them is refused.
 use Rattle.std.specs.Prelude.{◌≡◌, ◌≢◌, ⊤, ℕ, Bool, false, List, ◌++◌, Option, Some, Result, Ok, Err}
-use Rattle.lvl_ignore.specs.declared.ignore.Ignore.{Ignore}
+use Rattle.lvl_profile.specs.declared.ignore.Ignore.{Ignore}
 use Rattle.lvl_path.specs.Figure.{figure_rings}
 use Rattle.lvl_cells.specs.Cells.{kept}
 use Rattle.lvl_region.specs.declared.region.Side.{Side}

@@ -6,7 +6,7 @@ use Rattle.lvl_grid.specs.declared.point.Square.{Square}
 use Rattle.lvl_names.specs.declared.layer.Layer.{Layer}
 use Rattle.lvl_cells.specs.Coverage.{CellCovers}
 use Rattle.lvl_columns.specs.Windows.{IsShown}
-use Rattle.lvl_ignore.specs.Limits.{standard}
+use Rattle.lvl_profile.specs.Limits.{standard}
 use Rattle.lvl_cells.specs.Checks.{Settled, IsSettled, PlacesFew}
 use Rattle.lvl_cells.specs.Faults.{IsFaultOf, IsSoundWith}
 use Rattle.lvl_cells.specs.declared.fault.CellFault.{CellFault}

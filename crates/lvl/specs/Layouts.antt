@@ -1,7 +1,7 @@
 -- What files spell, in either format.
 use Rattle.std.specs.Prelude.{◌≡◌, ℕ, List, [], ◌∷◌, Option, Some, None}
-use Rattle.lvl_ignore.specs.Ignored.{IsSubsetOf}
-use Rattle.lvl_ignore.specs.declared.ignore.Ignore.{Ignore}
+use Rattle.lvl_profile.specs.Ignored.{IsSubsetOf}
+use Rattle.lvl_profile.specs.declared.ignore.Ignore.{Ignore}
 use Rattle.lvl_path.specs.Figure.{figure_rings}
 use Rattle.lvl_cells.specs.Cells.{PlainCell, Rings, kept}
 use Rattle.lvl.specs.Drawing.{Drawing}

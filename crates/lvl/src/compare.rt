@@ -5,7 +5,7 @@ ghost use Rattle.lvl_region.specs.declared.region.Side.TheVariants.{First, Secon
 ghost use Rattle.lvl_names.specs.declared.layer.Layer.{Layer};
 ghost use Rattle.lvl_grid.specs.declared.point.Square.{Square};
 ghost use Rattle.lvl_region.specs.declared.region.Side.{Side as WhichSide};
-ghost use Rattle.lvl_ignore.specs.Ignored.{nothing};
+ghost use Rattle.lvl_profile.specs.Ignored.{nothing};
 ghost use Rattle.lvl_view.specs.Views.{IsWhole};
 ghost use Rattle.lvl.specs.declared.layout.FileFault.{FileFault as FaultOfFile};
 ghost use Rattle.lvl.specs.declared.verdict.Verdict.TheVariants.{Same, Differ};
@@ -20,7 +20,7 @@ use crate::fitted::compare_fitted;
 use crate::side::{check_side, fit_side, read_side};
 use crate::verdict::{Comparison, Refusal, Tops, Verdict};
 use lvl_cells::{Checked, Library};
-use lvl_ignore::Ignore;
+use lvl_profile::Ignore;
 use lvl_io::Read;
 use lvl_region::Side;
 use lvl_view::View;

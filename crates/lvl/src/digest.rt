@@ -15,7 +15,7 @@ use crate::side::read_side;
 use crate::verdict::Refusal;
 use lvl_cells::Library;
 use lvl_corners::mask_bytes_decide;
-use lvl_ignore::Ignore;
+use lvl_profile::Ignore;
 use lvl_io::Read;
 use lvl_region::Side;
 use std::alloc::Global;
@@ -49,7 +49,7 @@ fn digest_library(
 ///
 /// ```
 /// use lvl::digest_file;
-/// use lvl_ignore::Ignore;
+/// use lvl_profile::Ignore;
 /// use lvl_io::fake::Pieces;
 ///
 /// let mut reader = Pieces::new(&bytes, usize::MAX);

@@ -4,15 +4,15 @@ ghost use Rattle.std.specs.Io.KnownBytes.{prepend_known};
 ghost use Rattle.lvl_io.specs.Bytes.{CountsFailure, failed};
 ghost use Rattle.lvl_io.specs.Peeked.{given_again};
 ghost use Rattle.lvl_refusal.specs.Refused.{Says};
-ghost use Rattle.lvl_ignore.specs.Ignored.{nothing};
-ghost use Rattle.lvl_ignore.specs.declared.ignore.Ignore.{Ignore as Ignored};
+ghost use Rattle.lvl_profile.specs.Ignored.{nothing};
+ghost use Rattle.lvl_profile.specs.declared.ignore.Ignore.{Ignore as Ignored};
 ghost use Rattle.lvl.specs.Layouts.{HasFirst, IgnoringKeeps, IsLayoutOf, IsOasis};
 ghost use Rattle.lvl.specs.Answers.{IsEarlyFile, IsHopeless, is_failed_read, read_failed};
 ghost use Rattle.lvl.specs.Sides.{layout_parts, IsFileFault};
 
 use gds_library::{GdsFault, GdsHead, GdsKind, RecordFault, read_gds_by};
 use lvl_cells::Library;
-use lvl_ignore::Ignore;
+use lvl_profile::Ignore;
 use lvl_io::{Failure, Peeked, Read};
 use lvl_refusal::Cause;
 use oasis_library::{OasisFault, OasisHead, read_oasis_by};

@@ -13,7 +13,7 @@ use crate::side::{check_named, fit_side, read_side};
 use crate::verdict::Refusal;
 use lvl_cells::Library;
 use lvl_count::rings_by_layer;
-use lvl_ignore::Ignore;
+use lvl_profile::Ignore;
 use lvl_io::Read;
 use lvl_region::Side;
 use std::alloc::Global;
@@ -54,7 +54,7 @@ fn show_library(
 ///
 /// ```
 /// use lvl::show_file;
-/// use lvl_ignore::Ignore;
+/// use lvl_profile::Ignore;
 /// use lvl_io::fake::Pieces;
 ///
 /// let mut reader = Pieces::new(&bytes, usize::MAX);

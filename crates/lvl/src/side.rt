@@ -14,7 +14,7 @@ use crate::layout::{Head, read_layout_by};
 use crate::verdict::Refusal;
 use lvl_cells::{Checked, Library, check};
 use lvl_flat::{Fitted, Flat, flatten};
-use lvl_ignore::Ignore;
+use lvl_profile::Ignore;
 use lvl_io::Read;
 use lvl_refusal::Cause;
 use lvl_region::Side;

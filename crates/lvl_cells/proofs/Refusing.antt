@@ -7,7 +7,7 @@ use Rattle.std.proofs.lemmas.List.Elements.{All-head, All-tail, All-weaker, All-
 use Rattle.std.proofs.lemmas.Option.{slice_get_within}
 use Rattle.lvl_grid.specs.Winding.{last_or, path_edges, edges}
 use Rattle.lvl_cells.specs.Cells.{PlainCell, Rings, each_ring, names}
-use Rattle.lvl_ignore.specs.declared.limits.Limits.{Limits}
+use Rattle.lvl_profile.specs.declared.limits.Limits.{Limits}
 use Rattle.lvl_cells.specs.Chains.{chains, placed_rings}
 use Rattle.lvl_cells.specs.Soundness.{links, AreLinked, IsRanked, IsTop}
 use Rattle.lvl_cells.specs.Faults.{IsFaultOf, IsFirstRepeat, IsFirstMissing, IsCycle, IsSoundWith}

@@ -1,6 +1,6 @@
 -- Libraries that were checked.
 use Rattle.std.specs.Prelude.{◌≡◌, ℕ, ◌<◌, ◌≤◌, ◌^◌, List, length, Option, Some, slice_get}
-use Rattle.lvl_ignore.specs.declared.limits.Limits.{Limits}
+use Rattle.lvl_profile.specs.declared.limits.Limits.{Limits}
 use Rattle.lvl_cells.specs.Cells.{PlainCell, PlainReference, Rings, each_ring, cell_named}
 use Rattle.lvl_cells.specs.Chains.{chains, placed_rings}
 use Rattle.lvl_cells.specs.Soundness.{IsSound, IsOrder}

@@ -4,7 +4,7 @@ use Rattle.std.specs.Prelude.{None}
 use Rattle.std.specs.List.{IsDistinct}
 use Rattle.std.specs.Str.{bytes_eq}
 use Rattle.lvl_grid.specs.Winding.{edges}
-use Rattle.lvl_ignore.specs.declared.limits.Limits.{Limits}
+use Rattle.lvl_profile.specs.declared.limits.Limits.{Limits}
 use Rattle.lvl_cells.specs.Cells.{PlainCell, Rings, each_ring, names}
 use Rattle.lvl_cells.specs.Chains.{chains, placed_rings}
 use Rattle.lvl_cells.specs.Soundness.{links, AreNamed, AreLinked, IsRanked, IsReferred, IsSound}

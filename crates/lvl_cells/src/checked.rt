@@ -1,8 +1,8 @@
 //! The check that a library is sound for its top and that the top doesn't place too much.
 ghost use Rattle.std.specs.Prelude.{◌≡◌, ◌<◌, Some, length, slice_get, option_copied};
 ghost use Rattle.std.specs.Prelude.{IfOk, IfErr, IfSome, IfNone, OnOk};
-ghost use Rattle.lvl_ignore.specs.Limits.{standard};
-ghost use Rattle.lvl_ignore.specs.declared.limits.Limits.{Limits as AllLimits};
+ghost use Rattle.lvl_profile.specs.Limits.{standard};
+ghost use Rattle.lvl_profile.specs.declared.limits.Limits.{Limits as AllLimits};
 ghost use Rattle.lvl_cells.specs.Checks.{IsSettled, IsChecked, PlacesFew, IsTargetOf, HasReference};
 ghost use Rattle.lvl_cells.specs.Faults.{IsFaultOf, IsSoundWith};
 ghost use Rattle.lvl_cells.specs.Cells.{names};
@@ -23,7 +23,7 @@ use crate::rows::Targets;
 use crate::targets::all_targets;
 use crate::times::times_of;
 use crate::top::top_of;
-use lvl_ignore::Limits;
+use lvl_profile::Limits;
 use lvl_refusal::Cause;
 use std::alloc::Global;
 use std::marker::Model;

@@ -17,7 +17,7 @@ use Rattle.lvl_view.specs.Views.{PlainView}
 use Rattle.lvl_job.specs.declared.fault.JobFault.{JobFault}
 use Rattle.lvl_job.specs.declared.fault.JobFault.TheVariants.{BadView, BadIgnore, NotOpened, OutOfMemory, Output}
 use Rattle.lvl_job.specs.Ends.{is_cut}
-use Rattle.lvl_ignore.specs.declared.ignore.Ignore.{Ignore}
+use Rattle.lvl_profile.specs.declared.ignore.Ignore.{Ignore}
 use Rattle.lvl_job.specs.Jobs.{IsAnswered, IsBadIgnore, IsComparedUnder, IsCut, IsFaultOfJob, IsIgnoreAsked}
 use Rattle.lvl_job.specs.Jobs.{IsIgnoreFault, IsNotOpened, IsViewAsked, Named, UnderView, WithIgnored}
 use Rattle.lvl_job.specs.Jobs.{named, OfOne, OfTwo}

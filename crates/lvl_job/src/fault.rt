@@ -2,7 +2,7 @@
 ghost use Rattle.std.specs.Prelude.{◌≡◌};
 ghost use Rattle.lvl_job.specs.Ends.{fault_code};
 
-use lvl_ignore::IgnoreFault;
+use lvl_profile::IgnoreFault;
 use lvl_view::ViewFault;
 
 /// Why a job has no answer that was written whole.

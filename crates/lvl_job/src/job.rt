@@ -18,7 +18,7 @@ use crate::fault::JobFault;
 use crate::files::Files;
 use crate::said::{say, say_hint};
 use lvl::Tops;
-use lvl_ignore::Ignore;
+use lvl_profile::Ignore;
 use lvl_io::{Read, Write};
 use lvl_line::Job;
 use lvl_refusal::Cause;

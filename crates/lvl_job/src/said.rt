@@ -7,7 +7,7 @@ ghost use Rattle.lvl_report.specs.Texts.{line};
 ghost use Rattle.lvl_report.specs.Writing.{AppendsBeginning};
 
 use crate::fault::JobFault;
-use lvl_ignore::Ignore;
+use lvl_profile::Ignore;
 use lvl_io::{Failure, Write};
 use lvl_region::Side;
 use lvl_report::Hint;

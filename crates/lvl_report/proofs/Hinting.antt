@@ -1,7 +1,7 @@
 -- Sets of what is ignored, tried one after another.
 use Rattle.std.proofs.Common.{◌≡◌, ◌<◌, ◌∙◌, ℕ, ◌+◌, List, Bool, false, length, get_or, drop, ap, sym, refl}
 use Rattle.std.proofs.lemmas.List.{drop_more}
-use Rattle.lvl_ignore.specs.declared.ignore.Ignore.{Ignore}
+use Rattle.lvl_profile.specs.declared.ignore.Ignore.{Ignore}
 use Rattle.lvl.specs.declared.layout.FileFault.{FileFault}
 use Rattle.lvl_report.specs.Hints.{is_read_by, first_that_reads}
 

@@ -1,7 +1,7 @@
 -- What a run wrote, by its answer.
 use Rattle.std.proofs.Common.{◌≡◌, ◌∙◌, ℕ, List, Option, Result, Ok, Err, IfOk, OnOk, OnErr, refl, ap}
 use Rattle.std.specs.Io.KnownBytes.{Appends}
-use Rattle.lvl_ignore.specs.declared.ignore.Ignore.{Ignore}
+use Rattle.lvl_profile.specs.declared.ignore.Ignore.{Ignore}
 use Rattle.lvl_report.specs.declared.status.RunFault.{RunFault}
 use Rattle.lvl_view.specs.Views.{IsWhole, PlainView}
 use Rattle.lvl.specs.Answers.{IsCompared}

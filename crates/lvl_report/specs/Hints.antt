@@ -3,7 +3,7 @@ use Rattle.std.specs.Prelude.{ℕ, ◌==◌, ◌&&◌, if◌then◌else◌, Bool
 use Rattle.std.specs.Prelude.{Result, Ok, Err, is_ok}
 use Rattle.lvl_cells.specs.declared.fault.CellFault.{CellFault}
 use Rattle.lvl_cells.specs.declared.fault.CellFault.TheVariants.{ManyTops}
-use Rattle.lvl_ignore.specs.declared.ignore.Ignore.{Ignore}
+use Rattle.lvl_profile.specs.declared.ignore.Ignore.{Ignore}
 use Rattle.lvl_region.specs.declared.region.Side.{Side}
 use Rattle.gds_records.specs.Table.{is_ignored}
 use Rattle.gds_records.specs.declared.fault.RecordFault.{RecordFault}

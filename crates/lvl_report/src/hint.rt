@@ -8,7 +8,7 @@ use gds_library::{GdsKind, Misplaced, RecordFault};
 use gds_records::is_ignored;
 use lvl::{FileFault, Refusal};
 use lvl_cells::CellFault;
-use lvl_ignore::Ignore;
+use lvl_profile::Ignore;
 use lvl_region::Side;
 use oasis_library::{OasisFault, OasisKind, RecordRule, ValueFault};
 use oasis_records::RecordType;

@@ -6,7 +6,7 @@ ghost use Rattle.lvl_report.specs.Writing.{verdict_status};
 use crate::hint::{Hint, hint_of_one, hint_of_two};
 use crate::status::Status;
 use lvl::{Comparison, Refusal, Verdict};
-use lvl_ignore::Ignore;
+use lvl_profile::Ignore;
 
 /// Which answer was written, and, if it is a refusal, what would mend it.
 #[derive(Clone, Copy, Debug, PartialEq, Eq)]

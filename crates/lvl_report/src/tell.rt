@@ -12,7 +12,7 @@ use crate::output::put;
 use crate::status::RunFault;
 use crate::text::{form, form_shown};
 use lvl::{Comparison, Digested, Refusal, Shown};
-use lvl_ignore::Ignore;
+use lvl_profile::Ignore;
 use lvl_io::Write;
 use std::alloc::Global;
 

@@ -8,8 +8,8 @@ use Rattle.lvl_cells.specs.declared.fault.CellFault.TheVariants.{NoCell, Duplica
 use Rattle.lvl_cells.specs.declared.fault.CellFault.TheVariants.{ManyTops, TooManyPlacements, TooManyRings}
 use Rattle.lvl_view.specs.declared.fault.ViewFault.{ViewFault}
 use Rattle.lvl_view.specs.declared.fault.ViewFault.TheVariants.{MapText, WindowText, MapTwice, EmptyWindow}
-use Rattle.lvl_ignore.specs.declared.ignore.IgnoreFault.{IgnoreFault}
-use Rattle.lvl_ignore.specs.declared.ignore.IgnoreFault.TheVariants.{IgnoreText}
+use Rattle.lvl_profile.specs.declared.ignore.IgnoreFault.{IgnoreFault}
+use Rattle.lvl_profile.specs.declared.ignore.IgnoreFault.TheVariants.{IgnoreText}
 use Rattle.lvl_flat.specs.declared.fault.FlatFault.{FlatFault}
 use Rattle.lvl_flat.specs.declared.fault.FlatFault.TheVariants.{OutOfRange}
 

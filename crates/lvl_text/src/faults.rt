@@ -4,7 +4,7 @@ ghost use Rattle.lvl_text.specs.Faults.{spaced, path_fault, cell_fault, flat_fau
 
 use lvl_cells::CellFault;
 use lvl_flat::FlatFault;
-use lvl_ignore::IgnoreFault;
+use lvl_profile::IgnoreFault;
 use lvl_path::PathFault;
 use lvl_view::ViewFault;
 use std::io;

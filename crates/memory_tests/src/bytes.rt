@@ -3,7 +3,7 @@
 use crate::fence::fence;
 use gds_records::Records;
 use gds_records::fake::{SQUARE, Stream};
-use lvl_ignore::Ignore;
+use lvl_profile::Ignore;
 use lvl_io::fake::Pieces;
 use oasis_values::{Input, Real};
 use std::alloc::Global;

@@ -11,7 +11,7 @@ use Rattle.lvl_grammar.proofs.Reading.{unread_front}
 use Rattle.lvl_grammar.proofs.Stuck.{seen_stuck, seen_hopeless, stuck_none, truncated_none}
 use Rattle.lvl_path.specs.Figure.{Figure}
 use Rattle.lvl_cells.specs.Cells.{PlainCell, Rings}
-use Rattle.lvl_ignore.specs.declared.ignore.Ignore.{Ignore}
+use Rattle.lvl_profile.specs.declared.ignore.Ignore.{Ignore}
 use Rattle.oasis_values.specs.declared.fault.ValueFault.TheVariants.{Truncated, Read}
 use Rattle.oasis_stream.specs.Ends.{ReportsAt}
 use Rattle.oasis_stream.specs.Front.{oasis}

@@ -3,7 +3,7 @@ use Rattle.std.specs.Prelude.{◌≡◌, ℕ, List}
 use Rattle.lvl_grammar.specs.Front.{SpellsWhole}
 use Rattle.lvl_path.specs.Figure.{Figure, figure_rings}
 use Rattle.lvl_cells.specs.Cells.{PlainCell, Rings, kept}
-use Rattle.lvl_ignore.specs.declared.ignore.Ignore.{Ignore}
+use Rattle.lvl_profile.specs.declared.ignore.Ignore.{Ignore}
 use Rattle.oasis_stream.specs.Front.{oasis}
 use Rattle.oasis_stream.specs.Items.{Item, records}
 use Rattle.oasis_stream.specs.Order.{names_in}

@@ -1,8 +1,8 @@
 -- The laws of the records that are only read to be ignored.
 use Rattle.std.proofs.Common.{◌≡◌, ℕ, ◌/◌, ◌==◌, Bool, true, false, if◌then◌else◌, List, [], ◌∷◌, Result, Ok, Err, refl}
 use Rattle.std.proofs.Common.{sym, subst}
-use Rattle.lvl_ignore.specs.declared.ignore.Ignore.{Ignore}
-use Rattle.lvl_ignore.specs.Ignored.{IsSubsetOf}
+use Rattle.lvl_profile.specs.declared.ignore.Ignore.{Ignore}
+use Rattle.lvl_profile.specs.Ignored.{IsSubsetOf}
 use Rattle.oasis_records.specs.Records.{Row, look_up, record_type, types, type_if}
 use Rattle.oasis_values.specs.Known.{Unkept, Seen}
 use Rattle.oasis_values.specs.Numbers.{IsUnsigned}

@@ -4,7 +4,7 @@ use Rattle.std.specs.Prelude.{Option}
 use Rattle.std.specs.Borrow.{GName}
 use Rattle.lvl_io.specs.Spelling.{IsPrefixFree, CanSay, IsBegun}
 use Rattle.lvl_refusal.specs.declared.Cause.TheVariants.{Breach}
-use Rattle.lvl_ignore.specs.declared.ignore.Ignore.{Ignore}
+use Rattle.lvl_profile.specs.declared.ignore.Ignore.{Ignore}
 use Rattle.oasis_values.specs.Input.{input_ignore, room_left}
 use Rattle.oasis_values.specs.Reads.{Fails, bytes_had, Reads}
 use Rattle.oasis_values.specs.Spelling.{Spelling}

@@ -8,7 +8,7 @@
 //! Here the bytes of a RECTANGLE are read:
 //!
 //! ```
-//! use lvl_ignore::Ignore;
+//! use lvl_profile::Ignore;
 //! use lvl_io::fake::Pieces;
 //! use oasis_records::{Record, RecordType, read_fields, read_id};
 //! use oasis_values::Input;

@@ -4,7 +4,7 @@ ghost use Rattle.oasis_records.specs.Records.{record_type, type_if};
 
 use crate::fault::RecordRule;
 use crate::names::EntryType;
-use lvl_ignore::Ignore;
+use lvl_profile::Ignore;
 use oasis_values::Text;
 
 /// The types of records that are read. Some are only read to be ignored.

@@ -3,8 +3,8 @@ use Rattle.std.proofs.Common.{◌≡◌, ℕ, Bool, true, false, if◌then◌els
 use Rattle.std.proofs.Common.{subst}
 use Rattle.lvl_io.specs.Spelling.{UnlessBreached}
 use Rattle.lvl_grammar.specs.Front.{SpellsAll, FollowAll, SpellsWhole}
-use Rattle.lvl_ignore.specs.Ignored.{IsSubsetOf}
-use Rattle.lvl_ignore.specs.declared.ignore.Ignore.{Ignore}
+use Rattle.lvl_profile.specs.Ignored.{IsSubsetOf}
+use Rattle.lvl_profile.specs.declared.ignore.Ignore.{Ignore}
 use Rattle.oasis_values.specs.Numbers.{IsUnsigned}
 use Rattle.oasis_values.proofs.Codes.{seen_code}
 use Rattle.oasis_values.proofs.Integers.{unsigned_code}

@@ -9,7 +9,7 @@ use Rattle.lvl_io.specs.Spelling.{IsBegun}
 use Rattle.lvl_io.proofs.Spelling.{front_only, breached_none, begun_open}
 use Rattle.lvl_grammar.proofs.Agreeing.{agree_ends}
 use Rattle.lvl_grammar.proofs.Laws.{IsGrammar}
-use Rattle.lvl_ignore.specs.declared.ignore.Ignore.{Ignore}
+use Rattle.lvl_profile.specs.declared.ignore.Ignore.{Ignore}
 use Rattle.oasis_values.specs.declared.fault.ValueFault.{ValueFault}
 use Rattle.oasis_stream.specs.Items.{Item}
 use Rattle.oasis_stream.specs.Rules.{Breaches, MayFollow}

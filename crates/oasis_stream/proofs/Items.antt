@@ -2,7 +2,7 @@
 use Rattle.std.proofs.Common.{◌≡◌, ◌≢◌, ℕ, ◌<◌, Bool, true, false, not, ◌&&◌, nat_lt, if◌then◌else◌, List, [], ◌∷◌}
 use Rattle.std.proofs.Common.{◌==◌, drop, length, Result, Ok, Err, sym, ap, arith, length-append}
 use Rattle.lvl_io.specs.Spelling.{UnlessBreached, FirstBytesSay, IsPrefixFree, CanSay}
-use Rattle.lvl_ignore.specs.declared.ignore.Ignore.{Ignore}
+use Rattle.lvl_profile.specs.declared.ignore.Ignore.{Ignore}
 use Rattle.lvl_io.proofs.Spelling.{then_free, then_said}
 use Rattle.oasis_records.specs.Rules.{UnlessRuled, Must}
 use Rattle.oasis_values.specs.Numbers.{IsOneByte, IsByte, IsUnsigned}

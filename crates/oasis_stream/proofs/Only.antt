@@ -5,7 +5,7 @@ use Rattle.std.proofs.Common.{inl, inr, arith, length-take}
 use Rattle.std.proofs.lemmas.List.{take-append-drop}
 use Rattle.lvl_io.specs.Spelling.{FirstBytesSay}
 use Rattle.lvl_io.proofs.Spelling.{front_only, begun_open}
-use Rattle.lvl_ignore.specs.declared.ignore.Ignore.{Ignore}
+use Rattle.lvl_profile.specs.declared.ignore.Ignore.{Ignore}
 use Rattle.oasis_values.specs.declared.fault.ValueFault.{ValueFault}
 use Rattle.oasis_values.specs.declared.fault.ValueFault.TheVariants.{TooLong}
 use Rattle.oasis_stream.specs.Items.{Item, IsEnded}

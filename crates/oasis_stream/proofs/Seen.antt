@@ -11,7 +11,7 @@ use Rattle.std.specs.Borrow.{GName}
 use Rattle.lvl_io.specs.Spelling.{FirstBytesSay}
 use Rattle.lvl_io.proofs.Known.{known_parts}
 use Rattle.lvl_refusal.specs.declared.Cause.{Cause}
-use Rattle.lvl_ignore.specs.declared.ignore.Ignore.{Ignore}
+use Rattle.lvl_profile.specs.declared.ignore.Ignore.{Ignore}
 use Rattle.oasis_values.specs.Input.{bytes_left, has_failed, input_ignore, input_reader, input_offset, room_left}
 use Rattle.oasis_values.specs.Reads.{Answers, Reads, bytes_had}
 use Rattle.oasis_values.specs.Spelling.{Spelling}

@@ -8,7 +8,7 @@ use Rattle.lvl_grammar.specs.Refused.{IsTruncated}
 use Rattle.lvl_grammar.specs.inside.ReadTo.{ReadTo, IsSeenWrong}
 use Rattle.lvl_grammar.proofs.Reading.{reads_on, reads_unread}
 use Rattle.lvl_refusal.specs.declared.Cause.TheVariants.{Breach}
-use Rattle.lvl_ignore.specs.declared.ignore.Ignore.{Ignore}
+use Rattle.lvl_profile.specs.declared.ignore.Ignore.{Ignore}
 use Rattle.oasis_values.specs.Faults.{is_rule}
 use Rattle.oasis_values.specs.Input.{file_limit, bytes_left, input_offset, has_failed, input_reader, input_ignore}
 use Rattle.oasis_values.specs.Reads.{Fails, Reads, bytes_had}

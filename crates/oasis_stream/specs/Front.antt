@@ -2,7 +2,7 @@
 use Rattle.std.specs.Prelude.{◌≡◌, ℕ, ◌<◌, ◌≤◌, ◌⊎◌, Bool, true, List, [], ◌∷◌, length, take, Result, Ok, Err}
 use Rattle.lvl_io.specs.Spelling.{FirstBytesSay, IsBegun}
 use Rattle.lvl_grammar.specs.Grammar.{Grammar}
-use Rattle.lvl_ignore.specs.declared.ignore.Ignore.{Ignore}
+use Rattle.lvl_profile.specs.declared.ignore.Ignore.{Ignore}
 use Rattle.oasis_values.specs.Faults.{is_rule}
 use Rattle.oasis_values.specs.Input.{file_limit}
 use Rattle.oasis_values.specs.Known.{Seen}

@@ -9,7 +9,7 @@
 //! `bytes` is a file:
 //!
 //! ```
-//! use lvl_ignore::Ignore;
+//! use lvl_profile::Ignore;
 //! use lvl_io::fake::Pieces;
 //! use oasis_records::Record;
 //! use oasis_stream::{Order, read_first, read_next};

@@ -7,7 +7,7 @@ ghost use Rattle.oasis_stream.specs.inside.Reached.{HasReached, passed};
 
 use crate::fault::{NameRule, OasisKind};
 use lvl_cells::MOST_CELLS;
-use lvl_ignore::Ignore;
+use lvl_profile::Ignore;
 use oasis_records::{Record, RecordRule, RecordType};
 
 /// What the records so far say about those that may come next.

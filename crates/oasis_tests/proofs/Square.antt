@@ -10,7 +10,7 @@ use Rattle.lvl_path.specs.Figure.{Figure, rings}
 use Rattle.lvl_grammar.specs.Front.{SpellsAll, FollowAll, SpellsWhole}
 use Rattle.lvl_grammar.proofs.Laws.{one_whole}
 use Rattle.lvl_cells.specs.Cells.{PlainCell}
-use Rattle.lvl_ignore.specs.declared.ignore.Ignore.{Ignore}
+use Rattle.lvl_profile.specs.declared.ignore.Ignore.{Ignore}
 use Rattle.oasis_values.specs.Known.{among, Known, Seen}
 use Rattle.oasis_values.specs.Input.{file_limit}
 use Rattle.oasis_values.specs.Numbers.{IsByte, IsUnsigned}

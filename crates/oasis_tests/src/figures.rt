@@ -2,7 +2,7 @@
 
 use crate::rows::{bytes_of, check_text, cut};
 use lvl_grid::{Map, Point, Ring};
-use lvl_ignore::Ignore;
+use lvl_profile::Ignore;
 use lvl_io::Read;
 use lvl_io::fake::Pieces;
 use lvl_names::Layer;

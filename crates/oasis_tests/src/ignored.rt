@@ -4,7 +4,7 @@ use crate::library::{SQUARE, START, TOP, fault_of, file};
 use crate::library_faults::fault_text;
 use crate::rows::{bytes_of, check_text, cut};
 use lvl_cells::Library;
-use lvl_ignore::Ignore;
+use lvl_profile::Ignore;
 use lvl_io::Read;
 use lvl_io::fake::Pieces;
 use lvl_refusal::Cause;

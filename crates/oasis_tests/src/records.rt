@@ -1,6 +1,6 @@
 //! A file with one square in one cell, byte by byte.
 
-use lvl_ignore::Ignore;
+use lvl_profile::Ignore;
 use lvl_io::Read;
 use lvl_io::fake::Pieces;
 use oasis_records::{

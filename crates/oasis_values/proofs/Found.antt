@@ -19,7 +19,7 @@ use Rattle.oasis_values.specs.Reads.{Fails, bytes_had, Reads}
 use Rattle.oasis_values.specs.inside.Leading.{IsStop, Stops}
 use Rattle.oasis_values.specs.Spelling.{Spelling}
 use Rattle.oasis_values.proofs.Integers.{continues_begun}
-use Rattle.lvl_ignore.specs.declared.ignore.Ignore.{Ignore}
+use Rattle.lvl_profile.specs.declared.ignore.Ignore.{Ignore}
 use Rattle.oasis_values.specs.declared.fault.ValueFault.{ValueFault}
 use Rattle.oasis_values.specs.declared.fault.ValueFault.TheVariants.{Truncated, TooLong, Read, Failed}
 

@@ -2,7 +2,7 @@
 use Rattle.std.proofs.Common.{◌≡◌, ◌↔◌, ℕ, ◌+◌, ◌*◌, ◌%◌, ◌^◌, ◌<◌, ◌≤◌, ◌⊎◌, inl, inr, List, [], ◌∷◌, ◌++◌, length}
 use Rattle.std.proofs.Common.{refl, sym, ap, ◌∙◌, subst, arith, length-append, mul-le-mul_left}
 use Rattle.std.proofs.Math.Nat.{pow-le-pow_right}
-use Rattle.lvl_ignore.specs.Ignored.{nothing}
+use Rattle.lvl_profile.specs.Ignored.{nothing}
 use Rattle.oasis_values.specs.Numbers.{groups, Continues, IsTooLarge}
 use Rattle.oasis_values.proofs.Integers.{groups_lt, groups_snoc, le_or}
 

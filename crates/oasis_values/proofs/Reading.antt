@@ -10,7 +10,7 @@ use Rattle.lvl_io.specs.Spelling.{FirstBytesSay, IsBegun, CanSay, Then as ThenAl
 use Rattle.lvl_io.proofs.Spelling.{then_begun, then_goes_on, then_both, then_breached, breached_none}
 use Rattle.lvl_refusal.specs.declared.Cause.{Cause}
 use Rattle.lvl_refusal.specs.declared.Cause.TheVariants.{Breach, OutOfMemory}
-use Rattle.lvl_ignore.specs.declared.ignore.Ignore.{Ignore}
+use Rattle.lvl_profile.specs.declared.ignore.Ignore.{Ignore}
 use Rattle.oasis_values.specs.Faults.{is_rule, is_read_fault, reader_failed}
 use Rattle.oasis_values.specs.Input.{input_offset, has_failed, input_ignore, input_reader, room_left}
 use Rattle.std.specs.Io.KnownBytes.{prepend_known}

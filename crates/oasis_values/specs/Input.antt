@@ -1,7 +1,7 @@
 -- The parts of an `Input`, for contracts.
 use Rattle.std.specs.Prelude.{ℕ, ◌-◌, Bool, List, length, Option}
 use Rattle.std.specs.Io.KnownBytes.{prepend_known}
-use Rattle.lvl_ignore.specs.declared.ignore.Ignore.{Ignore}
+use Rattle.lvl_profile.specs.declared.ignore.Ignore.{Ignore}
 use Rattle.oasis_values.specs.declared.input.Input.{Input}
 
 -- how long a file may be, in bytes (own rule)

@@ -2,7 +2,7 @@
 -- this, the bytes b say r.
 use Rattle.std.specs.Prelude.{ℕ, zero, suc, List, [], ◌∷◌, Result, Ok}
 use Rattle.lvl_io.specs.Spelling.{Gives as GivesAlways, Then as ThenAlways}
-use Rattle.lvl_ignore.specs.declared.ignore.Ignore.{Ignore}
+use Rattle.lvl_profile.specs.declared.ignore.Ignore.{Ignore}
 use Rattle.oasis_values.specs.declared.fault.ValueFault.{ValueFault}
 
 -- what bytes say, by what is ignored

@@ -10,7 +10,7 @@ ghost use Rattle.oasis_values.specs.inside.Leading.{IsStop, Stops, Finds};
 
 use crate::fault::ValueFault;
 use crate::integer::{Leading, scan_integer};
-use lvl_ignore::Ignore;
+use lvl_profile::Ignore;
 use lvl_io::{Buffer, Missing, Read};
 
 /// What was found, and how many bytes it takes.

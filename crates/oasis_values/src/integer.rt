@@ -4,7 +4,7 @@ ghost use Rattle.std.specs.Prelude.{◌≡◌, ◌<◌, ◌≤◌, length, take,
 ghost use Rattle.oasis_values.specs.Numbers.{groups, most_bytes, Continues};
 ghost use Rattle.oasis_values.specs.inside.Leading.{Leads};
 
-use lvl_ignore::Ignore;
+use lvl_profile::Ignore;
 
 /// The greatest number of bytes of an unsigned integer (own rule): a number below 2^64 needs no
 /// more.

@@ -5,7 +5,7 @@
 //! have padding. The crates above make records of the values.
 //!
 //! ```
-//! use lvl_ignore::Ignore;
+//! use lvl_profile::Ignore;
 //! use lvl_io::fake::Pieces;
 //! use oasis_values::Input;
 //!

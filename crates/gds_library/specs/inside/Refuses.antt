@@ -1,6 +1,6 @@
 -- What a refusal says about the input while it is being read.
 use Rattle.std.specs.Prelude.{ℕ, List, Option}
-use Rattle.lvl_ignore.specs.declared.ignore.Ignore.{Ignore}
+use Rattle.lvl_profile.specs.declared.ignore.Ignore.{Ignore}
 use Rattle.lvl_grammar.specs.Refused.{IsTruncated, IsUnread}
 use Rattle.lvl_grammar.specs.inside.ReadTo.{IsSeenWrong}
 use Rattle.gds_records.specs.declared.fault.RecordFault.TheVariants.{Truncated, Read}

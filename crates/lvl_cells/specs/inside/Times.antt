@@ -3,7 +3,7 @@ use Rattle.std.specs.Prelude.{◌≡◌, ℕ, zero, suc, ◌+◌, ◌*◌, ◌<�
 use Rattle.lvl_cells.specs.Cells.{PlainCell, PlainReference, Rings, cell_named, each_ring}
 use Rattle.std.specs.Prelude.{sum_by}
 use Rattle.std.specs.Option.{option_map_or}
-use Rattle.lvl_ignore.specs.declared.limits.Limits.{Limits}
+use Rattle.lvl_profile.specs.declared.limits.Limits.{Limits}
 use Rattle.lvl_cells.specs.Chains.{over_chains, own_rings}
 use Rattle.lvl_cells.specs.declared.fault.CellFault.{CellFault}
 use Rattle.lvl_cells.specs.declared.fault.CellFault.TheVariants.{TooManyPlacements, TooManyRings}

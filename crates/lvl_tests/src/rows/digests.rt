@@ -4,7 +4,7 @@ use super::compared::{PIECES, name_of};
 use super::show::lines;
 use super::words::{cut, file};
 use super::{Answer, sink, status_of};
-use lvl_ignore::Ignore;
+use lvl_profile::Ignore;
 use lvl_io::fake::Pieces;
 use lvl_report::{Status, run_digest};
 use std::alloc::{AllocError, Global};

@@ -1,6 +1,6 @@
 -- How integers and bytes are found among the bytes in hand.
 use Rattle.std.specs.Prelude.{◌≡◌, ◌≢◌, ℕ, ◌^◌, ◌<◌, List, length, Option, Some, Result, Ok, Err}
-use Rattle.lvl_ignore.specs.declared.ignore.Ignore.{Ignore}
+use Rattle.lvl_profile.specs.declared.ignore.Ignore.{Ignore}
 use Rattle.lvl_io.specs.Spelling.{FirstBytesSay}
 use Rattle.oasis_values.specs.Numbers.{groups, Continues, most_bytes, IsUnsigned}
 use Rattle.oasis_values.specs.Reads.{Fails}

@@ -1,6 +1,6 @@
 use Rattle.std.proofs.Common.{◌≡◌, subst}
 use Rattle.lvl.specs.declared.verdict.Verdict.TheVariants.{Same, Differ}
-use Rattle.lvl_ignore.specs.Ignored.{nothing}
+use Rattle.lvl_profile.specs.Ignored.{nothing}
 use Rattle.lvl.specs.Accepted.{IsVerdict}
 use Rattle.lvl.specs.Sides.{file}
 use Rattle.lvl.proofs.compare.compare_layouts.Goals as goal

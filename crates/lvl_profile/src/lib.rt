@@ -1,11 +1,12 @@
-//! What a reader may ignore: records that draw nothing, as the format's standard says.
+//! What a file may be: which of its records are read and ignored, and how much it may have.
 //!
 //! A reader refuses each record that it doesn't use, since such a record might draw something. Some
 //! records never draw anything: properties, texts, names of layers. [`Ignore`] says which of these
-//! are read and ignored. It is read from words such as `properties,texts`, or `all`.
+//! are read and ignored. It is read from words such as `properties,texts`, or `all`. [`Limits`] says
+//! how many bytes, cells and places a file may have. A [`Profile`] is both.
 //!
 //! ```
-//! use lvl_ignore::{Ignore, IgnoreFault};
+//! use lvl_profile::{Ignore, IgnoreFault};
 //! use lvl_refusal::Cause;
 //!
 //! let ignore = Ignore::read(alloc, "properties,names")?;
@@ -17,6 +18,8 @@
 
 pub use ignore::{Ignore, IgnoreFault};
 pub use limits::Limits;
+pub use profile::Profile;
 
 mod ignore;
 mod limits;
+mod profile;

@@ -1,8 +1,8 @@
 //! The set of what is ignored, and its text.
 ghost use Rattle.std.specs.Prelude.{◌≡◌, ◌==◌, IfOk, IfErr, map};
 ghost use Rattle.std.specs.List.{slice_split};
-ghost use Rattle.lvl_ignore.specs.Ignored.{comma, everything, nothing, union, union_of, word_set, IsText};
-ghost use Rattle.lvl_ignore.specs.declared.ignore.Ignore.{Ignore as Ignored};
+ghost use Rattle.lvl_profile.specs.Ignored.{comma, everything, nothing, union, union_of, word_set, IsText};
+ghost use Rattle.lvl_profile.specs.declared.ignore.Ignore.{Ignore as Ignored};
 ghost use Rattle.lvl_refusal.specs.Refused.{Says};
 
 use lvl_refusal::Cause;

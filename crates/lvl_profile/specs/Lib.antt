@@ -1,2 +1,3 @@
 pub mod Ignored
 pub mod Limits
+pub mod Profiles

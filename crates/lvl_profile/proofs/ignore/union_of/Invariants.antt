@@ -1,6 +1,6 @@
 use Rattle.std.proofs.Common.{◌≡◌, map, drop}
-use Rattle.lvl_ignore.specs.Ignored.{nothing, union_of}
-use Rattle.lvl_ignore.proofs.ignore.union_of.Given as goal
+use Rattle.lvl_profile.specs.Ignored.{nothing, union_of}
+use Rattle.lvl_profile.proofs.ignore.union_of.Given as goal
 
 -- the words that are left add to what the words so far have named
 abbrev pub invariant-loop-word : goal.invariant-loop-word
