@@ -1,4 +1,4 @@
--- Tables of numbers, and spellings by what follows from a value that was read.
+-- Tables of numbers, and spellings by what follows from a value that was read (own notation).
 use Rattle.std.specs.Prelude.{ℕ, ◌+◌, ◌==◌, if◌then◌else◌, List, [], ◌∷◌, Option, Some, None, Result, Ok, Err}
 use Rattle.oasis_values.specs.Spelling.{Spelling, Gives, Then}
 use Rattle.oasis_values.specs.declared.fault.ValueFault.{ValueFault}
