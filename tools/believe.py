@@ -58,7 +58,7 @@ class Definition:
         self.line = line
         self.text = text
         self.comment = comment
-        self.lines = sum(1 for line in text.splitlines() if line.strip())
+        self.lines = sum(1 for line in text.splitlines() if not line.startswith("--"))
         self.is_type = file.suffix == ".rt"
         self.crate = file.relative_to(CRATES).parts[0]
 
@@ -287,7 +287,7 @@ has the clauses that name them.
 `tools/believe.py` writes the page, and `.ci/run` refuses another one. It begins with the names in the contracts of
 `compare_layouts`, and then of `compare_view`, `compare_files`, `digest_file` and `digests_decide`, and goes from each
 definition to all those that it names. A number is the line in the file, and what follows it is the comment that stands
-there. Lines are counted with comments, and types of the code aren't counted. What the program prints (`lvl_text`,
+there. Lines are counted without comments, and types of the code aren't counted. What the program prints (`lvl_text`,
 `lvl_report`, `lvl_job`, `lvl_line`) has definitions of its own, which the verdict doesn't need.
 """
 
