@@ -9,7 +9,6 @@ written, if a definition has no comment, or if one of a format names no section 
 import pathlib
 import re
 import sys
-import textwrap
 
 ROOT = pathlib.Path(__file__).resolve().parent.parent
 CRATES = ROOT / "crates"
@@ -281,14 +280,15 @@ def standard_words(words):
 HEAD = """# What must be believed
 
 What `same` and `differ` mean, and when a refusal is true, is said by the definitions on this page. Proofs connect the
-code with them, and a checker reads the proofs; the definitions themselves only a reader can judge. [PROOF.md](PROOF.md)
-has the clauses that name them.
+code with them, and a checker reads the proofs; the definitions themselves only a reader can judge.
+[PROOF.md](PROOF.md) has the clauses that name them.
 
 `tools/believe.py` writes the page, and `.ci/run` refuses another one. It begins with the names in the contracts of
 `compare_layouts`, and then of `compare_view`, `compare_files`, `digest_file` and `digests_decide`, and goes from each
-definition to all those that it names. A number is the line in the file, and what follows it is the comment that stands
-there. Lines are counted without comments, and types of the code aren't counted. What the program prints (`lvl_text`,
-`lvl_report`, `lvl_job`, `lvl_line`) has definitions of its own, which the verdict doesn't need.
+definition to all those that it names; each is listed once, in the first part that needs it. A number is the line in
+the file, and what follows it is the comment that stands there. Lines are counted without comments, and types of the
+code aren't counted. What the program prints (`lvl_text`, `lvl_report`, `lvl_job`, `lvl_line`) has definitions of its
+own, which the verdict doesn't need.
 """
 
 
@@ -300,12 +300,12 @@ def page(book):
         found = book.below(roots, known)
         known.update(found)
         parts.append((title, found))
-    text = "\n".join(textwrap.dedent(HEAD).replace("\n\n", "\0").replace("\n", " ").replace("\0", "\n\n").split("\n"))
-    text = text.rstrip() + "\n\n" + counts(parts) + "\n"
+    head = re.sub(r"(?<!\n)\n(?!\n)", " ", HEAD.strip())
+    text = head + "\n\n" + counts(parts) + "\n"
     for title, found in parts:
         text += f"\n## {title}\n\n{listed(found)}"
-    text += "\n## Words of Rattle's library\n\nThese are explained in the library itself.\n\n" + standard_words(book.words)
-    return text + "\n", known
+    text += "\n## Words of Rattle's library\n\nThese are explained in the library itself.\n\n"
+    return text + standard_words(book.words) + "\n", known
 
 
 def faults(book, known):

@@ -120,6 +120,6 @@ allowed rs (Ok t) =
 abbrev pub type_by : List Record → ℕ → Result RecordType RecordRule → Result RecordType OasisKind
 type_by rs id t = if is_expected rs t then allowed rs t else Err (Unexpected id)
 
--- the same, by what is ignored
+-- the type by an id after the records rs, by what is ignored, or the rule that the id breaches
 abbrev pub type_after : Ignore → List Record → ℕ → Result RecordType OasisKind
 type_after ignore rs id = type_by rs id (record_type ignore id)

@@ -62,7 +62,7 @@ list_size n = if nat_le (n + 2) most_listed then Some (n + 1) else None
 abbrev pub stepped : ℤ → ℤ → ℕ → Option ℤ
 stepped before by times = let z = before +ℤ (pos times *ℤ by) in if is_in_range z then Some z else None
 
--- the same for a point
+-- a point moved by `times` times a space; None if it doesn't fit in 64 signed bits
 abbrev pub moved : Point → Far → ℕ → Option Point
 moved p by times = in_range (to (p.x +ℤ (pos times *ℤ by.x)) (p.y +ℤ (pos times *ℤ by.y)))
 
