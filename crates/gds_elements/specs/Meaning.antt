@@ -1,4 +1,5 @@
--- What the records of an element mean. If there are several of a type, the last one counts.
+-- What the records of an element mean (GDSII Stream Format Manual, Release 6, BOUNDARY, PATH, SREF, AREF and TEXT). If
+-- there are several of a type, the last one counts (own rule; the order allows one).
 use Rattle.std.specs.Prelude.{ℕ, ◌/◌, ◌==◌, ◌-ℤ◌, pos, if◌then◌else◌, List, [], ◌∷◌, Option, Some, None}
 use Rattle.std.specs.Int.RustNames.{int_div}
 use Rattle.std.specs.Ordering.{int_eq}
@@ -74,11 +75,12 @@ step p q n = record { x = int_div (q.x -ℤ p.x) (pos n); y = int_div (q.y -ℤ 
 abbrev pub array_shifts : List Point → ℕ → ℕ → List Point
 array_shifts ps m n = lattice (step (nth ps 0) (nth ps 1) m) m (step (nth ps 0) (nth ps 2) n) n
 
--- the number of columns and of rows of an array; 1 without a COLROW
+-- the number of columns of an array; 1 without a COLROW
 abbrev pub columns_in : Option Rec → ℕ
 columns_in None = 1
 columns_in (Some r) = magnitude (columns r.payload)
 
+-- the number of rows of an array; 1 without a COLROW
 abbrev pub rows_in : Option Rec → ℕ
 rows_in None = 1
 rows_in (Some r) = magnitude (rows r.payload)
@@ -101,11 +103,11 @@ references_by (Some k) piece =
     if k == sref then reference piece one_place ∷ [] else (if k == aref then reference piece (shifts_of piece) ∷ []
     else [])
 
--- the shapes and the references of an element, by the type of its first record: a boundary or a path has one shape, a
--- reference or an array has one reference, and a text has neither
+-- the shapes of an element, by the type of its first record: a boundary or a path has one, the others have none
 abbrev pub shapes_of : List Rec → List (PlainShape Figure)
 shapes_of piece = shapes_by (opener piece) piece
 
+-- the references of an element, by the type of its first record: a reference or an array has one, the others have none
 abbrev pub references_of : List Rec → List PlainReference
 references_of piece = references_by (opener piece) piece
 

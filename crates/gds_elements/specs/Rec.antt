@@ -1,4 +1,4 @@
--- Records, and lists of records.
+-- Records, and lists of records (GDSII Stream Format Manual, Release 6, "Record Description").
 use Rattle.std.specs.Prelude.{ℕ, ◌==◌, Bool, List, [], ◌∷◌, map, reverse, find, Option, Some, None}
 use Rattle.gds_elements.specs.Order.{opens}
 use Rattle.gds_elements.specs.Types.{endel}
@@ -9,9 +9,11 @@ pub record Rec : Type 0 where
   pub data_type : ℕ
   pub payload : List ℕ
 
+-- the types of the records
 abbrev pub kinds : List Rec → List ℕ
 kinds rs = map (λ r. r.kind) rs
 
+-- whether the record is of type k
 abbrev pub is_type : ℕ → Rec → Bool
 is_type k r = r.kind == k
 

@@ -1,5 +1,6 @@
--- The rules that a record of an element may breach. Own rules: Layer, Strans, Magnification, Angle, Name, Path, Width,
--- PathType, Oblique and Repetition; the others are of GDSII Stream Release 6.
+-- The rules that a record of an element may breach. Own rules: Layer, Strans, Magnification, Angle, ArrayStep, Name,
+-- Path, Width, PathType, Oblique and Repetition; the others are of GDSII Stream Format Manual, Release 6, BOUNDARY,
+-- PATH, SREF, AREF and COLROW.
 use Rattle.std.specs.Prelude.{true, ◌≡◌, ◌≢◌, ℕ, ◌*◌, ◌<◌, ◌≤◌, ◌<ℤ◌, ◌≤ℤ◌, ◌-ℤ◌, ◌⊎◌, ℤ, pos, List, [], ◌∷◌, ◌++◌}
 use Rattle.std.specs.Prelude.{length, Some, None, All, is_some}
 use Rattle.std.specs.Int.RustNames.{int_rem}
@@ -55,10 +56,11 @@ IsDivided p q n = (int_rem (q.x -ℤ p.x) (pos n) ≡ pos 0) × (int_rem (q.y -�
 abbrev pub HasSteps : List Point → ℕ → ℕ → Type 0
 HasSteps ps m n = IsDivided (nth ps 0) (nth ps 1) m × IsDivided (nth ps 0) (nth ps 2) n
 
--- the element draws a shape, or refers to a cell
+-- the element draws a shape: it is a boundary or a path
 abbrev pub DrawsShape : List Rec → Type 0
 DrawsShape piece = (opener piece ≡ Some boundary) ⊎ (opener piece ≡ Some path)
 
+-- the element refers to a cell: it is a reference or an array
 abbrev pub RefersToCell : List Rec → Type 0
 RefersToCell piece = (opener piece ≡ Some sref) ⊎ (opener piece ≡ Some aref)
 

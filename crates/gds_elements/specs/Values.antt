@@ -1,4 +1,5 @@
--- The values that payloads spell (GDSII Stream Release 6).
+-- The values that payloads spell (GDSII Stream Format Manual, Release 6, "Data Type Description", XY, STRANS, ANGLE and
+-- COLROW).
 use Rattle.std.specs.Prelude.{ℕ, zero, suc, ◌-◌, ◌/◌, ◌==◌, ◌&&◌, nat_lt, Bool, ℤ, pos, if◌then◌else◌, List, [], ◌∷◌}
 use Rattle.std.specs.Prelude.{length, take, drop, slice_index, slice_index_or, FitsSigned}
 use Rattle.std.specs.Int.{w16, w32, from_be_bytes, cast_signed}
@@ -70,10 +71,11 @@ turn p =
     if bytes_eq p (degrees R90) then R90
     else (if bytes_eq p (degrees R180) then R180 else (if bytes_eq p (degrees R270) then R270 else R0))
 
--- the numbers of columns and of rows in a COLROW
+-- the number of columns in a COLROW
 abbrev pub columns : List ℕ → ℤ
 columns p = short (take 2 p)
 
+-- the number of rows in a COLROW
 abbrev pub rows : List ℕ → ℤ
 rows p = short (drop 2 p)
 

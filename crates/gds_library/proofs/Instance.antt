@@ -7,7 +7,7 @@ use Rattle.lvl_io.specs.Known.{Agree}
 use Rattle.lvl_grammar.specs.Order.{Order, one, many, ◌then◌, Begins}
 use Rattle.lvl_grammar.proofs.Agreeing.{agree_ends}
 use Rattle.lvl_grammar.proofs.Fills.{fill_alone, fill_ends, fill_more}
-use Rattle.lvl_grammar.proofs.Laws.{IsGrammar}
+use Rattle.lvl_grammar.proofs.Laws.{IsGrammar, AreFaults}
 use Rattle.gds_records.specs.Spelled.{IsSpelling, IsBegun}
 use Rattle.gds_records.specs.Step.{step}
 use Rattle.gds_records.specs.declared.fault.RecordFault.{RecordFault}
@@ -21,7 +21,8 @@ use Rattle.gds_library.specs.Rec.{Spells}
 use Rattle.gds_library.specs.Rules.{IsWhole, InOrder}
 use Rattle.gds_library.specs.Ignoring.{essential, IsWholeBy, InOrderBy, BreachesBy, MayFollowBy}
 use Rattle.gds_library.proofs.Passing.{fill_unpassed}
-use Rattle.gds_library.specs.Front.{gds, StartsWith, IsWrong}
+use Rattle.gds_library.specs.Front.{gds}
+use Rattle.gds_library.specs.Faults.{StartsWith, IsWrong, gds_faults}
 use Rattle.gds_library.specs.declared.fault.GdsKind.{GdsKind}
 use Rattle.gds_library.specs.declared.fault.GdsKind.TheVariants.{Record, Misplaced, Element, Name, AfterEnd}
 use Rattle.gds_library.specs.declared.fault.GdsKind.TheVariants.{TooManyCells}
@@ -168,6 +169,11 @@ is_grammar ignore = record {
       let same = same_next ignore before r s a b x y p q f g e in
       (spells_once ignore a b s (subst (Spells ignore a) same p) q, same);
   some = λ before a r p. spells_some ignore a r p;
+}
+
+pub are_faults : (ignore : Ignore) → AreFaults (gds_faults ignore)
+are_faults ignore = record {
+  grammar = is_grammar ignore;
   here = wrong_here ignore;
   stops = λ before room ys text r k. wrong_stops ignore before room ys text r k;
   cut = λ before ys text rest r c n p f e. elim p [

@@ -14,6 +14,7 @@ use Rattle.lvl_grammar.proofs.Stuck.{seen_stuck, seen_hopeless, stuck_none, trun
 use Rattle.gds_records.specs.declared.fault.RecordFault.TheVariants.{Truncated, Read}
 use Rattle.gds_library.specs.Drawn.{Drawing}
 use Rattle.gds_library.specs.Front.{gds, SpellsLibrary, SpellsNone}
+use Rattle.gds_library.specs.Faults.{gds_faults}
 use Rattle.gds_library.specs.Ends.{Reports, ReportsAt, ReportsUnread, IsExcused, IsExcusedKind, IsEarly, IsEarlyKind}
 use Rattle.gds_library.specs.inside.Refuses.{Refuses, RefusesAt}
 use Rattle.gds_library.specs.Ignoring.{essential}
@@ -22,7 +23,7 @@ use Rattle.gds_library.specs.declared.head.GdsHead.{GdsHead}
 use Rattle.gds_library.specs.declared.fault.GdsFault.{GdsFault}
 use Rattle.gds_library.specs.declared.fault.GdsKind.{GdsKind}
 use Rattle.gds_library.specs.declared.fault.GdsKind.TheVariants.{Record}
-use Rattle.gds_library.proofs.Instance.{is_grammar}
+use Rattle.gds_library.proofs.Instance.{is_grammar, are_faults}
 
 -- if no bytes are in hand, the reader has all that are left
 pub none_in_hand : (hand : List ℕ) (remaining left : Option (List ℕ)) → left ≡ prepend_known hand remaining → hand ≡ []
@@ -48,28 +49,28 @@ none_spelled ignore xs n cells h p = n p.records p.whole
 reports_at : (ignore : Ignore) (xs : List ℕ) (left : Option (List ℕ)) (at : ℕ) (k : GdsKind)
     → RefusesAt ignore xs left at k → ReportsAt ignore xs at k
 reports_at ignore xs left at (Record Truncated) x = x
-reports_at ignore xs left at (Record Read) x = unread_front (gds ignore) xs left at x
-reports_at ignore xs left at other x = seen_stuck (gds ignore) (is_grammar ignore) xs at left other x
+reports_at ignore xs left at (Record Read) x = unread_front (gds_faults ignore) xs left at x
+reports_at ignore xs left at other x = seen_stuck (gds_faults ignore) (are_faults ignore) xs at left other x
 
 none_at : (ignore : Ignore) (xs : List ℕ) (left : Option (List ℕ)) (at : ℕ) (k : GdsKind)
     → RefusesAt ignore xs left at k → (IsExcusedKind k → ⊥)
     → SpellsNone ignore xs
 none_at ignore xs left at (Record Truncated) x n = none_spelled ignore xs
-    (truncated_none (gds ignore) (is_grammar ignore) xs at x)
+    (truncated_none (gds_faults ignore) (are_faults ignore) xs at x)
 none_at ignore xs left at (Record Read) x n = absurd (n tt)
 none_at ignore xs left at other x n = none_spelled ignore xs
-    (stuck_none (gds ignore) xs at (seen_stuck (gds ignore) (is_grammar ignore) xs at left other x).0)
+    (stuck_none (gds ignore) xs at (seen_stuck (gds_faults ignore) (are_faults ignore) xs at left other x).0)
 
 early_at : (ignore : Ignore) (xs : List ℕ) (left : Option (List ℕ)) (at : ℕ) (k : GdsKind)
     → RefusesAt ignore xs left at k → IsEarlyKind k
     → IsHopeless (gds ignore) xs left
 early_at ignore xs left at (Record Truncated) x i = absurd i
 early_at ignore xs left at (Record Read) x i = absurd i
-early_at ignore xs left at other x i = seen_hopeless (gds ignore) (is_grammar ignore) xs at left other x
+early_at ignore xs left at other x i = seen_hopeless (gds_faults ignore) (are_faults ignore) xs at left other x
 
 unread_at : (ignore : Ignore) (xs : List ℕ) (left : Option (List ℕ)) (at : ℕ) (k : GdsKind)
     → RefusesAt ignore xs left at k → IsExcusedKind k
-    → IsUnread (gds ignore) xs left at
+    → IsUnread (gds_faults ignore) xs left at
 unread_at ignore xs left at (Record Read) x e = x
 unread_at ignore xs left at other x e = absurd e
 

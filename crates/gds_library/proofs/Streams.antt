@@ -32,7 +32,8 @@ use Rattle.gds_elements.specs.declared.element.Element.{Element as OpenElement}
 use Rattle.gds_library.specs.Types.{fill}
 use Rattle.gds_library.specs.Order.{a_library}
 use Rattle.gds_library.specs.Ignoring.{essential, IsWholeBy, BreachesBy, BreachesOnlyBy, MayFollowBy}
-use Rattle.gds_library.specs.Front.{gds, StartsWith, IsWrong, SpellsLibrary, IsRead}
+use Rattle.gds_library.specs.Front.{gds, SpellsLibrary, IsRead}
+use Rattle.gds_library.specs.Faults.{StartsWith, IsWrong, gds_faults}
 use Rattle.gds_library.specs.Values.{drawings}
 use Rattle.gds_library.specs.inside.Stage.{after, left, has_units}
 use Rattle.gds_library.specs.inside.Shown.{shown, shown_at, done}
@@ -201,7 +202,7 @@ wrong_record ignore before room ys r AfterEnd o n s b = absurd o
 wrong_record ignore before room ys r _ o n s b = (n, r, s, b)
 
 seen_refuses : (ignore : Ignore) (xs : List ℕ) (at : ℕ) (rest : Option (List ℕ)) (k : GdsKind) → OfRecord k
-    → IsSeenWrong (gds ignore) xs at rest k
+    → IsSeenWrong (gds_faults ignore) xs at rest k
     → RefusesAt ignore xs rest at k
 seen_refuses ignore xs at rest (Record f) o s = absurd o
 seen_refuses ignore xs at rest AfterEnd o s = absurd o
@@ -264,7 +265,7 @@ seen_fault : (ignore : Ignore) (xs : List ℕ) (at : ℕ) (Has : List Rec → Ty
     → f ≢ Truncated → f ≢ Read
     → (IsWholeBy ignore to.records → file_limit - at ≡ 0)
     → ((more : List ℕ) → step ignore (file_limit - at) (hand ++ more) ≡ Err f)
-    → prepend_known hand remaining ≡ Some (drop at xs) → IsSeenWrong (gds ignore) xs at remaining (Record f)
+    → prepend_known hand remaining ≡ Some (drop at xs) → IsSeenWrong (gds_faults ignore) xs at remaining (Record f)
 seen_fault ignore xs at Has was remaining hand f to t r z said e =
     let l = left_parts (drop at xs) hand remaining e in
     let all : step ignore (file_limit - at) (drop at xs) ≡ Err f =
@@ -286,7 +287,7 @@ seen_fault ignore xs at Has was remaining hand f to t r z said e =
 pub reads_cut : (ignore : Ignore) (xs : List ℕ) (at : ℕ) (x : WithIgnored) (was : Option (List ℕ))
     → ReadTo (gds ignore) xs at (HasReadBy ignore x) was
     → x.reading.builder.stage ≢ Fill → (length (drop at xs) < 4) ⊎ IsBegun ignore (drop at xs)
-    → IsTruncated (gds ignore) xs at
+    → IsTruncated (gds_faults ignore) xs at
 reads_cut ignore xs at x was to go cut = record {
   within = to.within;
   records = to.records;
@@ -306,7 +307,7 @@ pub reads_fault : (ignore : Ignore) (xs : List ℕ) (at : ℕ) (x : WithIgnored)
     → prepend_known hand remaining ≡ Some (drop at xs) → RefusesAt ignore xs remaining at (Record f)
 reads_fault ignore xs at x was remaining hand f to go said cut unread e = by f refl
   where
-    known : f ≢ Truncated → f ≢ Read → IsSeenWrong (gds ignore) xs at remaining (Record f)
+    known : f ≢ Truncated → f ≢ Read → IsSeenWrong (gds_faults ignore) xs at remaining (Record f)
     known t r = seen_fault ignore xs at (HasReadBy ignore x) was remaining hand f to t r
         (λ w. absurd (has_unwhole ignore x to.records to.holds go w)) (said t r) e
 
@@ -314,16 +315,16 @@ reads_fault ignore xs at x was remaining hand f to go said cut unread e = by f r
     by Truncated i = reads_cut ignore xs at x was to go (cut (sym i))
     by Read i =
         let l = left_parts (drop at xs) hand remaining e in
-        reads_unread (gds ignore) xs at (HasReadBy ignore x) was remaining to hand l.rest l.parts l.is
+        reads_unread (gds_faults ignore) xs at (HasReadBy ignore x) was remaining to hand l.rest l.parts l.is
         (λ some. ((unread (sym i)).1 some).1)
-    by BadLength i = subst (λ (h : RecordFault). IsSeenWrong (gds ignore) xs at remaining (Record h)) (sym i)
+    by BadLength i = subst (λ (h : RecordFault). IsSeenWrong (gds_faults ignore) xs at remaining (Record h)) (sym i)
         (known (λ z. (let y : BadLength ≡ Truncated = i ∙ z in cc)) (λ z. (let y : BadLength ≡ Read = i ∙ z in cc)))
-    by BadDataType i = subst (λ (h : RecordFault). IsSeenWrong (gds ignore) xs at remaining (Record h)) (sym i)
+    by BadDataType i = subst (λ (h : RecordFault). IsSeenWrong (gds_faults ignore) xs at remaining (Record h)) (sym i)
         (known (λ z. (let y : BadDataType ≡ Truncated = i ∙ z in cc)) (λ z. (let y : BadDataType ≡ Read = i ∙ z in cc)))
-    by UnknownRecord i = subst (λ (h : RecordFault). IsSeenWrong (gds ignore) xs at remaining (Record h)) (sym i)
+    by UnknownRecord i = subst (λ (h : RecordFault). IsSeenWrong (gds_faults ignore) xs at remaining (Record h)) (sym i)
         (known (λ z. (let y : UnknownRecord ≡ Truncated = i ∙ z in cc))
         (λ z. (let y : UnknownRecord ≡ Read = i ∙ z in cc)))
-    by TooLong i = subst (λ (h : RecordFault). IsSeenWrong (gds ignore) xs at remaining (Record h)) (sym i)
+    by TooLong i = subst (λ (h : RecordFault). IsSeenWrong (gds_faults ignore) xs at remaining (Record h)) (sym i)
         (known (λ z. (let y : TooLong ≡ Truncated = i ∙ z in cc)) (λ z. (let y : TooLong ≡ Read = i ∙ z in cc)))
 
 -- one more zero byte after ENDLIB
@@ -462,11 +463,11 @@ pub reads_failed : (ignore : Ignore) (xs : List ℕ) (at n : ℕ) (b : Builder) 
     (rest : List ℕ)
     → ReadTo (gds ignore) xs at (HoldsBy ignore b) was → b.stage ≡ Fill → drop at xs ≡ replicate n 0 ++ rest
     → n ≤ file_limit - at
-    → at ≤ file_limit → remaining ≡ Some (drop n (drop at xs)) → IsUnread (gds ignore) xs remaining (at + n)
+    → at ≤ file_limit → remaining ≡ Some (drop n (drop at xs)) → IsUnread (gds_faults ignore) xs remaining (at + n)
 reads_failed ignore xs at n b was remaining rest to e here room limit left =
     let more = reads_zeros ignore n xs at b was rest to e here (omega (arith, room, limit)) in
     let after : drop n (drop at xs) ≡ drop (at + n) xs = ap (drop n) here ∙ drop_zeros n rest ∙ sym more.2 in
-    reads_unread (gds ignore) xs (at + n) (HoldsBy ignore b) more.0 remaining more.1 [] (drop (at + n) xs) refl
+    reads_unread (gds_faults ignore) xs (at + n) (HoldsBy ignore b) more.0 remaining more.1 [] (drop (at + n) xs) refl
     (left ∙ ap (λ (i : List ℕ). Some i) after) (λ some. absurd (omega (arith, some)))
 
 -- a rule that a record breaches isn't a failed read
@@ -513,7 +514,7 @@ reads_tail ignore xs at new b was remaining hand TooLong to e limit x said starv
     (left (drop at xs) to.left_is ∙ ap (λ i. Some (drop i (drop at xs))) n))
 reads_tail ignore xs at new b was remaining hand Read to e limit x said starved left =
     let n : new - at ≡ x.0 = omega (arith, x.4) in
-    subst (IsUnread (gds ignore) xs remaining) (sym x.4)
+    subst (IsUnread (gds_faults ignore) xs remaining) (sym x.4)
     (reads_failed ignore xs at x.0 b was remaining x.1 to e x.3 x.2 limit
     (sym (starved refl) ∙ left (drop at xs) to.left_is ∙ ap (λ i. Some (drop i (drop at xs))) n))
 reads_tail ignore xs at new b was remaining hand other to e limit x said starved left = absurd x

@@ -1,4 +1,5 @@
--- Cells of figures, as a stream spells them, and cells of rings, as they are kept.
+-- Cells of figures, as a stream spells them (GDSII Stream Format Manual, Release 6, a structure from BGNSTR to ENDSTR),
+-- and cells of rings, as they are kept.
 use Rattle.lvl_path.specs.Figure.{Figure}
 use Rattle.lvl_cells.specs.Cells.{PlainShape, PlainCell, Rings}
 

@@ -1,5 +1,6 @@
 -- Records that are read and ignored (GDSII Stream Format Manual, Release 6, "Stream syntax"): they have the manual's
--- forms, come only where its syntax allows them, and mean nothing.
+-- data types, come only where its syntax allows them, and mean nothing. Own rule: those of text, as REFLIBS and FONTS,
+-- have any even length, also none.
 use Rattle.std.specs.Prelude.{◌≡◌, ◌==◌, ◌&&◌, ◌||◌, ◌⊎◌, ◌<◌, not, ℕ, Bool, true, false, if◌then◌else◌}
 use Rattle.std.specs.Prelude.{List, [], ◌∷◌, Option, Some, None}
 use Rattle.std.specs.Str.{bytes_eq}

@@ -6,5 +6,6 @@ pub mod Values
 pub mod Rules
 pub mod Ignoring
 pub mod Front
+pub mod Faults
 pub mod Ends
 pub mod inside

@@ -1,4 +1,5 @@
--- The rules that a record may breach, if no record is ignored.
+-- The rules that a record may breach, if no record is ignored (GDSII Stream Format Manual, Release 6, "Stream syntax";
+-- own rules: the name in a STRNAME, and how many cells a library may have).
 use Rattle.std.specs.Prelude.{◌≡◌, ◌≤◌, List, [], ◌∷◌, ◌++◌, length}
 use Rattle.lvl_grammar.specs.Order.{IsWord, Begins}
 use Rattle.gds_elements.specs.Types.{bgnstr, strname}

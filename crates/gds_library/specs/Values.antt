@@ -1,4 +1,4 @@
--- The library that a list of records means.
+-- The library that a list of records means (GDSII Stream Format Manual, Release 6, HEADER, UNITS, BGNSTR and STRNAME).
 use Rattle.std.specs.Prelude.{ℕ, List, [], ◌∷◌, map, take, drop}
 use Rattle.std.specs.List.{flat_map}
 use Rattle.gds_elements.specs.Types.{header, units, bgnstr, strname}

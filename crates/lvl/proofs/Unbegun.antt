@@ -5,9 +5,10 @@ use Rattle.lvl_profile.specs.declared.ignore.Ignore.{Ignore}
 use Rattle.lvl_grammar.specs.Refused.{IsTruncated}
 use Rattle.lvl_grammar.proofs.Orders.{empty_word}
 use Rattle.lvl_grammar.proofs.Stuck.{truncated_none}
-use Rattle.gds_library.specs.Front.{SpellsNone as SpellsNoGds, gds}
+use Rattle.gds_library.specs.Front.{SpellsNone as SpellsNoGds}
+use Rattle.gds_library.specs.Faults.{gds_faults}
 use Rattle.gds_library.specs.Order.{a_library}
-use Rattle.gds_library.proofs.Instance.{is_grammar}
+use Rattle.gds_library.proofs.Instance.{are_faults}
 use Rattle.gds_records.specs.declared.fault.RecordFault.TheVariants.{Truncated}
 use Rattle.gds_library.specs.declared.fault.GdsKind.TheVariants.{Record}
 use Rattle.lvl.specs.declared.layout.FileFault.TheVariants.{Gds as GdsFile}
@@ -15,7 +16,7 @@ use Rattle.lvl.specs.Layouts.{HasFirst, IsOasis}
 use Rattle.lvl.specs.Sides.{IsFileFault}
 use Rattle.lvl.proofs.Spelling.{no_gds}
 
-cut_at_once : (ignore : Ignore) → IsTruncated (gds ignore) [] 0
+cut_at_once : (ignore : Ignore) → IsTruncated (gds_faults ignore) [] 0
 cut_at_once ignore = record {
   within = omega arith;
   records = [];
@@ -26,7 +27,7 @@ cut_at_once ignore = record {
 
 no_library : (ignore : Ignore) → SpellsNoGds ignore []
 no_library ignore cells h s =
-    truncated_none (gds ignore) (is_grammar ignore) [] 0 (cut_at_once ignore) s.records s.whole
+    truncated_none (gds_faults ignore) (are_faults ignore) [] 0 (cut_at_once ignore) s.records s.whole
 
 no_magic : IsOasis [] → ⊥
 no_magic own = cc

@@ -32,7 +32,7 @@ pub record IsCheckedAs (k : Kept) (s : Settled) : Type 0 where
   pub cells : s.cells ≡ k.cells
   pub sound : IsSettled standard k.top s
 
--- the same, for some s
+-- the library passes the check of cells
 abbrev pub Passes : Kept → Type 0
 Passes k = (s : Settled) × IsCheckedAs k s
 

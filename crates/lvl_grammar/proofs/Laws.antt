@@ -5,26 +5,31 @@ use Rattle.std.proofs.lemmas.List.{append-nil, append_cancel_left}
 use Rattle.lvl_io.specs.Known.{Agree}
 use Rattle.lvl_grammar.specs.Grammar.{Grammar}
 use Rattle.lvl_grammar.specs.Front.{SpellsAll, FollowAll, IsFront, SpellsWhole}
+use Rattle.lvl_grammar.specs.Refused.{Faults}
 
 -- what a format has to prove
-pub record IsGrammar {R K : Type 0} (G : Grammar R K) : Type 0 where
+pub record IsGrammar {R : Type 0} (G : Grammar R) : Type 0 where
   -- after the same records, if two lists of bytes begin alike, they begin with the same record, spelled by the same
   -- bytes
   pub decided : (before : List R) (r s : R) (a b x y : List ℕ) → G.spells before a r → G.spells before b s
       → G.follows before r → G.follows before s → a ++ x ≡ b ++ y → (a ≡ b) × (r ≡ s)
   -- a record has at least one byte
   pub some : (before : List R) (a : List ℕ) (r : R) → G.spells before a r → 0 < length a
+
+-- and what of its faults
+pub record AreFaults {R K : Type 0} {G : Grammar R} (F : Faults G K) : Type 0 where
+  pub grammar : IsGrammar G
   -- a rule is breached only by bytes that are there
-  pub here : (before : List R) (room : ℕ) (ys : List ℕ) (k : K) → G.wrong before room ys k → 0 < length ys
+  pub here : (before : List R) (room : ℕ) (ys : List ℕ) (k : K) → F.wrong before room ys k → 0 < length ys
   -- bytes that breach a rule begin with no record that may follow
-  pub stops : (before : List R) (room : ℕ) (ys text : List ℕ) (r : R) (k : K) → G.wrong before room ys k
+  pub stops : (before : List R) (room : ℕ) (ys text : List ℕ) (r : R) (k : K) → F.wrong before room ys k
       → G.spells before text r → G.follows before r → Agree text ys → length text ≤ room → ⊥
   -- nor does an unfinished beginning of a record, in a file that isn't whole
-  pub cut : (before : List R) (ys text rest : List ℕ) (r : R) → G.begun before ys → ¬ G.ends before
+  pub cut : (before : List R) (ys text rest : List ℕ) (r : R) → F.begun before ys → ¬ G.ends before
       → G.spells before text r → G.follows before r → ys ≡ text ++ rest → ⊥
 
 -- the second front begins with the first
-pub record IsLongerFront {R K : Type 0} (G : Grammar R K) (before : List R) (a b : List ℕ) (rs ss : List R) : Type 0
+pub record IsLongerFront {R : Type 0} (G : Grammar R) (before : List R) (a b : List ℕ) (rs ss : List R) : Type 0
   where
     pub more : List R
     pub tail : List ℕ
@@ -33,7 +38,7 @@ pub record IsLongerFront {R K : Type 0} (G : Grammar R K) (before : List R) (a b
     pub spelled : SpellsAll G (before ++ rs) tail more
     pub followed : FollowAll G (before ++ rs) more
 
-from_nothing : {R K : Type 0} (G : Grammar R K) (before : List R) (a b : List ℕ) (ss : List R) → a ≡ []
+from_nothing : {R : Type 0} (G : Grammar R) (before : List R) (a b : List ℕ) (ss : List R) → a ≡ []
     → SpellsAll G before b ss → FollowAll G before ss → IsLongerFront G before a b [] ss
 from_nothing G before a b ss e p f = record {
   more = ss;
@@ -44,7 +49,7 @@ from_nothing G before a b ss e p f = record {
   followed = subst (λ l. FollowAll G l ss) (sym (append-nil before)) f;
 }
 
-one_more : {R K : Type 0} (G : Grammar R K) (before : List R) (r : R) (first a b a' b' : List ℕ) (rs ss : List R)
+one_more : {R : Type 0} (G : Grammar R) (before : List R) (r : R) (first a b a' b' : List ℕ) (rs ss : List R)
     → a' ≡ first ++ a → b' ≡ first ++ b → IsLongerFront G (before ++ r ∷ []) a b rs ss
     → IsLongerFront G before a' b' (r ∷ rs) (r ∷ ss)
 one_more G before r first a b a' b' rs ss e f h = record {
@@ -57,7 +62,7 @@ one_more G before r first a b a' b' rs ss e f h = record {
 }
 
 -- of two fronts that agree, one begins with the other
-pub one_reading : {R K : Type 0} (G : Grammar R K) → IsGrammar G → (before : List R) (rs ss : List R) (a b x y : List ℕ)
+pub one_reading : {R : Type 0} (G : Grammar R) → IsGrammar G → (before : List R) (rs ss : List R) (a b x y : List ℕ)
     → SpellsAll G before a rs → FollowAll G before rs → SpellsAll G before b ss → FollowAll G before ss
     → a ++ x ≡ b ++ y
     → IsLongerFront G before a b rs ss ⊎ IsLongerFront G before b a ss rs
@@ -80,21 +85,21 @@ one_reading G is before (r ∷ rs) (s ∷ ss) a b x y p f q g e =
     ])
 
 -- an empty list of bytes spells no record
-pub spells_empty : {R K : Type 0} (G : Grammar R K) → IsGrammar G → (before : List R) (bytes : List ℕ) (rs : List R)
+pub spells_empty : {R : Type 0} (G : Grammar R) → IsGrammar G → (before : List R) (bytes : List ℕ) (rs : List R)
     → length bytes ≡ 0 → SpellsAll G before bytes rs → rs ≡ []
 spells_empty G is before bytes [] n p = refl
 spells_empty G is before bytes (r ∷ rs) n p =
     absurd (omega (arith, n, is.some before p.0 r p.2, ap length p.4, length-append p.0 p.1))
 
 -- a front that begins with another of at least its length has the same records
-pub goes_same : {R K : Type 0} (G : Grammar R K) → IsGrammar G → (a b : List ℕ) (rs ss : List R) → length b ≤ length a
+pub goes_same : {R : Type 0} (G : Grammar R) → IsGrammar G → (a b : List ℕ) (rs ss : List R) → length b ≤ length a
     → IsLongerFront G [] a b rs ss → ss ≡ rs
 goes_same G is a b rs ss l h =
     let n : length h.tail ≡ 0 = omega (arith, ap length h.bytes_are, length-append a h.tail, l) in
     h.records_are ∙ ap (λ m. rs ++ m) (spells_empty G is ([] ++ rs) h.tail h.more n h.spelled) ∙ append-nil rs
 
 -- the bytes of a front decide its records
-pub same_records : {R K : Type 0} (G : Grammar R K) → IsGrammar G → (xs : List ℕ) (rs ss : List R) → IsFront G xs rs
+pub same_records : {R : Type 0} (G : Grammar R) → IsGrammar G → (xs : List ℕ) (rs ss : List R) → IsFront G xs rs
     → IsFront G xs ss → rs ≡ ss
 same_records G is xs rs ss p q =
     elim (one_reading G is [] rs ss xs xs [] [] p.spelled p.followed q.spelled q.followed refl) [
@@ -103,6 +108,6 @@ same_records G is xs rs ss p q =
     ]
 
 -- a file has one reading
-pub one_whole : {R K : Type 0} (G : Grammar R K) → IsGrammar G → (xs : List ℕ) (rs ss : List R) → SpellsWhole G xs rs
+pub one_whole : {R : Type 0} (G : Grammar R) → IsGrammar G → (xs : List ℕ) (rs ss : List R) → SpellsWhole G xs rs
     → SpellsWhole G xs ss → rs ≡ ss
 one_whole G is xs rs ss p q = same_records G is xs rs ss p.front q.front

@@ -6,13 +6,13 @@ use Rattle.std.specs.Prelude.{Option, Some}
 use Rattle.std.proofs.lemmas.List.{take-append-drop}
 use Rattle.lvl_grammar.specs.Grammar.{Grammar}
 use Rattle.lvl_grammar.specs.Front.{IsFront}
-use Rattle.lvl_grammar.specs.Refused.{IsFrontAt, IsUnread}
+use Rattle.lvl_grammar.specs.Refused.{Faults, IsFrontAt, IsUnread}
 use Rattle.lvl_grammar.specs.inside.ReadTo.{ReadTo}
 use Rattle.lvl_grammar.proofs.Spelled.{spells_join, follow_join}
 use Rattle.lvl_grammar.proofs.Stuck.{parts_at}
 
 -- at the beginning nothing has been read
-pub reads_begin : {R K : Type 0} (G : Grammar R K) (xs : List ℕ) (Has : List R → Type 0) (left : Option (List ℕ))
+pub reads_begin : {R : Type 0} (G : Grammar R) (xs : List ℕ) (Has : List R → Type 0) (left : Option (List ℕ))
     → left ≡ Some xs → Has [] → ReadTo G xs 0 Has left
 reads_begin G xs Has left e h = record {
   records = [];
@@ -23,16 +23,16 @@ reads_begin G xs Has left e h = record {
 }
 
 -- if the reader failed, what was read before is a front
-pub unread_front : {R K : Type 0} (G : Grammar R K) (xs : List ℕ) (left : Option (List ℕ)) (at : ℕ)
-    → IsUnread G xs left at → IsFrontAt G xs at
-unread_front G xs left at u = record { within = u.within; records = u.records; front = u.front }
+pub unread_front : {R K : Type 0} {G : Grammar R} (F : Faults G K) (xs : List ℕ) (left : Option (List ℕ)) (at : ℕ)
+    → IsUnread F xs left at → IsFrontAt G xs at
+unread_front F xs left at u = record { within = u.within; records = u.records; front = u.front }
 
 -- a reader that fails after some records has given the first of the bytes that follow them
-pub reads_unread : {R K : Type 0} (G : Grammar R K) (xs : List ℕ) (at : ℕ) (Has : List R → Type 0)
+pub reads_unread : {R K : Type 0} {G : Grammar R} (F : Faults G K) (xs : List ℕ) (at : ℕ) (Has : List R → Type 0)
     (was left : Option (List ℕ)) (to : ReadTo G xs at Has was) (given rest : List ℕ)
-    → drop at xs ≡ given ++ rest → left ≡ Some rest → (0 < length given → G.begun to.records given)
-    → IsUnread G xs left at
-reads_unread G xs at Has was left to given rest parts is begun = record {
+    → drop at xs ≡ given ++ rest → left ≡ Some rest → (0 < length given → F.begun to.records given)
+    → IsUnread F xs left at
+reads_unread F xs at Has was left to given rest parts is begun = record {
   within = to.within;
   records = to.records;
   front = to.front;
@@ -44,7 +44,7 @@ reads_unread G xs at Has was left to given rest parts is begun = record {
 }
 
 -- a front followed by one more record
-pub front_on : {R K : Type 0} (G : Grammar R K) (bytes text : List ℕ) (rs : List R) (r : R) → IsFront G bytes rs
+pub front_on : {R : Type 0} (G : Grammar R) (bytes text : List ℕ) (rs : List R) (r : R) → IsFront G bytes rs
     → G.spells rs text r → G.follows rs r → length (bytes ++ text) ≤ G.limit → IsFront G (bytes ++ text) (rs ++ r ∷ [])
 front_on G bytes text rs r f s g l = record {
   spelled = spells_join G [] bytes text rs r f.spelled s;
@@ -53,7 +53,7 @@ front_on G bytes text rs r f s g l = record {
 }
 
 -- reading one more record
-pub reads_on : {R K : Type 0} (G : Grammar R K) (xs : List ℕ) (at : ℕ) (Has Has' : List R → Type 0)
+pub reads_on : {R : Type 0} (G : Grammar R) (xs : List ℕ) (at : ℕ) (Has Has' : List R → Type 0)
     (left : Option (List ℕ)) (to : ReadTo G xs at Has left) (r : R) (text rest : List ℕ)
     → drop at xs ≡ text ++ rest → G.spells to.records text r → G.follows to.records r
     → length text ≤ G.limit - at → Has' (to.records ++ r ∷ []) → ReadTo G xs (at + length text) Has' (Some rest)

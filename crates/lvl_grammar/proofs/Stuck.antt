@@ -7,13 +7,13 @@ use Rattle.std.proofs.lemmas.List.{append-nil, append_cancel_left, take-append-d
 use Rattle.lvl_io.specs.Known.{Agree}
 use Rattle.lvl_grammar.specs.Grammar.{Grammar}
 use Rattle.lvl_grammar.specs.Front.{SpellsAll, FollowAll, IsFront, SpellsWhole, SpellsNothing}
-use Rattle.lvl_grammar.specs.Refused.{IsStuck, IsBreached, IsTruncated, IsHopeless}
+use Rattle.lvl_grammar.specs.Refused.{Faults, IsStuck, IsBreached, IsTruncated, IsHopeless}
 use Rattle.lvl_grammar.specs.inside.ReadTo.{IsSeenWrong}
 use Rattle.lvl_grammar.proofs.Agreeing.{agree_ends, ends_agree}
-use Rattle.lvl_grammar.proofs.Laws.{IsGrammar, one_reading, goes_same}
+use Rattle.lvl_grammar.proofs.Laws.{IsGrammar, AreFaults, one_reading, goes_same}
 
 -- a record that goes on from a front, agrees with the bytes after it, and is within the limit
-record IsNext {R K : Type 0} (G : Grammar R K) (records : List R) (room : ℕ) (ys : List ℕ) : Type 0 where
+record IsNext {R : Type 0} (G : Grammar R) (records : List R) (room : ℕ) (ys : List ℕ) : Type 0 where
   r : R
   text : List ℕ
   spelled : G.spells records text r
@@ -21,7 +21,7 @@ record IsNext {R K : Type 0} (G : Grammar R K) (records : List R) (room : ℕ) (
   agrees : Agree text ys
   within : length text ≤ room
 
-next_of : {R K : Type 0} (G : Grammar R K) (front ys bytes x y : List ℕ) (rs ss more : List R) (tail : List ℕ)
+next_of : {R : Type 0} (G : Grammar R) (front ys bytes x y : List ℕ) (rs ss more : List R) (tail : List ℕ)
     → SpellsAll G rs tail more → FollowAll G rs more
     → bytes ≡ front ++ tail → length front < length bytes → length bytes ≤ G.limit → front ++ (ys ++ x) ≡ bytes ++ y
     → IsNext G rs (G.limit - length front) ys
@@ -40,7 +40,7 @@ next_of G front ys bytes x y rs ss (r ∷ more) tail p f e l w h =
     }
 
 -- a longer front that agrees with the input has a next record
-goes_on : {R K : Type 0} (G : Grammar R K) → IsGrammar G → (xs : List ℕ) (at : ℕ) (rs ss : List R) (bytes : List ℕ)
+goes_on : {R : Type 0} (G : Grammar R) → IsGrammar G → (xs : List ℕ) (at : ℕ) (rs ss : List R) (bytes : List ℕ)
     → at ≤ length xs → IsFront G (take at xs) rs → IsFront G bytes ss → at < length bytes → Agree bytes xs
     → IsNext G rs (G.limit - at) (drop at xs)
 goes_on G is xs at rs ss bytes within front next long agree =
@@ -57,52 +57,54 @@ goes_on G is xs at rs ss bytes within front next long agree =
     ])
 
 -- if a rule is breached, the input is stuck
-pub law_stuck : {R K : Type 0} (G : Grammar R K) → IsGrammar G → (xs : List ℕ) (at : ℕ) (rs : List R) (k : K)
-    → at ≤ length xs → IsFront G (take at xs) rs → G.wrong rs (G.limit - at) (drop at xs) k → IsStuck G xs at
-law_stuck G is xs at rs k within front wrong = record {
+pub law_stuck : {R K : Type 0} {G : Grammar R} (F : Faults G K) → AreFaults F
+    → (xs : List ℕ) (at : ℕ) (rs : List R) (k : K)
+    → at ≤ length xs → IsFront G (take at xs) rs → F.wrong rs (G.limit - at) (drop at xs) k → IsStuck G xs at
+law_stuck {G = G} F is xs at rs k within front wrong = record {
   some = omega (arith, is.here rs (G.limit - at) (drop at xs) k wrong, length-drop at xs, within);
   records = rs;
   front = front;
   none = λ ss bytes next long agree.
-      let n = goes_on G is xs at rs ss bytes within front next long agree in
+      let n = goes_on G is.grammar xs at rs ss bytes within front next long agree in
       is.stops rs (G.limit - at) (drop at xs) n.text n.r k wrong n.spelled n.followed n.agrees n.within;
 }
 
 -- a stuck input is no whole file
-pub stuck_none : {R K : Type 0} (G : Grammar R K) (xs : List ℕ) (at : ℕ) → IsStuck G xs at → SpellsNothing G xs
+pub stuck_none : {R : Type 0} (G : Grammar R) (xs : List ℕ) (at : ℕ) → IsStuck G xs at → SpellsNothing G xs
 stuck_none G xs at s records p = s.none records xs p.front s.some ([], inl (sym (append-nil xs)))
 
-cut_by : {R K : Type 0} (G : Grammar R K) → IsGrammar G
-    → (xs : List ℕ) (at : ℕ) (t : IsTruncated G xs at) (records : List R) → SpellsWhole G xs records
+cut_by : {R K : Type 0} {G : Grammar R} (F : Faults G K) → AreFaults F
+    → (xs : List ℕ) (at : ℕ) (t : IsTruncated F xs at) (records : List R) → SpellsWhole G xs records
     → (more : List R) (tail : List ℕ)
     → records ≡ t.records ++ more → xs ≡ take at xs ++ tail → SpellsAll G t.records tail more
     → FollowAll G t.records more → ⊥
-cut_by G is xs at t records p [] tail e b s f = t.unended (subst G.ends (e ∙ append-nil t.records) p.whole)
-cut_by G is xs at t records p (r ∷ more) tail e b s f =
+cut_by {G = G} F is xs at t records p [] tail e b s f = t.unended (subst G.ends (e ∙ append-nil t.records) p.whole)
+cut_by {G = G} F is xs at t records p (r ∷ more) tail e b s f =
     let here : drop at xs ≡ s.0 ++ s.1 = append_cancel_left (take at xs) (drop at xs) (s.0 ++ s.1)
     (take-append-drop at xs ∙ b ∙ ap (λ l. take at xs ++ l) s.4) in
     is.cut t.records (drop at xs) s.0 s.1 r t.cut t.unended s.2 f.0 here
 
 -- nor is a truncated one
-pub truncated_none : {R K : Type 0} (G : Grammar R K) → IsGrammar G → (xs : List ℕ) (at : ℕ) → IsTruncated G xs at
+pub truncated_none : {R K : Type 0} {G : Grammar R} (F : Faults G K) → AreFaults F
+    → (xs : List ℕ) (at : ℕ) → IsTruncated F xs at
     → SpellsNothing G xs
-truncated_none G is xs at t records p =
-    elim (one_reading G is [] t.records records (take at xs) xs (drop at xs) [] t.front.spelled t.front.followed
+truncated_none {G = G} F is xs at t records p =
+    elim (one_reading G is.grammar [] t.records records (take at xs) xs (drop at xs) [] t.front.spelled t.front.followed
     p.front.spelled p.front.followed (take-append-drop at xs ∙ sym (append-nil xs))) [
-      | inl m ↦ cut_by G is xs at t records p m.more m.tail m.records_are m.bytes_are m.spelled m.followed
+      | inl m ↦ cut_by F is xs at t records p m.more m.tail m.records_are m.bytes_are m.spelled m.followed
       | inr m ↦
-          t.unended (subst G.ends (sym (goes_same G is xs (take at xs) records t.records
+          t.unended (subst G.ends (sym (goes_same G is.grammar xs (take at xs) records t.records
           (omega (arith, length-take at xs, t.within)) m)) p.whole)
     ]
 
 -- what is seen to be wrong breaches a rule, and the input is stuck
-pub seen_stuck : {R K : Type 0} (G : Grammar R K) → IsGrammar G
-    → (xs : List ℕ) (at : ℕ) (left : Option (List ℕ)) (k : K) → IsSeenWrong G xs at left k
-    → IsStuck G xs at × IsBreached G xs at k
-seen_stuck G is xs at left k s =
-    let wrong : G.wrong s.records (G.limit - at) (drop at xs) k = subst (λ l. G.wrong s.records (G.limit - at) l k)
+pub seen_stuck : {R K : Type 0} {G : Grammar R} (F : Faults G K) → AreFaults F
+    → (xs : List ℕ) (at : ℕ) (left : Option (List ℕ)) (k : K) → IsSeenWrong F xs at left k
+    → IsStuck G xs at × IsBreached F xs at k
+seen_stuck {G = G} F is xs at left k s =
+    let wrong : F.wrong s.records (G.limit - at) (drop at xs) k = subst (λ l. F.wrong s.records (G.limit - at) l k)
     (sym s.parts) (s.wrong s.rest) in (
-      law_stuck G is xs at s.records k s.within s.front wrong,
+      law_stuck F is xs at s.records k s.within s.front wrong,
       record {
         records = s.records;
         front = s.front;
@@ -121,9 +123,9 @@ parts_at xs a b n e h = (
 )
 
 -- no whole file begins with the bytes that were taken
-pub seen_hopeless : {R K : Type 0} (G : Grammar R K) → IsGrammar G
-    → (xs : List ℕ) (at : ℕ) (left : Option (List ℕ)) (k : K) → IsSeenWrong G xs at left k → IsHopeless G xs left
-seen_hopeless G is xs at left k s = record {
+pub seen_hopeless : {R K : Type 0} {G : Grammar R} (F : Faults G K) → AreFaults F
+    → (xs : List ℕ) (at : ℕ) (left : Option (List ℕ)) (k : K) → IsSeenWrong F xs at left k → IsHopeless G xs left
+seen_hopeless {G = G} F is xs at left k s = record {
   taken = take at xs ++ s.seen;
   some =
       let seen = is.here s.records (G.limit - at) (s.seen ++ []) k (s.wrong []) in
@@ -137,9 +139,9 @@ seen_hopeless G is xs at left k s = record {
       let n : at ≡ length (take at xs) = omega (arith, length-take at xs, s.within) in
       let z = parts_at zs (take at xs) (s.seen ++ more) at (append_assoc (take at xs) s.seen more) n in
       let front : IsFront G (take at zs) s.records = subst (λ l. IsFront G l s.records) (sym z.0) s.front in
-      let wrong : G.wrong s.records (G.limit - at) (drop at zs) k = subst (λ l. G.wrong s.records (G.limit - at) l k)
+      let wrong : F.wrong s.records (G.limit - at) (drop at zs) k = subst (λ l. F.wrong s.records (G.limit - at) l k)
       (sym z.1) (s.wrong more) in
       let within : at ≤ length zs =
       omega (arith, n, length-append (take at xs) s.seen, length-append (take at xs ++ s.seen) more) in
-      stuck_none G zs at (law_stuck G is zs at s.records k within front wrong);
+      stuck_none G zs at (law_stuck F is zs at s.records k within front wrong);
 }

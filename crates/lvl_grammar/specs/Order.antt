@@ -12,10 +12,12 @@ pub data Order : Type 0 where
   many : Order → Order
 
 infixr 10 ◌then◌
+-- one expression and then another
 abbrev pub ◌then◌ : Order → Order → Order
 a then b = next a b
 
 infixr 9 ◌or◌
+-- either of two
 abbrev pub ◌or◌ : Order → Order → Order
 a or b = either a b
 

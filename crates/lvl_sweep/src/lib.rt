@@ -3,7 +3,7 @@
 //! A band is some consecutive rows in which the same intervals are covered; the slab list of rings
 //! is the list of their bands. A [`Sweep`] computes it band by band, and allocates only when it is
 //! made. [`first_difference_of`] compares two lists of rings by two sweeps in step. [`SlabRegion`]
-//! is a region that stores the whole list.
+//! is a region that stores the whole list. `docs/SWEEP.md` says how a sweep keeps its edges, with an example.
 //!
 //! ```
 //! use lvl_grid::{Point, Ring, Rings};

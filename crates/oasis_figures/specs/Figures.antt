@@ -31,6 +31,7 @@ use Rattle.oasis_figures.specs.declared.drawn.Drawn.TheVariants.{Ring, Rings, Pl
 abbrev pub number : Option ℕ → ℕ
 number n = value_or n 0
 
+-- a Layer
 abbrev pub layer_by : ℕ → ℕ → Layer
 layer_by layer datatype = record { layer = layer; datatype = datatype }
 
@@ -61,13 +62,15 @@ abbrev pub reach : Option ℤ → ℕ
 reach (Some (pos n)) = n
 reach z = 0
 
--- half the width of the latest path, and how far it reaches beyond its ends
+-- half the width of the latest path
 abbrev pub half_of : List Record → ℕ
 half_of records = number (modal half_width_set records)
 
+-- how far the latest path reaches beyond its start
 abbrev pub start_of : List Record → ℕ
 start_of records = reach (modal start_set records)
 
+-- how far the latest path reaches beyond its end
 abbrev pub end_of : List Record → ℕ
 end_of records = reach (modal end_set records)
 
@@ -104,7 +107,7 @@ is_number n (Reciprocal k) = n * k == 1
 is_number n (Ratio k m) = k == n * m
 is_number n r = false
 
--- the turn by an angle in degrees; None if the angle isn't 0, 90, 180 or 270
+-- the turn by an angle that is 0, 90, 180 or 270 degrees as a real of type 0, 2 or 4; None for any other (own rule)
 abbrev pub turn_by : Real → Option Turn
 turn_by a =
     if is_number 0 a then Some R0
@@ -112,13 +115,13 @@ turn_by a =
     else (if is_number 180 a then Some R180
     else (if is_number 270 a then Some R270 else None)))
 
--- without an angle there is no turn, and without a magnification it is 1
-
+-- the turn of a placement; without an angle there is none
 abbrev pub turn_of : Transform → Option Turn
 turn_of (Turned t) = Some t
 turn_of (Scaled m None) = Some R0
 turn_of (Scaled m (Some a)) = turn_by a
 
+-- whether the magnification of a placement isn't 1; without one it is 1
 abbrev pub is_magnified : Transform → Bool
 is_magnified (Turned t) = false
 is_magnified (Scaled None a) = false

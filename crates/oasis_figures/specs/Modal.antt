@@ -19,46 +19,51 @@ value_or None other = other
 value_or (Some x) other = x
 
 -- the value of a variable: that of the latest record which set it, or None. `f earlier r` is what the record r sets it
--- to after the records `earlier`
+-- to after the records `earlier`; a field that is in a record sets its variable
 abbrev pub modal : {A : Type 0} → (List Record → Record → Option A) → List Record → Option A
 modal f [] = None
 modal f (r ∷ earlier) = option_or (f earlier r) (modal f earlier)
 
--- a field that is in a record sets its variable
-
+-- placement-cell
 abbrev pub cell_set : List Record → Record → Option CellRef
 cell_set earlier (Placement p) = p.cell
 cell_set earlier r = None
 
+-- layer
 abbrev pub layer_set : List Record → Record → Option ℕ
 layer_set earlier (Rectangle r) = r.on.layer
 layer_set earlier (Polygon p) = p.on.layer
 layer_set earlier (Path p) = p.on.layer
 layer_set earlier r = None
 
+-- datatype
 abbrev pub datatype_set : List Record → Record → Option ℕ
 datatype_set earlier (Rectangle r) = r.on.datatype
 datatype_set earlier (Polygon p) = p.on.datatype
 datatype_set earlier (Path p) = p.on.datatype
 datatype_set earlier r = None
 
+-- geometry-w
 abbrev pub width_set : List Record → Record → Option ℕ
 width_set earlier (Rectangle r) = r.width
 width_set earlier r = None
 
--- a square's height is its width; own rule: it sets the variable too
+-- geometry-h; a square's height is its width (own rule: it sets the variable too)
 abbrev pub height_set : List Record → Record → Option ℕ
 height_set earlier (Rectangle r) = if r.is_square then modal width_set (Rectangle r ∷ earlier) else r.height
 height_set earlier r = None
 
+-- polygon-point-list
 abbrev pub polygon_set : List Record → Record → Option (List Point)
 polygon_set earlier (Polygon p) = p.points
 polygon_set earlier r = None
 
+-- path-halfwidth
 abbrev pub half_width_set : List Record → Record → Option ℕ
 half_width_set earlier (Path p) = p.half_width
 half_width_set earlier r = None
 
+-- path-point-list
 abbrev pub path_set : List Record → Record → Option (List Point)
 path_set earlier (Path p) = p.points
 path_set earlier r = None
@@ -70,10 +75,12 @@ extended half Flush = Some (pos 0)
 extended half HalfWidth = option_map pos half
 extended half (Explicit z) = Some z
 
+-- path-start-extension, which may be half of the width after the record
 abbrev pub start_set : List Record → Record → Option ℤ
 start_set earlier (Path p) = option_and_then (λ e. extended (modal half_width_set (Path p ∷ earlier)) e.start) p.ends
 start_set earlier r = None
 
+-- path-end-extension, likewise
 abbrev pub end_set : List Record → Record → Option ℤ
 end_set earlier (Path p) = option_and_then (λ e. extended (modal half_width_set (Path p ∷ earlier)) e.end) p.ends
 end_set earlier r = None
@@ -93,17 +100,17 @@ listed (Some (New shifts)) = Some shifts
 listed (Some Same) = None
 listed None = None
 
+-- repetition: a record that has a repetition of its own sets it
 abbrev pub repetition_set : List Record → Record → Option (List Point)
 repetition_set earlier r = listed (repetition_of r)
 
--- the mode is relative (true) after XYRELATIVE and absolute after XYABSOLUTE and at the beginning of a cell
-
+-- xy-mode, as whether it is relative: XYRELATIVE and XYABSOLUTE set it
 abbrev pub mode_set : List Record → Record → Option Bool
 mode_set earlier XyAbsolute = Some false
 mode_set earlier XyRelative = Some true
 mode_set earlier r = None
 
--- whether the mode is relative
+-- whether the mode is relative; it is absolute at the beginning of a cell
 abbrev pub is_relative : List Record → Bool
 is_relative records = value_or (modal mode_set records) false
 
@@ -119,32 +126,35 @@ abbrev pub coordinate : (Record → Option ℤ) → List Record → ℤ
 coordinate given [] = pos 0
 coordinate given (r ∷ earlier) = stepped (given r) (is_relative earlier) (coordinate given earlier)
 
--- the x and the y in the record of a figure
+-- the x in the record of a figure
 abbrev pub geometry_x : Record → Option ℤ
 geometry_x (Rectangle r) = r.position.x
 geometry_x (Polygon p) = p.position.x
 geometry_x (Path p) = p.position.x
 geometry_x r = None
 
+-- the y in the record of a figure
 abbrev pub geometry_y : Record → Option ℤ
 geometry_y (Rectangle r) = r.position.y
 geometry_y (Polygon p) = p.position.y
 geometry_y (Path p) = p.position.y
 geometry_y r = None
 
--- the x and the y in the record of a placement
+-- the x in the record of a placement
 abbrev pub placement_x : Record → Option ℤ
 placement_x (Placement p) = p.position.x
 placement_x r = None
 
+-- the y in the record of a placement
 abbrev pub placement_y : Record → Option ℤ
 placement_y (Placement p) = p.position.y
 placement_y r = None
 
--- the positions of the latest figure and of the latest placement
+-- geometry-x and geometry-y: the position of the latest figure
 abbrev pub geometry : List Record → Point
 geometry records = record { x = coordinate geometry_x records; y = coordinate geometry_y records }
 
+-- placement-x and placement-y: the position of the latest placement
 abbrev pub placement : List Record → Point
 placement records = record { x = coordinate placement_x records; y = coordinate placement_y records }
 

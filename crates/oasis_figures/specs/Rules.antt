@@ -1,4 +1,5 @@
--- The rules that a record of a cell may breach. `earlier` are the records of the cell before it, the latest first.
+-- The rules that a record of a cell may breach (SEMI P39 OASIS 1.0, "Modal variables"; all but Undefined are own
+-- rules). `earlier` are the records of the cell before it, the latest first.
 use Rattle.std.specs.Prelude.{◌≡◌, ℕ, ◌<◌, ◌^◌, ◌||◌, ℤ, negsuc, Bool, true, false, is_some, if◌then◌else◌, List, []}
 use Rattle.std.specs.Prelude.{◌∷◌, Option, Some, None, All}
 use Rattle.lvl_grid.specs.Turn.{FitsPoint, shifted}
@@ -59,6 +60,7 @@ abbrev pub first_undefined : (Variable → Bool) → List Variable → Option Va
 first_undefined defined [] = None
 first_undefined defined (v ∷ vs) = if defined v then first_undefined defined vs else Some v
 
+-- the layer and the datatype are below 2^32 (own rule)
 abbrev pub AreNarrow : ℕ → ℕ → Type 0
 AreNarrow layer datatype = (layer < 2 ^ 32) × (datatype < 2 ^ 32)
 
@@ -85,16 +87,17 @@ LeavesRange earlier (Placement p) =
     × All (λ e. FitsPoint (shifted (placement (Placement p ∷ earlier)) e)) (shifts_of earlier (Placement p)))
 LeavesRange earlier r = ⊥
 
--- a placement has a magnification other than 1 (own rule)
+-- a placement has a magnification that isn't 1 as a real of type 0, 2 or 4 (own rule)
 abbrev pub IsMagnified : Record → Type 0
 IsMagnified (Placement p) = is_magnified p.transform ≡ true
 IsMagnified r = ⊥
 
--- a placement has an angle other than 0, 90, 180 and 270 (own rule)
+-- a placement has an angle that isn't 0, 90, 180 or 270 as a real of type 0, 2 or 4 (own rule)
 abbrev pub IsTurnedOtherwise : Record → Type 0
 IsTurnedOtherwise (Placement p) = turn_of p.transform ≡ None
 IsTurnedOtherwise r = ⊥
 
+-- whether the extension is negative
 abbrev pub is_negative : Option ℤ → Bool
 is_negative (Some (negsuc n)) = true
 is_negative z = false
@@ -117,6 +120,7 @@ IsPathFault records f =
     IsLowestFault (path_points records)
     (record { half = half_of records; start = start_of records; end = end_of records }) f
 
+-- the record is a path that breaches this rule, and none with a lower number
 abbrev pub HasPathFault : List Record → Record → PathFault → Type 0
 HasPathFault earlier (Path p) f = IsPathFault (Path p ∷ earlier) f
 HasPathFault earlier r f = ⊥

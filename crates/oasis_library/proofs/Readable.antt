@@ -15,12 +15,13 @@ use Rattle.lvl_profile.specs.declared.ignore.Ignore.{Ignore}
 use Rattle.oasis_values.specs.declared.fault.ValueFault.TheVariants.{Truncated, Read}
 use Rattle.oasis_stream.specs.Ends.{ReportsAt}
 use Rattle.oasis_stream.specs.Front.{oasis}
+use Rattle.oasis_stream.specs.Faults.{oasis_faults}
 use Rattle.oasis_stream.specs.Items.{Item, records}
 use Rattle.oasis_stream.specs.Order.{names_in}
 use Rattle.oasis_stream.specs.inside.Refuses.{RefusesAt}
 use Rattle.oasis_stream.specs.declared.fault.OasisKind.{OasisKind}
 use Rattle.oasis_stream.specs.declared.fault.OasisKind.TheVariants.{Value}
-use Rattle.oasis_stream.proofs.Instance.{is_grammar}
+use Rattle.oasis_stream.proofs.Instance.{is_grammar, are_faults}
 use Rattle.oasis_library.specs.Cells.{drawings, with_rings}
 use Rattle.oasis_library.specs.Ends.{Reports, ReportsUnread, ReportsUnresolved, IsExcused, IsEarly}
 use Rattle.oasis_library.specs.Head.{head_of}
@@ -92,8 +93,8 @@ none_resolved ignore xs n t cells h p =
 reports_at : (ignore : Ignore) (xs : List ℕ) (left : Option (List ℕ)) (at : ℕ) (k : OasisKind)
     → RefusesAt ignore xs left at k → ReportsAt ignore xs at k
 reports_at ignore xs left at (Value Truncated) x = x
-reports_at ignore xs left at (Value Read) x = unread_front (oasis ignore) xs left at x
-reports_at ignore xs left at other x = seen_stuck (oasis ignore) (is_grammar ignore) xs at left other x
+reports_at ignore xs left at (Value Read) x = unread_front (oasis_faults ignore) xs left at x
+reports_at ignore xs left at other x = seen_stuck (oasis_faults ignore) (are_faults ignore) xs at left other x
 
 reports : (ignore : Ignore) (xs : List ℕ) (left : Option (List ℕ)) (f : OasisFault) → Refuses ignore xs left f
     → Reports ignore xs f
@@ -105,11 +106,11 @@ none_at : (ignore : Ignore) (xs : List ℕ) (left : Option (List ℕ)) (at : ℕ
     → (IsExcused (At at k) → ⊥)
     → SpellsNone ignore xs
 none_at ignore xs left at (Value Truncated) x n = none_spelled ignore xs
-    (truncated_none (oasis ignore) (is_grammar ignore) xs at x)
+    (truncated_none (oasis_faults ignore) (are_faults ignore) xs at x)
 none_at ignore xs left at (Value Read) x n = absurd (n tt)
 none_at ignore xs left at other x n =
     none_spelled ignore xs (stuck_none (oasis ignore) xs at
-    (seen_stuck (oasis ignore) (is_grammar ignore) xs at left other x).0)
+    (seen_stuck (oasis_faults ignore) (are_faults ignore) xs at left other x).0)
 
 none_of : (ignore : Ignore) (xs : List ℕ) (left : Option (List ℕ)) (f : OasisFault) → Refuses ignore xs left f
     → (IsExcused f → ⊥)
@@ -122,7 +123,7 @@ early_at : (ignore : Ignore) (xs : List ℕ) (left : Option (List ℕ)) (at : �
     → IsHopeless (oasis ignore) xs left
 early_at ignore xs left at (Value Truncated) x i = absurd i
 early_at ignore xs left at (Value Read) x i = absurd i
-early_at ignore xs left at other x i = seen_hopeless (oasis ignore) (is_grammar ignore) xs at left other x
+early_at ignore xs left at other x i = seen_hopeless (oasis_faults ignore) (are_faults ignore) xs at left other x
 
 early_of : (ignore : Ignore) (xs : List ℕ) (left : Option (List ℕ)) (f : OasisFault) → Refuses ignore xs left f
     → IsEarly f

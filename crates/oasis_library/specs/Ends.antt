@@ -1,4 +1,4 @@
--- What a refusal says about the input.
+-- What a refusal says about the input (own rule).
 use Rattle.std.specs.Prelude.{ℕ, Bool, false, List, Option, Result, Ok, Err}
 use Rattle.lvl_refusal.specs.declared.Cause.{Cause}
 use Rattle.lvl_refusal.specs.declared.Cause.TheVariants.{Breach, OutOfMemory}
@@ -8,6 +8,7 @@ use Rattle.lvl_profile.specs.declared.ignore.Ignore.{Ignore}
 use Rattle.oasis_values.specs.declared.fault.ValueFault.TheVariants.{Truncated, Read}
 use Rattle.oasis_stream.specs.Ends.{ReportsAt, is_read_kind}
 use Rattle.oasis_stream.specs.Front.{oasis}
+use Rattle.oasis_stream.specs.Faults.{oasis_faults}
 use Rattle.oasis_stream.specs.Items.{Item, records}
 use Rattle.oasis_stream.specs.Order.{names_in}
 use Rattle.oasis_stream.specs.declared.fault.OasisKind.TheVariants.{Value}
@@ -35,7 +36,7 @@ IsExcused f = ⊥
 -- if the reader failed, the bytes before the offset are a front; of those from it on, the ones that it gave are none or
 -- an unfinished beginning of a record, and it has the others left
 abbrev pub ReportsUnread : Ignore → List ℕ → Option (List ℕ) → OasisFault → Type 0
-ReportsUnread ignore xs left (At at (Value Read)) = IsUnread (oasis ignore) xs left at
+ReportsUnread ignore xs left (At at (Value Read)) = IsUnread (oasis_faults ignore) xs left at
 ReportsUnread ignore xs left f = Unit {0}
 
 -- the fault is decided by the bytes that were taken, whatever comes after them: it is neither that the input ended nor

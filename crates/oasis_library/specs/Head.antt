@@ -9,6 +9,7 @@ use Rattle.oasis_records.specs.declared.record.Record.TheVariants.{Start, End}
 use Rattle.oasis_stream.specs.Order.{last_or}
 use Rattle.oasis_library.specs.declared.head.OasisHead.{OasisHead}
 
+-- a head
 abbrev pub head_with : Real → ℕ → List ℕ → OasisHead
 head_with unit scheme signature = record { unit = unit; scheme = scheme; signature = signature }
 
@@ -18,10 +19,12 @@ head unit Absent = head_with unit 0 (0 ∷ 0 ∷ 0 ∷ 0 ∷ [])
 head unit (Crc32 bytes) = head_with unit 1 bytes
 head unit (Checksum32 bytes) = head_with unit 2 bytes
 
+-- the unit in a START
 abbrev pub unit_in : Record → List Real
 unit_in (Start s) = s.unit ∷ []
 unit_in r = []
 
+-- the validation in an END
 abbrev pub validation_in : Record → List Validation
 validation_in (End v) = v ∷ []
 validation_in r = []

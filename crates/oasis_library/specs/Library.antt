@@ -1,4 +1,4 @@
--- What the bytes of a file spell.
+-- What the bytes of a file spell (SEMI P39 OASIS 1.0, "CELL record", "CELLNAME record").
 use Rattle.std.specs.Prelude.{◌≡◌, ℕ, List}
 use Rattle.lvl_grammar.specs.Front.{SpellsWhole}
 use Rattle.lvl_path.specs.Figure.{Figure, figure_rings}

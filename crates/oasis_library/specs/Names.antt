@@ -1,4 +1,5 @@
--- Cells with the numbers of cells replaced by names.
+-- Cells with the numbers of cells replaced by names (SEMI P39 OASIS 1.0, "CELLNAME record", "CELL record", "PLACEMENT
+-- record").
 use Rattle.std.specs.Prelude.{◌≡◌, ℕ, List, [], ◌∷◌, ◌++◌, flat_map, All, Some, None, IsSome}
 use Rattle.std.specs.List.{AllZip}
 use Rattle.lvl_cells.specs.Cells.{PlainCell, PlainReference}
@@ -27,15 +28,16 @@ pub record IsCell {F : Type 0} (names : List CellName) (d : PlainDrawing F) (c :
 abbrev pub AreCells : {F : Type 0} → List CellName → List (PlainDrawing F) → List (PlainCell F) → Type 0
 AreCells names ds cs = AllZip (IsCell names) ds cs
 
--- the numbers used in a cell and in a file, in the order of the file; the own number of a cell comes before those that
--- it places
+-- the number by which a cell is given, if it is
 abbrev pub number_in : CellRef → List ℕ
 number_in (Number n) = n ∷ []
 number_in (Name s) = []
 
+-- the numbers used in a cell: its own number comes before those that it places
 abbrev pub numbers_in : {F : Type 0} → PlainDrawing F → List ℕ
 numbers_in d = number_in d.name ++ flat_map (λ p. number_in p.cell) d.placements
 
+-- the numbers used in a file, in its order
 abbrev pub numbers_used : {F : Type 0} → List (PlainDrawing F) → List ℕ
 numbers_used ds = flat_map numbers_in ds
 

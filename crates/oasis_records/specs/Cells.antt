@@ -21,12 +21,15 @@ IsCellRef false = Seen Name (IsString N 255)
 abbrev pub IsCell : Bool → Spelling Record
 IsCell by_number = Seen Cell (IsCellRef by_number)
 
+-- a CELLNAME with or without a number
 abbrev pub cell_name : List ℕ → Option ℕ → Record
 cell_name name number = CellName (record { name = name; number = number })
 
+-- a CELLNAME without a number
 abbrev pub unnumbered : List ℕ → Record
 unnumbered name = cell_name name None
 
+-- a CELLNAME with a number
 abbrev pub numbered : List ℕ → ℕ → Record
 numbered name number = cell_name name (Some number)
 

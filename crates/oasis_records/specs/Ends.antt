@@ -27,12 +27,15 @@ ArePadding n = Seen (λ _. n) (Chain (λ _. IsByte) (λ x. x) n 0)
 abbrev pub IsScheme : Spelling (Result ℕ RecordRule)
 IsScheme = Then IsByte (λ s. Must (nat_lt s 3) s Scheme)
 
+-- a list of four bytes
 abbrev pub four : ℕ → ℕ → ℕ → ℕ → List ℕ
 four a b c d = a ∷ b ∷ c ∷ d ∷ []
 
+-- four bytes of any value
 abbrev pub AreFour : Spelling (List ℕ)
 AreFour = Then IsByte (λ a. Then IsByte (λ b. Then IsByte (λ c. Seen (four a b c) IsByte)))
 
+-- the validation by its scheme, which is 1 (a CRC32) or 2 (a CHECKSUM32)
 abbrev pub signed : Bool → List ℕ → Validation
 signed true bytes = Crc32 bytes
 signed false bytes = Checksum32 bytes

@@ -26,6 +26,7 @@ abbrev pub If : {A : Type 0} → Bool → Spelling A → Spelling (Option A)
 If true S = Seen Some S
 If false S = Gives (Ok None)
 
+-- a layer and a datatype, as far as they are there
 abbrev pub on_layer : Option ℕ → Option ℕ → OnLayer
 on_layer l d = record { layer = l; datatype = d }
 
@@ -33,6 +34,7 @@ on_layer l d = record { layer = l; datatype = d }
 abbrev pub IsOnLayer : ℕ → Spelling OnLayer
 IsOnLayer info = Then (If (has info 0x01) IsUnsigned) (λ l. Seen (on_layer l) (If (has info 0x02) IsUnsigned))
 
+-- a position and a repetition, as far as they are there
 abbrev pub position : Option ℤ → Option ℤ → Option Repetition → Position
 position x y r = record { x = x; y = y; repetition = r }
 

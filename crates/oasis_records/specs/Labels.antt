@@ -12,6 +12,7 @@ use Rattle.oasis_records.specs.declared.figure.Position.{Position}
 use Rattle.oasis_records.specs.declared.record.Record.{Record}
 use Rattle.oasis_records.specs.declared.record.Record.TheVariants.{Text}
 
+-- what is kept of a TEXT
 abbrev pub label : Position → Record
 label p = Text p.repetition
 

@@ -11,6 +11,7 @@ use Rattle.oasis_records.specs.declared.fault.RecordRule.TheVariants.{Magic}
 abbrev pub magic : List ℕ
 magic = 0x25 ∷ 0x53 ∷ 0x45 ∷ 0x4D ∷ 0x49 ∷ 0x2D ∷ 0x4F ∷ 0x41 ∷ 0x53 ∷ 0x49 ∷ 0x53 ∷ 0x0D ∷ 0x0A ∷ []
 
+-- one byte of the magic string
 abbrev pub IsMagicByte : ℕ → Spelling (Result ℕ RecordRule)
 IsMagicByte wanted = Then IsByte (λ b. Must (b == wanted) b Magic)
 

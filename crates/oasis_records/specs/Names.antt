@@ -25,12 +25,15 @@ IsNumberedString kind = Then (IsUnkeptString kind) (λ _. Unkept IsUnsigned)
 abbrev pub bounds : ℕ → ℕ
 bounds = one_of 0 (0 ∷ 1 ∷ 1 ∷ 1 ∷ []) 2
 
+-- n integers, the bounds of an interval
 abbrev pub AreBounds : ℕ → Spelling (Unit {0})
 AreBounds n = Unkept (Chain (λ _. IsUnsigned) (λ x. x) n 0)
 
+-- the type of an interval, 0 to 4
 abbrev pub IsIntervalType : Spelling (Result ℕ RecordRule)
 IsIntervalType = Then IsUnsigned (λ t. Must (nat_lt t 5) t Info)
 
+-- the bounds of an interval of that type
 abbrev pub IsIntervalOf : ℕ → Spelling (Result (Unit {0}) RecordRule)
 IsIntervalOf t = Seen Ok (AreBounds (bounds t))
 
@@ -46,9 +49,11 @@ IsLayerName = Then (IsUnkeptString N) (λ _. AndThen IsInterval (λ _. IsInterva
 abbrev pub IsXName : Spelling (Unit {0})
 IsXName = Then IsUnsigned (λ _. IsUnkeptString B)
 
+-- an attribute, a string and its number
 abbrev pub IsNumberedXName : Spelling (Unit {0})
 IsNumberedXName = Then IsUnsigned (λ _. IsNumberedString B)
 
+-- the fields of a record of that type, which are not kept
 abbrev pub IsEntryOf : EntryType → Spelling (Result (Unit {0}) RecordRule)
 IsEntryOf (String kind) = Seen Ok (IsUnkeptString kind)
 IsEntryOf (NumberedString kind) = Seen Ok (IsNumberedString kind)

@@ -27,12 +27,14 @@ use Rattle.oasis_records.specs.declared.record.Record.TheVariants.{Path}
 abbrev pub kind_of : ℕ → Kind
 kind_of = one_of 0 (OfModal ∷ OfFlush ∷ OfHalfWidth ∷ []) OfExplicit
 
+-- an extension of that kind
 abbrev pub IsExtension : Kind → Spelling Extension
 IsExtension OfModal = Gives (Ok Modal)
 IsExtension OfFlush = Gives (Ok Flush)
 IsExtension OfHalfWidth = Gives (Ok HalfWidth)
 IsExtension OfExplicit = Seen Explicit IsSigned
 
+-- the extensions at both ends
 abbrev pub ends : Extension → Extension → Ends
 ends s e = record { start = s; end = e }
 
@@ -40,6 +42,7 @@ ends s e = record { start = s; end = e }
 abbrev pub AreEndsOf : ℕ → Spelling Ends
 AreEndsOf scheme = Then (IsExtension (kind_of (scheme / 4))) (λ s. Seen (ends s) (IsExtension (kind_of (scheme % 4))))
 
+-- extensions that are in the record
 abbrev pub some_ends : Ends → Result (Option Ends) RecordRule
 some_ends e = Ok (Some e)
 
@@ -47,10 +50,12 @@ some_ends e = Ok (Some e)
 abbrev pub AreEnds : Spelling (Result (Option Ends) RecordRule)
 AreEnds = AndThen (IsInfo 0x10) (λ scheme. Seen some_ends (AreEndsOf scheme))
 
+-- the scheme byte and the extensions, if E is set
 abbrev pub AreEndsIf : Bool → Spelling (Result (Option Ends) RecordRule)
 AreEndsIf true = AreEnds
 AreEndsIf false = Gives (Ok (Ok None))
 
+-- the fields before the point list
 abbrev pub stroke : ℕ → OnLayer → Option ℕ → Option Ends → Result Stroke RecordRule
 stroke i on w e = Ok (record { info = i; on = on; half_width = w; ends = e })
 
@@ -65,6 +70,7 @@ IsStrokeOf i =
 abbrev pub IsStroke : Spelling (Result Stroke RecordRule)
 IsStroke = Then IsByte IsStrokeOf
 
+-- the record
 abbrev pub path : Stroke → Option (List Point) → Position → Record
 path s ps p = Path (record { on = s.on; half_width = s.half_width; ends = s.ends; points = ps; position = p })
 

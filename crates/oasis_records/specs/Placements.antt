@@ -20,6 +20,7 @@ use Rattle.oasis_records.specs.declared.record.Record.TheVariants.{Placement}
 abbrev pub turn_of : ℕ → Turn
 turn_of = one_of 0 (R0 ∷ R90 ∷ R180 ∷ []) R270
 
+-- the record, of which the lowest bit of the info byte says whether it reflects
 abbrev pub placement : ℕ → Option CellRef → Transform → Position → Record
 placement i cell t p = Placement (record { cell = cell; flip = has i 0x01; transform = t; position = p })
 

@@ -14,6 +14,7 @@ use Rattle.oasis_records.specs.declared.figure.Position.{Position}
 use Rattle.oasis_records.specs.declared.record.Record.{Record}
 use Rattle.oasis_records.specs.declared.record.Record.TheVariants.{Polygon}
 
+-- the record
 abbrev pub polygon : OnLayer → Option (List Point) → Position → Record
 polygon on ps p = Polygon (record { on = on; points = ps; position = p })
 

@@ -17,17 +17,20 @@ use Rattle.oasis_records.specs.declared.record.Record.TheVariants.{Property}
 abbrev pub is_property_info : ℕ → Bool
 is_property_info i = not (has i 0x08) || (i / 16 == 0)
 
+-- the info byte of a PROPERTY
 abbrev pub IsPropertyInfo : Spelling (Result ℕ RecordRule)
 IsPropertyInfo = Then IsByte (λ i. Must (is_property_info i) i Info)
 
--- the number of values: UUUU, or an integer that follows if UUUU is 15
+-- the number of values: an integer that follows (if UUUU is 15), or UUUU
 abbrev pub IsCountBy : Bool → ℕ → Spelling ℕ
 IsCountBy true count = IsUnsigned
 IsCountBy false count = Gives (Ok count)
 
+-- the number of values, by the info byte
 abbrev pub IsCount : ℕ → Spelling ℕ
 IsCount i = IsCountBy (i / 16 == 15) (i / 16)
 
+-- n values, which are not kept
 abbrev pub AreValues : ℕ → Spelling (Unit {0})
 AreValues n = Unkept (Chain (λ _. IsValue) (λ x. x) n tt)
 

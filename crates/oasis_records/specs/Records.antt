@@ -46,19 +46,23 @@ pub record Row : Type 0 where
   pub is_read : Ignore → Bool
   pub kind : RecordType
 
+-- a row of the table
 abbrev pub row : ℕ → (Ignore → Bool) → RecordType → Row
 row id is_read kind = record { id = id; is_read = is_read; kind = kind }
 
--- when a type is read: always, or if names, texts or properties are ignored
+-- a type is always read
 abbrev pub always : Ignore → Bool
 always ignore = true
 
+-- a type is read if names are ignored
 abbrev pub names : Ignore → Bool
 names ignore = ignore.names
 
+-- a type is read if texts are ignored
 abbrev pub texts : Ignore → Bool
 texts ignore = ignore.texts
 
+-- a type is read if properties are ignored
 abbrev pub properties : Ignore → Bool
 properties ignore = ignore.properties
 
@@ -94,6 +98,7 @@ types =
     ∷ row 31 names (OfEntry NumberedXName)
     ∷ []
 
+-- the type if it is read, else Unsupported
 abbrev pub type_if : Bool → RecordType → ℕ → Result RecordType RecordRule
 type_if true kind n = Ok kind
 type_if false kind n = Err (Unsupported n)

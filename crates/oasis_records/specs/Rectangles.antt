@@ -17,9 +17,11 @@ use Rattle.oasis_records.specs.declared.record.Record.TheVariants.{Rectangle}
 abbrev pub is_rectangle_info : ℕ → Bool
 is_rectangle_info i = not (has i 0x80 && has i 0x20)
 
+-- the info byte of a RECTANGLE
 abbrev pub IsRectangleInfo : Spelling (Result ℕ RecordRule)
 IsRectangleInfo = Then IsByte (λ i. Must (is_rectangle_info i) i Info)
 
+-- the record
 abbrev pub rectangle : Bool → OnLayer → Option ℕ → Option ℕ → Position → Record
 rectangle s on w h p = Rectangle (record { is_square = s; on = on; width = w; height = h; position = p })
 

@@ -1,5 +1,6 @@
--- The rules of records, besides those of values. What bytes say about a record is a value like any other: the record,
--- or the rule that they breach. The bytes taken are then those that spell the record, or those that breach the rule.
+-- The rules of records, besides those of values (own notation). What bytes say about a record is a value like any
+-- other: the record, or the rule that they breach. The bytes taken are then those that spell the record, or those that
+-- breach the rule.
 use Rattle.std.specs.Prelude.{◌≡◌, Bool, true, false, ℕ, List, Option, Some, Result, Ok, Err}
 use Rattle.lvl_io.specs.Spelling.{NoneAgrees}
 use Rattle.lvl_refusal.specs.declared.Cause.{Cause}

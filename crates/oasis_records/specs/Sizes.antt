@@ -1,4 +1,4 @@
--- Integers with the number of bytes that they, and all read before them in S, took.
+-- Integers with the number of bytes that they, and all read before them in S, took (own notation).
 use Rattle.std.specs.Prelude.{◌≡◌, ℕ, List, length, Result, Ok, Err}
 use Rattle.lvl_profile.specs.declared.ignore.Ignore.{Ignore}
 use Rattle.oasis_values.specs.Spelling.{Spelling}

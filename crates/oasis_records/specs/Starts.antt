@@ -20,6 +20,7 @@ use Rattle.oasis_records.specs.declared.record.Record.TheVariants.{Start}
 abbrev pub is_version : List ℕ → Bool
 is_version text = bytes_eq text (0x31 ∷ 0x2E ∷ 0x30 ∷ [])
 
+-- the version, before it is tested
 abbrev pub IsVersionText : Spelling (Result (List ℕ) RecordRule)
 IsVersionText = Seen Ok (IsString A 255)
 
@@ -34,6 +35,7 @@ is_unit (NegReciprocal n) = false
 is_unit (NegRatio n m) = false
 is_unit r = true
 
+-- the unit: grid steps in a micron
 abbrev pub IsUnit : Spelling (Result Real RecordRule)
 IsUnit = Then IsReal (λ u. Must (is_unit u) u NoUnit)
 
@@ -54,6 +56,7 @@ AreTables false = Gives (Ok false)
 abbrev pub is_here : ℕ → Bool
 is_here flag = not (flag == 1)
 
+-- the record, and whether the offsets of tables are in END
 abbrev pub start : Real → Bool → Result Record RecordRule
 start unit here = Ok (Start (record { unit = unit; has_offsets_at_end = not here }))
 

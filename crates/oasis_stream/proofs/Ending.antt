@@ -18,6 +18,7 @@ use Rattle.oasis_values.specs.declared.fault.ValueFault.TheVariants.{Truncated, 
 use Rattle.oasis_values.specs.declared.input.Input.{Input}
 use Rattle.oasis_stream.specs.Items.{Item, IsEnded}
 use Rattle.oasis_stream.specs.Front.{IsItem, oasis}
+use Rattle.oasis_stream.specs.Faults.{oasis_faults}
 use Rattle.oasis_stream.specs.inside.Refuses.{RefusesAt}
 use Rattle.oasis_stream.specs.declared.fault.OasisKind.TheVariants.{Value, AfterEnd}
 use Rattle.oasis_stream.proofs.Items.{item_needs, item_said}
@@ -61,7 +62,7 @@ begun_byte ys b = short_byte b.value ys b.more b.short b.says
 long_after : {Has : List Item → Type 0} {was left : Option (List ℕ)} (ignore : Ignore) (xs : List ℕ) (at had : ℕ)
     (to : ReadTo (oasis ignore) xs at Has was)
     → IsSeen (drop at xs) had left → Fails IsOneByte (file_limit - at) had (drop at xs) TooLong
-    → IsSeenWrong (oasis ignore) xs at left (Value TooLong)
+    → IsSeenWrong (oasis_faults ignore) xs at left (Value TooLong)
 long_after ignore xs at had to s p =
     let q = p.too_long refl in
     let none : length (take (file_limit - at) (drop at xs)) ≡ 0 = begun_byte (take (file_limit - at) (drop at xs))
@@ -92,7 +93,7 @@ pub after_refuses : {Has : List Item → Type 0} {was left : Option (List ℕ)} 
 after_refuses ignore xs at had to Truncated t n s p = absurd (t refl)
 after_refuses {Has = Has} {was = was} {left = left} ignore xs at had to Read t n s p =
     let none : length (take had (drop at xs)) ≡ 0 = begun_byte (take had (drop at xs)) (p.unread refl).1 in
-    reads_unread (oasis ignore) xs at Has was left to (take had (drop at xs)) s.rest s.parts s.left_is
+    reads_unread (oasis_faults ignore) xs at Has was left to (take had (drop at xs)) s.rest s.parts s.left_is
     (λ some. absurd (omega (arith, none, some)))
 after_refuses ignore xs at had to TooLong t n s p = long_after ignore xs at had to s p
 after_refuses ignore xs at had to Failed t n s p = absurd (n refl)

@@ -8,12 +8,13 @@ use Rattle.lvl_io.specs.Known.{Agree}
 use Rattle.lvl_io.specs.Spelling.{IsBegun}
 use Rattle.lvl_io.proofs.Spelling.{front_only, breached_none, begun_open}
 use Rattle.lvl_grammar.proofs.Agreeing.{agree_ends}
-use Rattle.lvl_grammar.proofs.Laws.{IsGrammar}
+use Rattle.lvl_grammar.proofs.Laws.{IsGrammar, AreFaults}
 use Rattle.lvl_profile.specs.declared.ignore.Ignore.{Ignore}
 use Rattle.oasis_values.specs.declared.fault.ValueFault.{ValueFault}
 use Rattle.oasis_stream.specs.Items.{Item}
 use Rattle.oasis_stream.specs.Rules.{Breaches, MayFollow}
-use Rattle.oasis_stream.specs.Front.{IsItem, IsTooLong, BreaksRule, IsWrong, oasis}
+use Rattle.oasis_stream.specs.Front.{IsItem, oasis}
+use Rattle.oasis_stream.specs.Faults.{IsTooLong, BreaksRule, IsWrong, oasis_faults}
 use Rattle.oasis_stream.specs.declared.fault.OasisKind.{OasisKind}
 use Rattle.oasis_stream.specs.declared.fault.OasisKind.TheVariants.{Value, Record, Unexpected, Name, Figure, AfterEnd}
 use Rattle.oasis_stream.specs.declared.fault.OasisKind.TheVariants.{TooManyCells}
@@ -133,6 +134,11 @@ pub is_grammar : (ignore : Ignore) → IsGrammar (oasis ignore)
 is_grammar ignore = record {
   decided = λ before r s a b x y p q f g e. one_item ignore before r s a b x y p q e;
   some = λ before a r p. item_needs ignore before a (Ok (Ok r)) p;
+}
+
+pub are_faults : (ignore : Ignore) → AreFaults (oasis_faults ignore)
+are_faults ignore = record {
+  grammar = is_grammar ignore;
   here = wrong_here ignore;
   stops = wrong_stops ignore;
   cut = λ before ys text rest r c n p f e. begun_none ignore before ys text rest r c.1 p e;

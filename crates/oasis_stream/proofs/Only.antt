@@ -10,7 +10,8 @@ use Rattle.oasis_values.specs.declared.fault.ValueFault.{ValueFault}
 use Rattle.oasis_values.specs.declared.fault.ValueFault.TheVariants.{TooLong}
 use Rattle.oasis_stream.specs.Items.{Item, IsEnded}
 use Rattle.oasis_stream.specs.Rules.{Breaches}
-use Rattle.oasis_stream.specs.Front.{IsItem, IsTooLong, BreaksRule, IsWrong}
+use Rattle.oasis_stream.specs.Front.{IsItem}
+use Rattle.oasis_stream.specs.Faults.{IsTooLong, BreaksRule, IsWrong}
 use Rattle.oasis_stream.specs.declared.fault.OasisKind.{OasisKind}
 use Rattle.oasis_stream.specs.declared.fault.OasisKind.TheVariants.{Value, Record, Unexpected, Name, Figure, AfterEnd}
 use Rattle.oasis_stream.specs.declared.fault.OasisKind.TheVariants.{TooManyCells}

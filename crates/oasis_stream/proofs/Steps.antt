@@ -21,7 +21,8 @@ use Rattle.oasis_values.specs.declared.input.Input.{Input}
 use Rattle.oasis_values.proofs.Reading.{front_rest}
 use Rattle.oasis_stream.specs.Items.{Item, magic, item, records, IsEnded}
 use Rattle.oasis_stream.specs.Rules.{Breaches, MayFollow}
-use Rattle.oasis_stream.specs.Front.{IsItem, BreaksRule, IsWrong, oasis}
+use Rattle.oasis_stream.specs.Front.{IsItem, oasis}
+use Rattle.oasis_stream.specs.Faults.{BreaksRule, IsWrong, oasis_faults}
 use Rattle.oasis_stream.specs.Reported.{of_kind}
 use Rattle.oasis_stream.specs.inside.Refuses.{RefusesAt}
 use Rattle.oasis_stream.specs.declared.fault.OasisKind.{OasisKind}
@@ -61,7 +62,7 @@ pub wrong_seen : {Has : List Item → Type 0} {was left : Option (List ℕ)} (ig
     (to : ReadTo (oasis ignore) xs at Has was) (k : OasisKind)
     → IsSeen (drop at xs) had left
     → ((more : List ℕ) → IsWrong ignore to.records (file_limit - at) (take had (drop at xs) ++ more) k)
-    → IsSeenWrong (oasis ignore) xs at left k
+    → IsSeenWrong (oasis_faults ignore) xs at left k
 wrong_seen ignore xs at had to k s w =
     let here : IsWrong ignore to.records (file_limit - at) (drop at xs) k =
     subst (λ l. IsWrong ignore to.records (file_limit - at) l k) (sym s.parts) (w s.rest) in
@@ -84,7 +85,7 @@ rule_refuses : {R : Type 0} {remaining : R → Option (List ℕ)} {errors : R �
     → has_failed old ≡ false → input_ignore old ≡ ignore → ¬ IsEnded to.records
     → ((room : ℕ) (ys : List ℕ) → BreaksRule ignore to.records room ys k → IsWrong ignore to.records room ys k)
     → Reads remaining errors lent (IsItem to.records) old new (Ok (Err k))
-    → IsSeenWrong (oasis ignore) xs (input_offset old) (remaining (input_reader new)) k
+    → IsSeenWrong (oasis_faults ignore) xs (input_offset old) (remaining (input_reader new)) k
 rule_refuses {remaining = remaining} ignore xs {old = old} {new = new} to k live under unended is_wrong p =
     let at = input_offset old in
     let n = input_offset new - at in
@@ -107,7 +108,7 @@ item_refuses : {R : Type 0} {remaining : R → Option (List ℕ)} {errors : R �
     → ((room : ℕ) (ys : List ℕ) → BreaksRule ignore to.records room ys k → IsWrong ignore to.records room ys k)
     → Breaches to.records i k
     → Reads remaining errors lent (IsItem to.records) old new (Ok (Ok i))
-    → IsSeenWrong (oasis ignore) xs (input_offset old) (remaining (input_reader new)) k
+    → IsSeenWrong (oasis_faults ignore) xs (input_offset old) (remaining (input_reader new)) k
 item_refuses {remaining = remaining} ignore xs {old = old} {new = new} to i k live under unended is_wrong breach p =
     let at = input_offset old in
     let n = input_offset new - at in
@@ -143,7 +144,7 @@ value_refuses : {Has : List Item → Type 0} {was left : Option (List ℕ)} (ign
     (to : ReadTo (oasis ignore) xs at Has was) (f : ValueFault) → ¬ IsEnded to.records
     → is_rule f ≡ true → IsSeen (drop at xs) had left
     → Fails (IsItem to.records ignore) (file_limit - at) had (drop at xs) f
-    → IsSeenWrong (oasis ignore) xs at left (Value f)
+    → IsSeenWrong (oasis_faults ignore) xs at left (Value f)
 value_refuses ignore xs at had to f unended rule s p =
     let b = p.breached rule in
     wrong_seen ignore xs at had to (Value f) s
@@ -160,7 +161,7 @@ value_refuses ignore xs at had to f unended rule s p =
 long_refuses : {Has : List Item → Type 0} {was left : Option (List ℕ)} (ignore : Ignore) (xs : List ℕ) (at had : ℕ)
     (to : ReadTo (oasis ignore) xs at Has was) → ¬ IsEnded to.records
     → IsSeen (drop at xs) had left → Fails (IsItem to.records ignore) (file_limit - at) had (drop at xs) TooLong
-    → IsSeenWrong (oasis ignore) xs at left (Value TooLong)
+    → IsSeenWrong (oasis_faults ignore) xs at left (Value TooLong)
 long_refuses ignore xs at had to unended s p =
     let q = p.too_long refl in
     wrong_seen ignore xs at had to (Value TooLong) s
@@ -169,7 +170,7 @@ long_refuses ignore xs at had to unended s p =
 
 cut_refuses : {Has : List Item → Type 0} {had : ℕ} {was : Option (List ℕ)} (ignore : Ignore) (xs : List ℕ) (at : ℕ)
     (to : ReadTo (oasis ignore) xs at Has was) → ¬ IsEnded to.records
-    → Fails (IsItem to.records ignore) (file_limit - at) had (drop at xs) Truncated → IsTruncated (oasis ignore) xs at
+    → Fails (IsItem to.records ignore) (file_limit - at) had (drop at xs) Truncated → IsTruncated (oasis_faults ignore) xs at
 cut_refuses ignore xs at to unended p =
     record {
       within = to.within;
@@ -187,7 +188,7 @@ fault_refuses : {Has : List Item → Type 0} {was left : Option (List ℕ)} (ign
     → RefusesAt ignore xs left at (Value f)
 fault_refuses ignore xs at had to Truncated u n s p = cut_refuses ignore xs at to u p
 fault_refuses {Has = Has} {was = was} {left = left} ignore xs at had to Read u n s p =
-    reads_unread (oasis ignore) xs at Has was left to (take had (drop at xs)) s.rest s.parts s.left_is
+    reads_unread (oasis_faults ignore) xs at Has was left to (take had (drop at xs)) s.rest s.parts s.left_is
     (λ some. ((λ e. absurd (u e)), (p.unread refl).1))
 fault_refuses ignore xs at had to TooLong u n s p = long_refuses ignore xs at had to u s p
 fault_refuses ignore xs at had to Failed u n s p = absurd (n refl)

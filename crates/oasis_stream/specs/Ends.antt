@@ -1,19 +1,20 @@
--- What a refusal says about the input.
+-- What a refusal says about the input (own rule).
 use Rattle.std.specs.Prelude.{ℕ, Bool, false, List}
 use Rattle.lvl_grammar.specs.Refused.{IsFrontAt, IsStuck, IsBreached, IsTruncated}
 use Rattle.lvl_profile.specs.declared.ignore.Ignore.{Ignore}
 use Rattle.oasis_values.specs.Faults.{is_read_fault}
 use Rattle.oasis_values.specs.declared.fault.ValueFault.TheVariants.{Truncated, Read}
 use Rattle.oasis_stream.specs.Front.{oasis}
+use Rattle.oasis_stream.specs.Faults.{oasis_faults}
 use Rattle.oasis_stream.specs.declared.fault.OasisKind.{OasisKind}
 use Rattle.oasis_stream.specs.declared.fault.OasisKind.TheVariants.{Value}
 
 -- the offset and the kind are right: the bytes before the offset are a front, and the kind says why no longer front
 -- agrees with the input, or that the input ends there, or that the reader failed
 abbrev pub ReportsAt : Ignore → List ℕ → ℕ → OasisKind → Type 0
-ReportsAt ignore xs at (Value Truncated) = IsTruncated (oasis ignore) xs at
+ReportsAt ignore xs at (Value Truncated) = IsTruncated (oasis_faults ignore) xs at
 ReportsAt ignore xs at (Value Read) = IsFrontAt (oasis ignore) xs at
-ReportsAt ignore xs at k = IsStuck (oasis ignore) xs at × IsBreached (oasis ignore) xs at k
+ReportsAt ignore xs at k = IsStuck (oasis ignore) xs at × IsBreached (oasis_faults ignore) xs at k
 
 -- whether the fault is that the reader failed
 abbrev pub is_read_kind : OasisKind → Bool

@@ -1,4 +1,5 @@
--- The items of a file: the magic string, which counts as a record, and the records.
+-- The items of a file: the magic string, which counts as a record, and the records (SEMI P39 OASIS 1.0, "Magic-bytes",
+-- "END record").
 use Rattle.std.specs.Prelude.{◌≡◌, List, [], ◌∷◌, ◌++◌}
 use Rattle.oasis_records.specs.declared.end.Validation.{Validation}
 use Rattle.oasis_records.specs.declared.record.Record.{Record}

@@ -3,6 +3,7 @@ pub mod Order
 pub mod Names
 pub mod Rules
 pub mod Front
+pub mod Faults
 pub mod Reported
 pub mod Ends
 pub mod inside

@@ -10,6 +10,7 @@ abbrev pub number_by : ℕ → Option ℕ → ℕ
 number_by n None = n
 number_by n (Some k) = k
 
+-- the number of a CELLNAME after n others
 abbrev pub number_after : ℕ → CellName → ℕ
 number_after n c = number_by n c.number
 

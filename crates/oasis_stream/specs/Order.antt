@@ -38,39 +38,44 @@ opens r = []
 abbrev pub in_cell : List Record → Bool
 in_cell rs = last_or false (flat_map opens rs)
 
--- whether END has the offsets of tables, as START says
+-- what START says of the offsets of tables: whether END has them
 abbrev pub flags : Record → List Bool
 flags (OfStart s) = s.has_offsets_at_end ∷ []
 flags r = []
 
+-- whether END has the offsets of tables, by the records before it
 abbrev pub at_end : List Record → Bool
 at_end rs = last_or false (flat_map flags rs)
 
--- the names in CELLNAME records, in their order
+-- the name in a CELLNAME record
 abbrev pub name_in : Record → List CellName
 name_in (OfCellName c) = c ∷ []
 name_in r = []
 
+-- the names in CELLNAME records, in their order
 abbrev pub names_in : List Record → List CellName
 names_in rs = flat_map name_in rs
 
--- the cells in CELL records, in their order
+-- the cell in a CELL record
 abbrev pub cell_in : Record → List CellRef
 cell_in (OfCell c) = c ∷ []
 cell_in r = []
 
+-- the cells in CELL records, in their order
 abbrev pub cells_in : List Record → List CellRef
 cells_in rs = flat_map cell_in rs
 
--- whether some name has a number of its own, and whether some name has none
+-- whether some name has a number of its own
 abbrev pub any_numbered : List CellName → Bool
 any_numbered [] = false
 any_numbered (c ∷ cs) = is_some c.number || any_numbered cs
 
+-- whether some name has no number of its own
 abbrev pub any_unnumbered : List CellName → Bool
 any_unnumbered [] = false
 any_unnumbered (c ∷ cs) = is_none c.number || any_unnumbered cs
 
+-- whether the type is that of START
 abbrev pub is_start : Result RecordType RecordRule → Bool
 is_start (Ok Start) = true
 is_start t = false
@@ -98,6 +103,7 @@ mixes rs AName = any_numbered (names_in rs)
 mixes rs NumberedCellName = any_unnumbered (names_in rs)
 mixes rs t = false
 
+-- whether records of the type open a cell
 abbrev pub opens_cell : RecordType → Bool
 opens_cell NumberedCell = true
 opens_cell NamedCell = true
@@ -114,6 +120,6 @@ allowed rs (Ok t) =
 abbrev pub type_by : List Record → ℕ → Result RecordType RecordRule → Result RecordType OasisKind
 type_by rs id t = if is_expected rs t then allowed rs t else Err (Unexpected id)
 
--- the same, by what is ignored
+-- the type by an id after the records rs, by what is ignored, or the rule that the id breaches
 abbrev pub type_after : Ignore → List Record → ℕ → Result RecordType OasisKind
 type_after ignore rs id = type_by rs id (record_type ignore id)

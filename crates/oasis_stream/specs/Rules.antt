@@ -1,4 +1,5 @@
--- The rules that a complete record may breach after others.
+-- The rules that a complete record may breach after others (SEMI P39 OASIS 1.0, "CELLNAME record", "CELL record", "END
+-- record").
 use Rattle.std.specs.Prelude.{Bool, true, false, if◌then◌else◌, List, [], ◌∷◌}
 use Rattle.oasis_records.specs.declared.cell.CellName.{CellName}
 use Rattle.oasis_records.specs.declared.record.Record.{Record}
@@ -12,6 +13,7 @@ use Rattle.oasis_stream.specs.declared.fault.NameRule.TheVariants.{NumberTwice, 
 use Rattle.oasis_stream.specs.declared.fault.OasisKind.{OasisKind}
 use Rattle.oasis_stream.specs.declared.fault.OasisKind.TheVariants.{Name, Figure}
 
+-- whether the record is a CELL
 abbrev pub is_cell : Record → Bool
 is_cell (OfCell c) = true
 is_cell r = false
@@ -31,6 +33,7 @@ NameBreaches names c NumberTwice = RepeatsNumber names c
 NameBreaches names c NameTwice = (¬ RepeatsNumber names c) × RepeatsName names c
 NameBreaches names c k = ⊥
 
+-- the record is a CELLNAME that breaches the rule after these names
 abbrev pub NamingBreaches : List CellName → Record → NameRule → Type 0
 NamingBreaches names (OfCellName c) k = NameBreaches names c k
 NamingBreaches names r k = ⊥

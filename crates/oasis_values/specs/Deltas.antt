@@ -41,9 +41,11 @@ two_delta n = toward (direction_of (n % 4)) (n / 4)
 abbrev pub three_delta : ℕ → Point
 three_delta n = toward (direction_of (n % 8)) (n / 8)
 
+-- a 2-delta
 abbrev pub IsTwoDelta : Spelling Point
 IsTwoDelta = Seen two_delta IsUnsigned
 
+-- a 3-delta
 abbrev pub IsThreeDelta : Spelling Point
 IsThreeDelta = Seen three_delta IsUnsigned
 

@@ -1,4 +1,4 @@
--- The faults of values.
+-- The faults of values (own rule).
 use Rattle.std.specs.Prelude.{Bool, true, false, List, Result, Ok, Err}
 use Rattle.std.specs.Global.{Vec}
 use Rattle.lvl_refusal.specs.declared.Cause.{Cause}

@@ -1,4 +1,4 @@
--- Tables of numbers, and spellings by what follows from a value that was read.
+-- Tables of numbers, and spellings by what follows from a value that was read (own notation).
 use Rattle.std.specs.Prelude.{ℕ, ◌+◌, ◌==◌, if◌then◌else◌, List, [], ◌∷◌, Option, Some, None, Result, Ok, Err}
 use Rattle.oasis_values.specs.Spelling.{Spelling, Gives, Then}
 use Rattle.oasis_values.specs.declared.fault.ValueFault.{ValueFault}
@@ -8,7 +8,7 @@ abbrev pub among : {A : Type 0} → ℕ → List A → ℕ → Option A
 among n [] k = None
 among n (x ∷ xs) k = if k == n then Some x else among (n + 1) xs k
 
--- the same, with d for a number that isn't listed
+-- the element of a list that the number k stands for, as in `among`; d for a number that isn't listed
 abbrev pub one_of : {A : Type 0} → ℕ → List A → A → ℕ → A
 one_of n [] d k = d
 one_of n (x ∷ xs) d k = if k == n then x else one_of (n + 1) xs d k

@@ -6,6 +6,7 @@ use Rattle.lvl_profile.specs.declared.ignore.Ignore.{Ignore}
 use Rattle.oasis_values.specs.declared.fault.ValueFault.{ValueFault}
 use Rattle.oasis_values.specs.declared.fault.ValueFault.TheVariants.{IntegerTooLarge}
 
+-- the bytes are the one byte x
 abbrev pub IsOneByte : List ℕ → Result ℕ ValueFault → Type 0
 IsOneByte b (Ok x) = b ≡ x ∷ []
 IsOneByte b (Err f) = ⊥

@@ -46,9 +46,11 @@ abbrev pub may_have : Use → ListType → ℕ → Bool
 may_have for kind n =
     nat_le (least_points for) n && nat_le n most_points && (not (comes_in_pairs for kind) || (n % 2 == 0))
 
+-- the number n, if a list of that type may have n deltas
 abbrev pub point_count : Use → ListType → ℕ → Option ℕ
 point_count for kind n = if may_have for kind n then Some n else None
 
+-- the point at which every list starts
 abbrev pub origin : Point
 origin = to (pos 0) (pos 0)
 
@@ -57,6 +59,7 @@ abbrev pub along : Bool → ℤ → Point
 along true far = to far (pos 0)
 along false far = to (pos 0) far
 
+-- a step along x or along y: a 1-delta
 abbrev pub IsAlong : Bool → Spelling Point
 IsAlong along_x = Seen (along along_x) IsSigned
 
@@ -73,6 +76,7 @@ IsStep Octangular w = IsThreeDelta
 IsStep AllAngle w = IsGDelta
 IsStep DoubleDelta w = IsMore w.by
 
+-- whether the first step of a list goes along x
 abbrev pub is_horizontal : ListType → Bool
 is_horizontal HorizontalFirst = true
 is_horizontal VerticalFirst = false
@@ -81,7 +85,7 @@ is_horizontal Octangular = false
 is_horizontal AllAngle = false
 is_horizontal DoubleDelta = false
 
--- at the start, with no step before it; in the first two types, 1-deltas go along x and along y in turn
+-- the walk at the start, with no step before it; in the first two types, 1-deltas go along x and along y in turn
 abbrev pub start_of : ListType → Walk
 start_of kind = record { at = origin; by = origin; along_x = is_horizontal kind }
 
@@ -109,6 +113,7 @@ abbrev pub last_of : Point → List Point → Point
 last_of d [] = d
 last_of d (p ∷ ps) = last_of p ps
 
+-- a list of the point, if there is one
 abbrev pub if_any : Option Point → List Point
 if_any None = []
 if_any (Some p) = p ∷ []
@@ -117,6 +122,7 @@ if_any (Some p) = p ∷ []
 abbrev pub closed : Use → ListType → List Point → List Point
 closed for kind ps = (origin ∷ ps) ++ if_any (implied for kind (last_of origin ps))
 
+-- n vertices after the start, and the implied one
 abbrev pub AreVertices : Use → ListType → ℕ → Spelling (List Point)
 AreVertices for kind n = Seen (closed for kind) (Chain (IsNext kind) (λ w. w.at) n (start_of kind))
 

@@ -8,6 +8,7 @@ abbrev pub is_in_range : ℤ → Bool
 is_in_range (pos n) = nat_lt n (2 ^ 63)
 is_in_range (negsuc n) = nat_lt n (2 ^ 63)
 
+-- whether both coordinates fit in 64 signed bits
 abbrev pub is_point_in_range : Point → Bool
 is_point_in_range p = is_in_range p.x && is_in_range p.y
 

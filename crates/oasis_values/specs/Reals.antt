@@ -28,6 +28,7 @@ IsSigned = Seen with_sign IsUnsigned
 abbrev pub not_zero : ℕ → Option ℕ
 not_zero n = if n == 0 then None else Some n
 
+-- an integer that isn't 0
 abbrev pub IsDenominator : Spelling ℕ
 IsDenominator = Then IsUnsigned (λ n. Known (not_zero n) ZeroDenominator)
 

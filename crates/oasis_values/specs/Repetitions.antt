@@ -62,7 +62,7 @@ list_size n = if nat_le (n + 2) most_listed then Some (n + 1) else None
 abbrev pub stepped : ℤ → ℤ → ℕ → Option ℤ
 stepped before by times = let z = before +ℤ (pos times *ℤ by) in if is_in_range z then Some z else None
 
--- the same for a point
+-- a point moved by `times` times a space; None if it doesn't fit in 64 signed bits
 abbrev pub moved : Point → Far → ℕ → Option Point
 moved p by times = in_range (to (p.x +ℤ (pos times *ℤ by.x)) (p.y +ℤ (pos times *ℤ by.y)))
 
@@ -75,9 +75,11 @@ space false far = record { x = pos 0; y = pos far }
 abbrev pub widened : Point → Far
 widened d = record { x = d.x; y = d.y }
 
+-- a space along x or along y: an unsigned integer
 abbrev pub IsSpaceAlong : Bool → Spelling Far
 IsSpaceAlong along_x = Seen (space along_x) IsUnsigned
 
+-- a space in any direction: a g-delta
 abbrev pub IsSpaceFree : Spelling Far
 IsSpaceFree = Seen widened IsGDelta
 
@@ -95,11 +97,12 @@ IsShift spacing grid before = Then (IsSpace spacing) (λ by. Known (moved before
 abbrev pub lattice_in_range : Point → ℕ → Point → ℕ → Option (List Point)
 lattice_in_range a m b n = if list_all is_point_in_range (lattice a m b n) then Some (lattice a m b n) else None
 
--- type 0 is the modal repetition, if there is one
+-- the modal repetition, if there is one
 abbrev pub modal : Bool → Option Repetition
 modal true = Some TheModal
 modal false = None
 
+-- type 0: the modal repetition
 abbrev pub IsModal : Bool → Spelling Repetition
 IsModal has_modal = Known (modal has_modal) NoModal
 

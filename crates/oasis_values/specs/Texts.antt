@@ -25,12 +25,15 @@ has_character A c = nat_le 0x20 c && nat_le c 0x7E
 has_character B c = true
 has_character N c = nat_le 0x21 c && nat_le c 0x7E
 
+-- the byte c, if it may be in a string of that kind
 abbrev pub character : Text → ℕ → Option ℕ
 character kind c = if has_character kind c then Some c else None
 
+-- a byte of a string of that kind
 abbrev pub IsCharacter : Text → Spelling ℕ
 IsCharacter kind = Then IsByte (λ c. Known (character kind c) StringByte)
 
+-- n bytes of a string of that kind
 abbrev pub AreCharacters : Text → ℕ → Spelling (List ℕ)
 AreCharacters kind n = Chain (λ _. IsCharacter kind) (λ c. c) n 0
 
@@ -38,13 +41,14 @@ AreCharacters kind n = Chain (λ _. IsCharacter kind) (λ c. c) n 0
 abbrev pub IsString : Text → ℕ → Spelling (List ℕ)
 IsString kind most = Then IsUnsigned (λ n. Then (Known (text_length kind most n) StringByte) (AreCharacters kind))
 
--- strings of any length that are read but not kept
-
+-- the length n, if a string of that kind may have it
 abbrev pub any_length : Text → ℕ → Option ℕ
 any_length kind n = if nat_le (least_length kind) n then Some n else None
 
+-- n bytes of a string of that kind, which are not kept
 abbrev pub AreUnkeptCharacters : Text → ℕ → Spelling (Unit {0})
 AreUnkeptCharacters kind n = Unkept (AreCharacters kind n)
 
+-- a string of any length, which is not kept
 abbrev pub IsUnkeptString : Text → Spelling (Unit {0})
 IsUnkeptString kind = Then IsUnsigned (λ n. Then (Known (any_length kind n) StringByte) (AreUnkeptCharacters kind))

@@ -4,16 +4,16 @@ use Rattle.lvl_profile.specs.declared.ignore.Ignore.{Ignore}
 use Rattle.lvl_grammar.specs.Refused.{IsTruncated, IsUnread}
 use Rattle.lvl_grammar.specs.inside.ReadTo.{IsSeenWrong}
 use Rattle.gds_records.specs.declared.fault.RecordFault.TheVariants.{Truncated, Read}
-use Rattle.gds_library.specs.Front.{gds}
+use Rattle.gds_library.specs.Faults.{gds_faults}
 use Rattle.gds_library.specs.declared.fault.GdsKind.{GdsKind}
 use Rattle.gds_library.specs.declared.fault.GdsKind.TheVariants.{Record}
 use Rattle.gds_library.specs.declared.fault.GdsFault.{GdsFault}
 
 -- the fault and its offset are right, if the reader has these bytes left
 abbrev pub RefusesAt : Ignore → List ℕ → Option (List ℕ) → ℕ → GdsKind → Type 0
-RefusesAt ignore xs left at (Record Truncated) = IsTruncated (gds ignore) xs at
-RefusesAt ignore xs left at (Record Read) = IsUnread (gds ignore) xs left at
-RefusesAt ignore xs left at k = IsSeenWrong (gds ignore) xs at left k
+RefusesAt ignore xs left at (Record Truncated) = IsTruncated (gds_faults ignore) xs at
+RefusesAt ignore xs left at (Record Read) = IsUnread (gds_faults ignore) xs left at
+RefusesAt ignore xs left at k = IsSeenWrong (gds_faults ignore) xs at left k
 
 abbrev pub Refuses : Ignore → List ℕ → Option (List ℕ) → GdsFault → Type 0
 Refuses ignore xs left f = RefusesAt ignore xs left f.offset f.kind

@@ -4,12 +4,12 @@ use Rattle.lvl_grammar.specs.Refused.{IsTruncated, IsUnread}
 use Rattle.lvl_grammar.specs.inside.ReadTo.{IsSeenWrong}
 use Rattle.lvl_profile.specs.declared.ignore.Ignore.{Ignore}
 use Rattle.oasis_values.specs.declared.fault.ValueFault.TheVariants.{Truncated, Read}
-use Rattle.oasis_stream.specs.Front.{oasis}
+use Rattle.oasis_stream.specs.Faults.{oasis_faults}
 use Rattle.oasis_stream.specs.declared.fault.OasisKind.{OasisKind}
 use Rattle.oasis_stream.specs.declared.fault.OasisKind.TheVariants.{Value}
 
 -- the offset and the kind are right, if the reader has these bytes left
 abbrev pub RefusesAt : Ignore → List ℕ → Option (List ℕ) → ℕ → OasisKind → Type 0
-RefusesAt ignore xs left at (Value Truncated) = IsTruncated (oasis ignore) xs at
-RefusesAt ignore xs left at (Value Read) = IsUnread (oasis ignore) xs left at
-RefusesAt ignore xs left at k = IsSeenWrong (oasis ignore) xs at left k
+RefusesAt ignore xs left at (Value Truncated) = IsTruncated (oasis_faults ignore) xs at
+RefusesAt ignore xs left at (Value Read) = IsUnread (oasis_faults ignore) xs left at
+RefusesAt ignore xs left at k = IsSeenWrong (oasis_faults ignore) xs at left k
