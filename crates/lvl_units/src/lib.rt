@@ -22,3 +22,5 @@ pub use step::GridStep;
 
 mod fraction;
 mod step;
+#[cfg(test)]
+mod tests;
