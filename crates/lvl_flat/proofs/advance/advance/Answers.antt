@@ -84,7 +84,7 @@ returns-in_ok-push_visit-in-Into-2-clause-walking c =
     let drawn : IsDrawn s.cells c.in-Into.place c.in-Into.map c.args.sheets.now.items c.draw_cell.new.sheets.items =
     subst (λ cs. IsDrawn cs c.in-Into.place c.in-Into.map c.args.sheets.now.items c.draw_cell.new.sheets.items)
     c.cells-cells.ensures.value c.in_ok-draw_cell-in-Into.ensures.drawn in
-    let sound = c.cells-cells.ensures.checked.1 in
+    let sound = c.cells-cells.ensures.checked.settled in
     let next =
     walk_into s c.args.sheets.now.items c.draw_cell.new.sheets.items front c.args.visit c.in-Into.place
     c.in-Into.map c.in-Into.rest sound.sound.linked sound.sorted c.requires into drawn in
@@ -100,7 +100,7 @@ returns-in_ok-push_visit-in-Into-2-clause-nearer c =
     let s : Settled = c.args.checked.now in
     let front : List Visit = c.args.stack.now.items in
     let into : IsInto s.cells c.args.visit c.in-Into.place c.in-Into.map c.in-Into.rest = c.in-Into.ensures in
-    let sound = c.cells-cells.ensures.checked.1 in
+    let sound = c.cells-cells.ensures.checked.settled in
     let less =
     less_into s front c.args.visit c.in-Into.place c.in-Into.map c.in-Into.rest sound.sound.linked sound.sorted
     into in

@@ -21,7 +21,7 @@ draw_cell-requires-clause-layers c =
 pub returns-in_err-draw_cell-clause-err : goal.returns-in_err-draw_cell-clause-err
 returns-in_err-draw_cell-clause-err c =
     let s : Settled = c.args.checked.now in
-    let settled = c.cells.ensures.checked.1 in
+    let settled = c.cells.ensures.checked.settled in
     let fault = c.in_err-draw_cell.field-0.0 in
     let at_top : Says fault (IsEnterFault c.cells-2.result.now s.top unmoved) =
     subst (λ i. Says fault (IsEnterFault c.cells-2.result.now i unmoved)) c.top-top.ensures.value
@@ -35,7 +35,7 @@ returns-in_err-draw_cell-clause-err c =
 pub loop-visit-init : goal.loop-visit-init
 loop-visit-init c =
     let s : Settled = c.args.checked.now in
-    let settled = c.cells.ensures.checked.1 in
+    let settled = c.cells.ensures.checked.settled in
     let empty : List PlainSheet = c.in_ok-sheets.sheets.items in
     let new : List PlainSheet = c.draw_cell.new.sheets.items in
     let at_top : IsDrawn c.cells-2.result.now s.top unmoved empty new =

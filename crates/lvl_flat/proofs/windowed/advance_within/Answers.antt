@@ -97,7 +97,7 @@ pub returns-then-miss-clause-nearer : goal.returns-then-miss-clause-nearer
 returns-then-miss-clause-nearer c =
     let s : Settled = c.args.checked.now in
     let front : List Visit = c.args.stack.now.items in
-    let sound = c.cells-cells.ensures.checked.1 in
+    let sound = c.cells-cells.ensures.checked.settled in
     let less =
     less_missed s front c.args.visit c.in-Into.index c.in-Into.map c.in-Into.rest sound.sound.linked sound.sorted
     c.in-Into.ensures in
@@ -154,7 +154,7 @@ returns-in_ok-push_visit-in-Into-2-clause-nearer c =
     let s : Settled = c.args.checked.now in
     let front : List Visit = c.args.stack.now.items in
     let into : IsInto s.cells c.args.visit c.in-Into.index c.in-Into.map c.in-Into.rest = c.in-Into.ensures in
-    let sound = c.cells-cells.ensures.checked.1 in
+    let sound = c.cells-cells.ensures.checked.settled in
     let less =
     less_into s front c.args.visit c.in-Into.index c.in-Into.map c.in-Into.rest sound.sound.linked sound.sorted
     into in

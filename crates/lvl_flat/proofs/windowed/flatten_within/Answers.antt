@@ -24,7 +24,7 @@ draw_cell_within-requires-clause-sorted c =
 pub returns-in_err-draw_cell_within-clause-err : goal.returns-in_err-draw_cell_within-clause-err
 returns-in_err-draw_cell_within-clause-err c =
     let s : Settled = c.args.checked.now in
-    let settled = c.top-top.ensures.checked.1 in
+    let settled = c.top-top.ensures.checked.settled in
     let fault = c.in_err-draw_cell_within.field-0.0 in
     let at_top : Says fault (IsEnterFault c.cells.result.now s.top unmoved) =
     subst (λ i. Says fault (IsEnterFault c.cells.result.now i unmoved)) c.top-top.ensures.value
@@ -40,7 +40,7 @@ pub loop-visit-init : goal.loop-visit-init
 loop-visit-init c =
     let s : Settled = c.args.checked.now in
     let window : Window = c.args.window.now in
-    let settled = c.top-top.ensures.checked.1 in
+    let settled = c.top-top.ensures.checked.settled in
     let empty : List PlainSheet = c.in_ok-sheets.sheets.items in
     let new : List PlainSheet = c.draw_cell_within.new.sheets.items in
     let at_top : IsDrawnWithin c.cells.result.now s.top unmoved window empty new =
