@@ -1,7 +1,7 @@
 -- The walk ends with all rings drawn; sheets without rings are left out.
 use Rattle.std.proofs.Common.{◌≡◌, ◌≢◌, ◌↔◌, ◌<◌, ◌==◌, ◌++◌, zero, suc, Bool, true, false, cond, append_assoc, List}
-use Rattle.std.proofs.Common.{[], ◌∷◌, length, map, filter, not, slice_get, Some, Any, All, Contains, inl, inr, refl}
-use Rattle.std.proofs.Common.{ℕ, sym, ap, subst, ◌∙◌, arith, ◌⊎◌}
+use Rattle.std.proofs.Common.{[], ◌∷◌, length, map, filter, not, Some, Any, All, Contains, inl, inr, refl}
+use Rattle.std.proofs.Common.{sym, ap, subst, ◌∙◌, arith, ◌⊎◌}
 use Rattle.std.specs.Prelude.{IfSome}
 use Rattle.std.proofs.lemmas.List.Elements.{All-head, All-tail, All-filter, filter-append, All-weaker, filter_passes}
 use Rattle.std.proofs.lemmas.Bool.{eqb-true}
@@ -15,41 +15,21 @@ use Rattle.lvl_cells.specs.Cells.{PlainCell, Rings}
 use Rattle.lvl_cells.specs.Chains.{unmoved}
 use Rattle.lvl_cells.specs.Checks.{Settled}
 use Rattle.lvl_cells.specs.Coverage.{ShapeCovers, CellCovers}
-use Rattle.lvl_flat.specs.declared.fault.FlatFault.{FlatFault}
-use Rattle.lvl_flat.specs.declared.fault.FlatFault.TheVariants.{OutOfRange}
 use Rattle.lvl_flat.specs.declared.scope.Scope.{Scope}
 use Rattle.lvl_flat.specs.declared.scope.Scope.TheVariants.{Everything, Within}
 use Rattle.lvl_flat.specs.declared.visit.Visit.{Visit}
-use Rattle.lvl_flat.specs.Flattened.{AllInRange, FitShapes, IsOutOfRange, IsTopInRange, ReportsName}
+use Rattle.lvl_flat.specs.Flattened.{AllInRange, IsTopInRange}
 use Rattle.lvl_flat.specs.Sheet.{PlainSheet}
 use Rattle.lvl_flat.specs.Sheets.{AreSorted, IsInOrder, rings_on, has_rings, is_filled}
 use Rattle.lvl_flat.specs.inside.Drawn.{AreDrawn}
-use Rattle.lvl_flat.specs.inside.Entering.{IsDrawn, IsCellOut, IsEnterFault}
+use Rattle.lvl_flat.specs.inside.Entering.{IsDrawn}
 use Rattle.lvl_flat.specs.inside.Scopes.{IsOfScope}
 use Rattle.lvl_flat.specs.inside.Visits.{VisitCovers, PicksFit, pending}
-use Rattle.lvl_flat.specs.inside.Walking.{AllListed, IsFlattenedIn, IsUnderWay, IsWalking, SheetsCover}
+use Rattle.lvl_flat.specs.inside.Walking.{AllListed, IsFlattenedIn, IsWalking}
 use Rattle.lvl_flat.proofs.Orders.{sorted_tail, rings_nowhere}
 use Rattle.lvl_flat.proofs.Drawing.{layer_of, sorted_alike}
 use Rattle.lvl_flat.proofs.Listing.{cell_listed, cells_listed, own_listed}
-use Rattle.lvl_flat.proofs.Advancing.{shapes_place}
-use Rattle.lvl_flat.proofs.UnderWay.{under_unmoved}
-
--- a top whose own vertices are out of range
-pub top_out : (s : Settled) (c : PlainCell Rings) (name : List ℕ) → slice_get s.cells s.top ≡ Some c
-    → IsCellOut s.cells s.top unmoved name → IsOutOfRange s name
-top_out s c name at o =
-    let both : Some o.cell ≡ Some c = sym o.there ∙ at in
-    let one : o.cell ≡ c = cc in
-    record {
-      top = c;
-      is_top = at;
-      steps = 0;
-      map = unmoved;
-      cell = o.cell;
-      chain = (refl, one);
-      named = o.named;
-      out = λ fits. o.out fits.vertices;
-    }
+use Rattle.lvl_flat.proofs.Advancing.{shapes_place, under_unmoved}
 
 none_there : (rings : Rings) → has_rings rings ≡ false → rings ≡ []
 none_there [] e = refl
@@ -133,16 +113,6 @@ own_covers c empty new sorted listed none d layer s =
           ))),
     )
 
--- one whose vertices are out of range
-pub own_out : (c : PlainCell Rings) (fault : FlatFault) → IsEnterFault (c ∷ []) 0 unmoved fault
-    → ReportsName c.name fault × (¬ FitShapes unmoved c.shapes)
-own_out c (OutOfRange name) o =
-    let both : Some c ≡ Some o.cell = o.there in
-    let one : o.cell ≡ c = cc in (
-      sym o.named ∙ ap (λ (b : PlainCell Rings). b.name) one,
-      subst (λ (b : PlainCell Rings). ¬ FitShapes unmoved b.shapes) one o.out,
-    )
-
 pub filled_in_order : (ss : List PlainSheet) → AreSorted ss → IsInOrder (filter is_filled ss)
 filled_in_order ss sorted = record {
   filled =
@@ -170,17 +140,20 @@ filled_step ss filled all rest rest' s b e so next = (
   append_assoc ss (s ∷ []) rest' ∙ (ap (λ r. ss ++ r) (sym next) ∙ so.1),
 )
 
--- with no visit left, what the top covers is drawn, and all is in range
-ended : (s : Settled) (top : PlainCell Rings) (A : Type 0) (W : Layer → Square → Type 0) (sheets : List PlainSheet)
-    → AreSorted sheets → (way : IsUnderWay s top A W (SheetsCover sheets) []) → (layer : Layer) (q : Square)
-    → W layer q
-    → SomeCovers (rings_on layer (filter is_filled sheets)) q ↔ CellCovers SomeCovers s.cells layer top q
-ended s top A W sheets sorted way layer q counts =
-    let same = rings_on-filled sheets sorted layer in
-    let both = way.covers layer q counts in (
-      λ a. both.1 (inl (subst (λ rs. SomeCovers rs q) same a)),
-      λ h. elim (both.0 h) [
-        | inl a ↦ subst (λ rs. SomeCovers rs q) (sym same) a
+-- with no visit left, what the top covers in the scope is drawn
+covered : (s : Settled) (layers : List Layer) (scope : Scope) (sheets : List PlainSheet)
+    → (w : IsWalking s layers scope sheets []) → (layer : Layer) (q : Square)
+    → SomeCovers (rings_on layer (filter is_filled sheets)) q
+    ↔ (IsOfScope layers scope layer q × CellCovers SomeCovers s.cells layer w.top q)
+covered s layers scope sheets w layer q =
+    let C : Rings → Type 0 = λ rs. SomeCovers rs q in
+    let same = rings_on-filled sheets w.sorted layer in (
+      λ a.
+          let drawn : C (rings_on layer sheets) = subst C same a in
+          let part : IsOfScope layers scope layer q = w.within layer q drawn in
+          (part, (w.covers layer q part).1 (inl drawn)),
+      λ h. elim ((w.covers layer q h.0).0 h.1) [
+        | inl a ↦ subst C (sym same) a
         | inr b ↦ absurd (Any-nil (VisitCovers s.cells layer q) b)
       ],
     )
@@ -188,42 +161,28 @@ ended s top A W sheets sorted way layer q counts =
 none_left : (s : Settled) (v : Visit) → Contains [] v → PicksFit s.cells v.map (pending s.cells v)
 none_left s v has = let below : has.0 < 0 = has.1 in absurd (omega arith)
 
--- so the rings cover what the top covers in the scope
-covered : (s : Settled) (layers : List Layer) (scope : Scope) (sheets : List PlainSheet)
-    → (w : IsWalking s layers scope sheets []) → (layer : Layer) (q : Square)
-    → SomeCovers (rings_on layer (filter is_filled sheets)) q
-    ↔ (IsOfScope layers scope layer q × CellCovers SomeCovers s.cells layer w.top q)
-covered s layers scope sheets w layer q =
-    let same = rings_on-filled sheets w.sorted layer in
-    let both = ended s w.top (AllListed layers s.cells) (IsOfScope layers scope) sheets w.sorted w.way layer q in (
-      λ a.
-          let part : IsOfScope layers scope layer q = w.within layer q (subst (λ rs. SomeCovers rs q) same a) in
-          (part, (both part).0 a),
-      λ h. (both h.0).1 h.1,
-    )
-
 pub walk_ends : (s : Settled) (layers : List Layer) (scope : Scope) (sheets : List PlainSheet)
     → IsTopInRange s ⊎ AllListed layers s.cells → IsWalking s layers scope sheets []
     → IsFlattenedIn s layers scope (filter is_filled sheets)
 walk_ends s layers Everything sheets fits w = λ listed. record {
   top = w.top;
-  is_top = w.way.is_top;
+  is_top = w.is_top;
   covers = λ layer q.
       let both = covered s layers Everything sheets w layer q in (
         λ a. (both.0 a).1,
-        λ h. both.1 ((cells_listed s.cells layers listed layer s.top w.top q w.way.is_top h, tt), h),
+        λ h. both.1 ((cells_listed s.cells layers listed layer s.top w.top q w.is_top h, tt), h),
       );
   count = λ layer. ap length (rings_on-filled sheets w.sorted layer) ∙ omega (arith, w.counts refl listed layer);
-  in_range = w.way.fits listed (none_left s);
+  in_range = w.fits listed (none_left s);
 }
 walk_ends s layers (Within window) sheets fits w = record {
   top = w.top;
-  is_top = w.way.is_top;
+  is_top = w.is_top;
   covers = covered s layers (Within window) sheets w;
   in_range =
       elim fits [
-        | inl known ↦ subst (λ o. IfSome o (AllInRange s.cells)) w.way.is_top known
-        | inr listed ↦ w.way.fits listed (none_left s)
+        | inl known ↦ subst (λ o. IfSome o (AllInRange s.cells)) w.is_top known
+        | inr listed ↦ w.fits listed (none_left s)
       ];
 }
 

@@ -14,6 +14,7 @@ pub mod Holding
 pub mod UnderWay
 pub mod Outside
 pub mod Advancing
+pub mod Reporting
 pub mod Cutting
 pub mod Runs
 pub mod Skipping

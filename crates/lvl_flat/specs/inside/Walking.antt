@@ -22,33 +22,30 @@ use Rattle.lvl_flat.specs.inside.Visits.{pending, visit_weight, VisitCovers, Pic
 abbrev pub AllListed : List Layer → List (PlainCell Rings) → Type 0
 AllListed layers cells = All (λ c. All (λ h. Contains layers h.layer) c.shapes) cells
 
--- of the squares that count on a Layer, the top covers exactly those that are drawn or that a visit has still to cover;
--- if every shape that is placed is drawn, and what the visits have still to follow is in range, all is
-pub record IsUnderWay (s : Settled) (top : PlainCell Rings) (every : Type 0)
-    (counts drawn : Layer → Square → Type 0) (stack : List Visit) : Type 0 where
-  pub is_top : slice_get s.cells s.top ≡ Some top
-  pub covers : (layer : Layer) (q : Square) → counts layer q
-      → CellCovers SomeCovers s.cells layer top q ↔ (drawn layer q ⊎ Any (VisitCovers s.cells layer q) stack)
-  pub fits : every → ((v : Visit) → Contains stack v → PicksFit s.cells v.map (pending s.cells v))
-      → AllInRange s.cells top
-  pub visits : (v : Visit) → Contains stack v → IsVisit s.cells top v
-
 -- the sheets cover the square on the Layer
 abbrev pub SheetsCover : List PlainSheet → Layer → Square → Type 0
 SheetsCover sheets layer q = SomeCovers (rings_on layer sheets) q
 
--- the walk over what is in a scope on the Layers of a list, each of which has a sheet; no other squares are drawn. If
--- everything is drawn, and every shape is on one of these Layers, each placed ring is drawn or still to come
+-- the walk over what is in a scope on the Layers of a list, each of which has a sheet: of these squares the top covers
+-- exactly those that are drawn or that a visit has still to cover, and no others are drawn. If every shape is on one of
+-- these Layers, all is in range if what the visits have still to follow is; and if everything is drawn, each placed ring
+-- is drawn or still to come
 pub record IsWalking (s : Settled) (layers : List Layer) (scope : Scope) (sheets : List PlainSheet)
     (stack : List Visit) : Type 0 where
   pub top : PlainCell Rings
-  pub way : IsUnderWay s top (AllListed layers s.cells) (IsOfScope layers scope) (SheetsCover sheets) stack
-  pub sorted : AreSorted sheets
-  pub layers_are : map (λ sheet. sheet.layer) sheets ≡ layers
+  pub is_top : slice_get s.cells s.top ≡ Some top
+  pub covers : (layer : Layer) (q : Square) → IsOfScope layers scope layer q
+      → CellCovers SomeCovers s.cells layer top q
+      ↔ (SheetsCover sheets layer q ⊎ Any (VisitCovers s.cells layer q) stack)
   pub within : (layer : Layer) (q : Square) → SheetsCover sheets layer q → IsOfScope layers scope layer q
+  pub fits : AllListed layers s.cells
+      → ((v : Visit) → Contains stack v → PicksFit s.cells v.map (pending s.cells v)) → AllInRange s.cells top
   pub counts : scope ≡ Everything → AllListed layers s.cells → (layer : Layer)
       → length (rings_on layer sheets) + sum_by (visit_weight (own_rings_on each_ring layer) s.cells) stack
       ≡ placed_rings_on each_ring layer s.cells top
+  pub visits : (v : Visit) → Contains stack v → IsVisit s.cells top v
+  pub sorted : AreSorted sheets
+  pub layers_are : map (λ sheet. sheet.layer) sheets ≡ layers
 
 -- the walk is over: everything is drawn, if every shape is on one of the Layers; or what is in the window
 abbrev pub IsFlattenedIn : Settled → List Layer → Scope → List PlainSheet → Type 0

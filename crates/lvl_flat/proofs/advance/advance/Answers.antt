@@ -12,28 +12,27 @@ use Rattle.lvl_flat.specs.declared.visit.Visit.{Visit}
 use Rattle.lvl_flat.specs.Sheet.{PlainSheet}
 use Rattle.lvl_flat.specs.inside.Entering.{begun, IsDrawn, IsEnterFault}
 use Rattle.lvl_flat.specs.Flattened.{ReportsName}
-use Rattle.lvl_flat.specs.inside.Scopes.{IsOfScope}
 use Rattle.lvl_flat.specs.inside.Steps.{IsInto, IsOut}
-use Rattle.lvl_flat.specs.inside.Walking.{AllListed, SheetsCover, IsWalking, work}
+use Rattle.lvl_flat.specs.inside.Walking.{IsWalking, work}
 use Rattle.lvl_flat.proofs.Drawing.{layer_of}
 use Rattle.lvl_flat.proofs.Walking.{in_last}
 use Rattle.lvl_flat.proofs.Going.{less_into, less_left_out, less_missed, less_passed}
-use Rattle.lvl_flat.proofs.Advancing.{walk_done, walk_past, walk_missed, walk_passed, walk_into}
-use Rattle.lvl_flat.proofs.Advancing.{walk_left_out}
-use Rattle.lvl_flat.proofs.UnderWay.{out_by_shift, out_by_vertex, names_out, entered_out}
+use Rattle.lvl_flat.proofs.Advancing.{walk_into}
+use Rattle.lvl_flat.proofs.UnderWay.{walk_done, walk_left_out, walk_missed, walk_passed, walk_past}
+use Rattle.lvl_flat.proofs.Reporting.{out_by_shift, out_by_vertex, names_out, entered_out}
 use Rattle.lvl_refusal.specs.Refused.{Says}
 use Rattle.lvl_refusal.proofs.Saying.{Says-map}
 use Rattle.lvl_flat.proofs.advance.advance.Goals as goal
 
 pub next_step-requires : goal.next_step-requires
 next_step-requires c =
-    let old = c.requires.walking.way.visits c.args.visit (in_last c.args.stack.now.items c.args.visit) in
+    let old = c.requires.walking.visits c.args.visit (in_last c.args.stack.now.items c.args.visit) in
     slice_get_within c.args.checked.now.cells c.args.visit.cell old.cell old.there
 
 pub push_rest-requires : goal.push_rest-requires
 push_rest-requires c =
     let s : Settled = c.args.checked.now in
-    let old = c.requires.walking.way.visits c.args.visit (in_last c.args.stack.now.items c.args.visit) in
+    let old = c.requires.walking.visits c.args.visit (in_last c.args.stack.now.items c.args.visit) in
     let into : IsInto s.cells c.args.visit c.in-Into.index c.in-Into.map c.in-Into.rest = c.in-Into.ensures in
     omega (arith, slice_get_within s.cells c.args.visit.cell old.cell old.there, into.cell_is)
 
@@ -79,7 +78,7 @@ returns-in_ok-push_visit-in-Past-clause-walking c =
 pub pass_by-further-requires-clause-cell : goal.pass_by-further-requires-clause-cell
 pass_by-further-requires-clause-cell c =
     let s : Settled = c.args.checked.now in
-    let old = c.requires.walking.way.visits c.args.visit (in_last c.args.stack.now.items c.args.visit) in
+    let old = c.requires.walking.visits c.args.visit (in_last c.args.stack.now.items c.args.visit) in
     let into : IsInto s.cells c.args.visit c.in-Into.index c.in-Into.map c.in-Into.rest = c.in-Into.ensures in
     omega (arith, slice_get_within s.cells c.args.visit.cell old.cell old.there, into.cell_is)
 
@@ -129,12 +128,9 @@ returns-in_err-draw_cell-in-Into-clause-err c =
     c.from_residual-in_err-draw_cell-in-Into.ensures.1 in
     rw (p.1, p.2) (Says-map (IsEnterFault s.cells c.in-Into.index c.in-Into.map) _
     c.in_err-draw_cell-in-Into.field-0.0
-    (entered_out s c.in-Into.index c.in-Into.map (λ name out. out_by_vertex s c.requires.walking.top
-    (AllListed (map layer_of c.args.sheets.now.items) s.cells)
-    (IsOfScope (map layer_of c.args.sheets.now.items) c.args.scope.now) (SheetsCover c.args.sheets.now.items)
-    c.args.stack.now.items c.args.visit c.in-Into.index c.in-Into.map
-    c.in-Into.rest name c.requires.walking.way into out))
-    reported)
+    (entered_out s c.in-Into.index c.in-Into.map (λ name out. out_by_vertex s
+    (map layer_of c.args.sheets.now.items) c.args.scope.now c.args.sheets.now.items c.args.stack.now.items c.args.visit
+    c.in-Into.index c.in-Into.map c.in-Into.rest name c.requires.walking into out)) reported)
 
 pub returns-in_ok-push_visit-in-Into-2-clause-walking : goal.returns-in_ok-push_visit-in-Into-2-clause-walking
 returns-in_ok-push_visit-in-Into-2-clause-walking c =
@@ -196,8 +192,6 @@ returns-in-Out-clause-err c =
     c.as_bytes.ensures ∙ ap (λ (b : PlainCell Rings). b.name) (c.cell.view_is ∙ one) in
     Says-map (ReportsName out.next.name) _ c.out_of_range.result
     (λ f reports. names_out s out.next.name f reports
-    (out_by_shift s c.requires.walking.top (AllListed (map layer_of c.args.sheets.now.items) s.cells)
-    (IsOfScope (map layer_of c.args.sheets.now.items) c.args.scope.now) (SheetsCover c.args.sheets.now.items)
-    c.args.stack.now.items c.args.visit c.in-Out.index
-    c.requires.walking.way out))
+    (out_by_shift s (map layer_of c.args.sheets.now.items) c.args.scope.now c.args.sheets.now.items
+    c.args.stack.now.items c.args.visit c.in-Out.index c.requires.walking out))
     (subst (λ n. Says c.out_of_range.result (ReportsName n)) name c.out_of_range.ensures)

@@ -10,8 +10,8 @@ use Rattle.lvl_flat.specs.Sheet.{PlainSheet}
 use Rattle.lvl_flat.specs.inside.Walking.{IsFlattenedIn, IsWalking}
 use Rattle.lvl_flat.proofs.Advancing.{walk_begins}
 use Rattle.lvl_flat.proofs.Drawing.{layer_of}
-use Rattle.lvl_flat.proofs.Ending.{walk_ends, top_out, rings_on_empty}
-use Rattle.lvl_flat.proofs.UnderWay.{entered_out}
+use Rattle.lvl_flat.proofs.Ending.{walk_ends, rings_on_empty}
+use Rattle.lvl_flat.proofs.Reporting.{entered_out, top_out}
 use Rattle.lvl_refusal.specs.Refused.{Says}
 use Rattle.lvl_refusal.proofs.Saying.{Says-map}
 use Rattle.lvl_flat.proofs.advance.draw_all.Goals as goal

@@ -5,7 +5,7 @@ use Rattle.lvl_flat.specs.inside.Drawn.{AreDrawn}
 use Rattle.lvl_flat.specs.Flattened.{FitShapes, ReportsName}
 use Rattle.lvl_refusal.specs.Refused.{Says}
 use Rattle.lvl_refusal.proofs.Saying.{Says-map}
-use Rattle.lvl_flat.proofs.UnderWay.{reports_entered}
+use Rattle.lvl_flat.proofs.Reporting.{reports_entered}
 use Rattle.lvl_flat.proofs.enter.draw_cell.Goals as goal
 
 pub returns-in-Ok-clause-drawn : goal.returns-in-Ok-clause-drawn

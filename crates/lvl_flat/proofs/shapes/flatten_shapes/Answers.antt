@@ -10,7 +10,8 @@ use Rattle.lvl_cells.specs.Coverage.{ShapeCovers}
 use Rattle.lvl_flat.specs.Sheet.{PlainSheet}
 use Rattle.lvl_flat.specs.Sheets.{rings_on}
 use Rattle.lvl_flat.proofs.Drawing.{layer_of, sorted_alike}
-use Rattle.lvl_flat.proofs.Ending.{own_covers, own_out, rings_on_empty}
+use Rattle.lvl_flat.proofs.Ending.{own_covers, rings_on_empty}
+use Rattle.lvl_flat.proofs.Reporting.{own_out}
 use Rattle.lvl_refusal.specs.Refused.{Says}
 use Rattle.lvl_refusal.proofs.Saying.{Says-map}
 use Rattle.lvl_flat.proofs.shapes.flatten_shapes.Goals as goal
