@@ -1,25 +1,19 @@
 -- What placed shapes cover, and what cells cover by their picks.
-use Rattle.std.proofs.Common.{◌≡◌, ℕ, zero, suc, true, false, cond, not, List, [], ◌∷◌, Option, Some, None, Any, All}
+use Rattle.std.proofs.Common.{◌≡◌, ℕ, zero, suc, List, Option, Some, None, Any}
 use Rattle.std.proofs.Common.{IsSomeAnd, ◌↔◌, ◌⊎◌, inl, inr, refl, sym, ap, subst, ◌∙◌, arith}
-use Rattle.std.specs.List.{flat_map}
 use Rattle.std.proofs.lemmas.Int.{ints}
-use Rattle.std.proofs.lemmas.List.Elements.{All-head, All-tail}
 use Rattle.lvl_grid.specs.declared.point.Point.{Point}
 use Rattle.lvl_grid.specs.declared.point.Square.{Square}
 use Rattle.lvl_grid.specs.declared.map.Map.{Map}
 use Rattle.lvl_grid.specs.Turn.{image_square}
 use Rattle.lvl_grid.specs.Placed.{moved_square}
-use Rattle.lvl_grid.specs.Winding.{Covers, SomeCovers}
+use Rattle.lvl_grid.specs.Winding.{SomeCovers}
 use Rattle.lvl_grid.proofs.Squares.{same_square, image_square-composed}
 use Rattle.lvl_names.specs.declared.layer.Layer.{Layer}
-use Rattle.lvl_cells.specs.Cells.{PlainCell, PlainShape, Rings, map_at, cell_named}
+use Rattle.lvl_cells.specs.Cells.{PlainCell, Rings, map_at, cell_named}
 use Rattle.lvl_cells.specs.Chains.{IsComposed}
 use Rattle.lvl_cells.specs.Coverage.{moved_back, ShapeCovers, PullsBack, CoversWithin, CellCovers}
-use Rattle.lvl_flat.specs.inside.Drawn.{placed_ring, placed_figure, placed_shape, drawn_on, IsPlaced, AreFiguresPlaced}
-use Rattle.lvl_names.specs.Layers.{same_layer}
 use Rattle.lvl_flat.specs.inside.Visits.{Pick, picks, PickCovers}
-use Rattle.lvl_names.proofs.Layers.{tested_layer, same_is}
-use Rattle.lvl_grid.proofs.Anyone.{Any-nil, Any-head, Any-tail, Any-uncons, Any-left, Any-right, Any-sides}
 use Rattle.lvl_flat.proofs.Picks.{picks_any}
 
 -- s is the image of a square of the set
@@ -41,112 +35,6 @@ there_and_back e s = same_square _ _ (omega (arith, ints)) (omega (arith, ints))
 
 pub back_and_there : (e : Point) (s : Square) → moved_square e (moved_back e s) ≡ s
 back_and_there e s = same_square _ _ (omega (arith, ints)) (omega (arith, ints))
-
--- the rings of a figure at a shift
-figure_covers : (m : Map) (e : Point) (s : Square) (rings : Rings) → All (IsPlaced m e) rings
-    → SomeCovers (placed_figure m rings e) s ↔ Under m s (λ t. SomeCovers rings (moved_back e t))
-figure_covers m e s [] all = (
-  λ a. absurd (Any-nil (λ ring. Covers ring s) a),
-  λ u. absurd (Any-nil (λ ring. Covers ring (moved_back e u.0)) u.2),
-)
-figure_covers m e s (ring ∷ rings) all =
-    let here = All-head (IsPlaced m e) ring rings all in
-    let rest = figure_covers m e s rings (All-tail (IsPlaced m e) ring rings all) in (
-      λ a.
-          elim (Any-uncons (λ r. Covers r s) (placed_ring m e ring) (placed_figure m rings e) a) [
-            | inl c ↦
-                let from = (here.covers s).0 c in (
-                  moved_square e from.from,
-                  from.place,
-                  Any-head (λ r. Covers r (moved_back e (moved_square e from.from))) ring rings
-                      (subst (Covers ring) (sym (there_and_back e from.from)) from.covered),
-                )
-            | inr b ↦ let u = rest.0 b in (u.0, u.1, Any-tail (λ r. Covers r (moved_back e u.0)) ring rings u.2)
-          ],
-      λ u.
-          elim (Any-uncons (λ r. Covers r (moved_back e u.0)) ring rings u.2) [
-            | inl c ↦
-                Any-head (λ r. Covers r s) (placed_ring m e ring) (placed_figure m rings e)
-                ((here.covers s).1
-                (record {
-                  from = moved_back e u.0;
-                  place = ap (image_square m) (back_and_there e u.0) ∙ u.1;
-                  covered = c;
-                }))
-            | inr b ↦ Any-tail (λ r. Covers r s) (placed_ring m e ring) (placed_figure m rings e) (rest.1 (u.0, u.1, b))
-          ],
-    )
-
--- the rings of a shape at all of its shifts
-shape_covers : (m : Map) (s : Square) (rings : Rings) (shifts : List Point) → All (λ e. All (IsPlaced m e) rings) shifts
-    → SomeCovers (flat_map (placed_figure m rings) shifts) s
-    ↔ Under m s (λ t. Any (λ e. SomeCovers rings (moved_back e t)) shifts)
-shape_covers m s rings [] all = (
-  λ a. absurd (Any-nil (λ ring. Covers ring s) a),
-  λ u. absurd (Any-nil (λ e. SomeCovers rings (moved_back e u.0)) u.2),
-)
-shape_covers m s rings (e ∷ shifts) all =
-    let P : Point → Type 0 = λ d. All (IsPlaced m d) rings in
-    let here = figure_covers m e s rings (All-head P e shifts all) in
-    let rest = shape_covers m s rings shifts (All-tail P e shifts all) in (
-      λ a.
-          elim (Any-sides (λ r. Covers r s) (placed_figure m rings e) (flat_map (placed_figure m rings) shifts) a) [
-            | inl b ↦ let u = here.0 b in (u.0, u.1, Any-head (λ d. SomeCovers rings (moved_back d u.0)) e shifts u.2)
-            | inr b ↦ let u = rest.0 b in (u.0, u.1, Any-tail (λ d. SomeCovers rings (moved_back d u.0)) e shifts u.2)
-          ],
-      λ u.
-          elim (Any-uncons (λ d. SomeCovers rings (moved_back d u.0)) e shifts u.2) [
-            | inl c ↦
-                Any-left (λ r. Covers r s) (placed_figure m rings e) (flat_map (placed_figure m rings) shifts)
-                (here.1 (u.0, u.1, c))
-            | inr b ↦
-                Any-right (λ r. Covers r s) (placed_figure m rings e) (flat_map (placed_figure m rings) shifts)
-                (rest.1 (u.0, u.1, b))
-          ],
-    )
-
--- the shapes on a Layer
-pub drawn_covers : (layer : Layer) (m : Map) (s : Square) (shapes : List (PlainShape Rings)) → AreFiguresPlaced m shapes
-    → SomeCovers (drawn_on layer m shapes) s ↔ Under m s (λ t. Any (ShapeCovers SomeCovers layer t) shapes)
-drawn_covers layer m s [] all =
-    (λ a. absurd (Any-nil (λ ring. Covers ring s) a), λ u. absurd (Any-nil (ShapeCovers SomeCovers layer u.0) u.2))
-drawn_covers layer m s (h ∷ shapes) all =
-    let P : PlainShape Rings → Type 0 = λ g. All (λ e. All (IsPlaced m e) g.figure) g.shifts in
-    let shape = shape_covers m s h.figure h.shifts (All-head P h shapes all) in
-    let rest = drawn_covers layer m s shapes (All-tail P h shapes all) in
-    let mine : SomeCovers (cond (same_layer h.layer layer) (placed_shape m h) []) s
-    ↔ Under m s (λ t. ShapeCovers SomeCovers layer t h) =
-    elim (same_layer h.layer layer)
-    as (λ b. same_layer h.layer layer ≡ b
-    → SomeCovers (cond b (placed_shape m h) []) s ↔ Under m s (λ t. ShapeCovers SomeCovers layer t h)) [
-      | true ↦
-          λ e. (
-            λ a. let u = shape.0 a in (u.0, u.1, (tested_layer h.layer layer (ap not e), u.2)),
-            λ u. shape.1 (u.0, u.1, u.2.1),
-          )
-      | false ↦
-          λ e. (
-            λ a. absurd (Any-nil (λ ring. Covers ring s) a),
-            λ u. let no : true ≡ false = sym (same_is h.layer layer u.2.0) ∙ e in cc,
-          )
-    ] refl in (
-      λ a.
-          elim
-          (Any-sides (λ r. Covers r s) (cond (same_layer h.layer layer) (placed_shape m h) [])
-          (drawn_on layer m shapes) a) [
-            | inl b ↦ let u = mine.0 b in (u.0, u.1, Any-head (ShapeCovers SomeCovers layer u.0) h shapes u.2)
-            | inr b ↦ let u = rest.0 b in (u.0, u.1, Any-tail (ShapeCovers SomeCovers layer u.0) h shapes u.2)
-          ],
-      λ u.
-          elim (Any-uncons (ShapeCovers SomeCovers layer u.0) h shapes u.2) [
-            | inl c ↦
-                Any-left (λ r. Covers r s) (cond (same_layer h.layer layer) (placed_shape m h) [])
-                (drawn_on layer m shapes) (mine.1 (u.0, u.1, c))
-            | inr b ↦
-                Any-right (λ r. Covers r s) (cond (same_layer h.layer layer) (placed_shape m h) [])
-                (drawn_on layer m shapes) (rest.1 (u.0, u.1, b))
-          ],
-    )
 
 pub some_is : {X : Type 0} (P : X → Type 0) (o : Option X) → IsSomeAnd o P → (x : X) × (o ≡ Some x) × P x
 some_is P None h = absurd h

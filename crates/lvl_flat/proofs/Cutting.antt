@@ -1,8 +1,8 @@
--- Rings that are drawn in a window, one after another.
-use Rattle.std.proofs.Common.{◌≡◌, ◌<◌, ◌≤◌, ◌++◌, ◌+◌, ◌↔◌, ◌⊎◌, inl, inr, ℕ, zero, suc, true, false, cond, not}
+-- Rings that are drawn one after another, each on the sheet of its Layer.
+use Rattle.std.proofs.Common.{◌≡◌, ◌<◌, ◌++◌, ◌+◌, ◌↔◌, ◌⊎◌, inl, inr, ℕ, zero, suc, true, false, cond, not}
 use Rattle.std.proofs.Common.{List, [], length, Contains}
 use Rattle.std.proofs.Common.{◌∷◌, All, Any, take, map, set, slice_get, get_or, Some, refl, sym, ap, subst, ◌∙◌, arith}
-use Rattle.std.proofs.lemmas.List.{take_more, take_all}
+use Rattle.std.proofs.lemmas.List.{take_more}
 use Rattle.std.proofs.lemmas.Option.{slice_get_within, get_or_from_slice_get}
 use Rattle.lvl_grid.specs.declared.point.Point.{Point}
 use Rattle.lvl_grid.specs.declared.point.Square.{Square}
@@ -17,12 +17,14 @@ use Rattle.lvl_names.specs.Layers.{ComesBefore, same_layer}
 use Rattle.lvl_names.proofs.Layers.{before_itself, differs_is, same_is, tested_layer}
 use Rattle.lvl_cells.specs.Cells.{PlainShape, Rings}
 use Rattle.lvl_flat.specs.declared.bounds.Bounds.{Bounds}
-use Rattle.lvl_flat.specs.Flattened.{FitsRing, IsOfPart}
+use Rattle.lvl_flat.specs.declared.scope.Scope.{Scope}
+use Rattle.lvl_flat.specs.Flattened.{FitsRing}
 use Rattle.lvl_flat.specs.Sheet.{PlainSheet}
 use Rattle.lvl_flat.specs.Sheets.{AreSorted, rings_on}
 use Rattle.lvl_flat.specs.Boxes.{HoldsPoint, FitsBounds}
 use Rattle.lvl_flat.specs.inside.Bounds.{IsOutside, IsInside}
 use Rattle.lvl_flat.specs.inside.Drawn.{FitsAtEach}
+use Rattle.lvl_flat.specs.inside.Scopes.{IsInScope, IsOfScope}
 use Rattle.lvl_flat.proofs.Holding.{fits_within}
 use Rattle.lvl_flat.proofs.Orders.{sorted_at, sorted_tail, rings_where}
 use Rattle.lvl_flat.proofs.Outside.{placed_square}
@@ -57,11 +59,6 @@ covers_more P W old now new xs k x at before step =
           ]),
     )
 
--- all items
-pub covers_all : {X : Type 0} (P : X → Type 0) (W old new : Type 0) (xs : List X) (k : ℕ) → length xs ≤ k
-    → new ↔ (old ⊎ (W × Any P (take k xs))) → new ↔ (old ⊎ (W × Any P xs))
-covers_all P W old new xs k past h = subst (λ ys. new ↔ (old ⊎ (W × Any P ys))) (take_all k xs past) h
-
 -- a ring whose placed box is outside of the window adds nothing
 pub outside_adds : (m : Map) (e : Point) (window : Window) (b placed : Bounds) (ring : List Point) (old : Rings)
     → ((p : Point) → HoldsPoint b p → HoldsPoint placed (placed_point m e p)) → All (HoldsPoint b) ring
@@ -82,26 +79,34 @@ pub placed_ring_fits : (m : Map) (e : Point) (b placed : Bounds) (ring : List Po
 placed_ring_fits m e b placed ring fits holds all =
     λ k v lt. fits_within placed (placed_point m e (get_or ring k v)) fits (holds _ (all k v lt))
 
--- a ring whose placed box is inside of the window adds all that it covers
-pub inside_adds : (m : Map) (e : Point) (window : Window) (b placed : Bounds) (ring : List Point) (old new : Rings)
-    → ((p : Point) → HoldsPoint b p → HoldsPoint placed (placed_point m e p)) → All (HoldsPoint b) ring
-    → IsInside placed window → new ≡ old ++ map (placed_point m e) ring ∷ []
-    → ((t : Square) → Covers (map (placed_point m e) ring) t ↔ IsPlaceOfCovered m e ring t) → (q : Square)
-    → SomeCovers new q ↔ (SomeCovers old q ⊎ (IsInWindow window q × IsPlaceOfCovered m e ring q))
-inside_adds m e window b placed ring old new holds all within is covers q =
+-- a ring that is placed adds all that it covers, if all of that counts
+pub whole_adds : (m : Map) (e : Point) (W : Square → Type 0) (ring : List Point) (old new : Rings)
+    → new ≡ old ++ map (placed_point m e) ring ∷ []
+    → ((t : Square) → Covers (map (placed_point m e) ring) t ↔ IsPlaceOfCovered m e ring t)
+    → ((q : Square) → IsPlaceOfCovered m e ring q → W q) → (q : Square)
+    → SomeCovers new q ↔ (SomeCovers old q ⊎ (W q × IsPlaceOfCovered m e ring q))
+whole_adds m e W ring old new is covers within q =
     let C : List Point → Type 0 = λ r. Covers r q in
     let push = Any-push C old (map (placed_point m e) ring) in (
       λ a.
           elim (push.0 (subst (Any C) is a)) [
             | inl c ↦ inl c
-            | inr c ↦
-                let at = (covers q).0 c in
-                inr (within.all q (placed_square m e b placed ring q holds all at), at)
+            | inr c ↦ let at = (covers q).0 c in inr (within q at, at)
           ],
       λ d.
           subst (Any C) (sym is)
           (push.1 (elim d [ inl a ↦ inl a | inr a ↦ inr ((covers q).1 a.1) ])),
     )
+
+-- as it is if its placed box is inside of the window
+pub inside_adds : (m : Map) (e : Point) (window : Window) (b placed : Bounds) (ring : List Point) (old new : Rings)
+    → ((p : Point) → HoldsPoint b p → HoldsPoint placed (placed_point m e p)) → All (HoldsPoint b) ring
+    → IsInside placed window → new ≡ old ++ map (placed_point m e) ring ∷ []
+    → ((t : Square) → Covers (map (placed_point m e) ring) t ↔ IsPlaceOfCovered m e ring t) → (q : Square)
+    → SomeCovers new q ↔ (SomeCovers old q ⊎ (IsInWindow window q × IsPlaceOfCovered m e ring q))
+inside_adds m e window b placed ring old new holds all within is covers =
+    whole_adds m e (IsInWindow window) ring old new is covers
+    (λ q at. within.all q (placed_square m e b placed ring q holds all at))
 
 -- a ring that is clipped adds the squares of the window that it covers
 pub cut_adds : (m : Map) (e : Point) (window : Window) (ring placed : List Point) (old new : Rings)
@@ -126,7 +131,7 @@ pub each_shift : (m : Map) (h : PlainShape Rings) → All (FitsAtEach m h.shifts
 each_shift m h all = λ j e lj k ring lk. all k ring lk j e lj
 
 -- the rings of one sheet are replaced
-rings_on-put : (sheets : List PlainSheet) (i : ℕ) (s : PlainSheet) (rings : Rings) → AreSorted sheets
+pub rings_on-put : (sheets : List PlainSheet) (i : ℕ) (s : PlainSheet) (rings : Rings) → AreSorted sheets
     → slice_get sheets i ≡ Some s → (layer : Layer)
     → rings_on layer (set sheets i (record { layer = s.layer; rings = rings }))
     ≡ cond (same_layer s.layer layer) rings (rings_on layer sheets)
@@ -195,20 +200,39 @@ sheet_adds sheets i s new rings W P q sorted at is adds layer =
       )
     ] refl all
 
--- of what is drawn on the Layers of a list, a shape on one of them adds its squares of the window
-pub part_adds : (layers : List Layer) (window : Window) (shape layer : Layer) (q : Square) (now new P : Type 0)
-    → Contains layers shape → new ↔ (now ⊎ (IsInWindow window q × ((shape ≡ layer) × P)))
-    → new ↔ (now ⊎ (IsOfPart layers window layer q × ((shape ≡ layer) × P)))
-part_adds layers window shape layer q now new P has adds = (
+-- and so is their number
+pub sheet_counts : (sheets : List PlainSheet) (i : ℕ) (s new : PlainSheet) (rings : Rings) (n : ℕ) → AreSorted sheets
+    → slice_get sheets i ≡ Some s → new ≡ record { layer = s.layer; rings = rings }
+    → length rings ≡ length s.rings + n → (layer : Layer)
+    → length (rings_on layer (set sheets i new))
+    ≡ length (rings_on layer sheets) + cond (same_layer s.layer layer) n 0
+sheet_counts sheets i s new rings n sorted at is adds layer =
+    let all : rings_on layer (set sheets i new) ≡ cond (same_layer s.layer layer) rings (rings_on layer sheets) =
+    ap (λ n. rings_on layer (set sheets i n)) is ∙ rings_on-put sheets i s rings sorted at layer in
+    ap length all
+    ∙ elim (same_layer s.layer layer)
+    as (λ b. same_layer s.layer layer ≡ b
+    → length (cond b rings (rings_on layer sheets)) ≡ length (rings_on layer sheets) + cond b n 0) [
+      | true ↦ λ e.
+          let here : s.layer ≡ layer = tested_layer s.layer layer (ap not e) in
+          adds ∙ ap (λ (rs : Rings). length rs + n) (sym (rings_where sheets layer i s sorted at here))
+      | false ↦ λ e. omega arith
+    ] refl
+
+-- of what is drawn on the Layers of a list, a shape on one of them adds its squares of the scope
+pub part_adds : (layers : List Layer) (scope : Scope) (shape layer : Layer) (q : Square) (now new P : Type 0)
+    → Contains layers shape → new ↔ (now ⊎ (IsInScope scope q × ((shape ≡ layer) × P)))
+    → new ↔ (now ⊎ (IsOfScope layers scope layer q × ((shape ≡ layer) × P)))
+part_adds layers scope shape layer q now new P has adds = (
   λ a. elim (adds.0 a) [ inl b ↦ inl b | inr b ↦ inr ((subst (Contains layers) b.1.0 has, b.0), b.1) ],
   λ e. adds.1 (elim e [ inl b ↦ inl b | inr b ↦ inr (b.0.1, b.1) ]),
 )
 
 -- and a shape on another Layer adds nothing
-pub part_skips : (layers : List Layer) (window : Window) (shape layer : Layer) (q : Square) (now P : Type 0)
+pub part_skips : (layers : List Layer) (scope : Scope) (shape layer : Layer) (q : Square) (now P : Type 0)
     → (Contains layers shape → ⊥)
-    → now ↔ (now ⊎ (IsOfPart layers window layer q × ((shape ≡ layer) × P)))
-part_skips layers window shape layer q now P none = (
+    → now ↔ (now ⊎ (IsOfScope layers scope layer q × ((shape ≡ layer) × P)))
+part_skips layers scope shape layer q now P none = (
   λ a. inl a,
   λ e. elim e [ inl a ↦ a | inr b ↦ absurd (none (subst (Contains layers) (sym b.1.0) b.0.0)) ],
 )

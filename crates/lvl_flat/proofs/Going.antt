@@ -1,139 +1,21 @@
--- The walk begins, goes into a cell, and ends.
-use Rattle.std.proofs.Common.{◌≡◌, ◌<◌, ◌≤◌, ◌++◌, ◌+◌, ◌-◌, ℕ, zero, suc, List, [], ◌∷◌, length, map, sum_by}
-use Rattle.std.proofs.Common.{refl, slice_get, Any, ◌↔◌, ◌⊎◌}
-use Rattle.std.proofs.Common.{Option, Some, Contains, inl, inr, sym, ap, subst, ◌∙◌, arith, length-append, get_or}
+-- Each step of the walk leaves fewer steps.
+use Rattle.std.proofs.Common.{◌≡◌, ◌<◌, ◌≤◌, ◌++◌, ◌+◌, ◌-◌, ℕ, zero, suc, List, [], ◌∷◌, length, sum_by}
+use Rattle.std.proofs.Common.{refl, slice_get, Option, inl, inr, ap, subst, ◌∙◌, arith}
 use Rattle.std.specs.Option.{option_map_or}
-use Rattle.lvl_grid.specs.declared.point.Point.{Point}
 use Rattle.lvl_grid.specs.declared.map.Map.{Map}
-use Rattle.lvl_grid.specs.Winding.{Covers, SomeCovers}
-use Rattle.lvl_names.specs.declared.layer.Layer.{Layer}
-use Rattle.lvl_cells.specs.Cells.{PlainCell, Rings, each_ring, PlainShape}
-use Rattle.lvl_cells.specs.Chains.{own_rings_on}
-use Rattle.lvl_cells.specs.Checks.{Settled}
-use Rattle.lvl_cells.specs.Coverage.{ShapeCovers}
-use Rattle.lvl_cells.specs.Soundness.{AreLinked, IsOrder}
-use Rattle.lvl_flat.specs.declared.visit.Visit.{Visit}
-use Rattle.lvl_flat.specs.inside.Drawn.{drawn_on, AreFiguresPlaced}
-use Rattle.lvl_flat.specs.Sheet.{PlainSheet}
-use Rattle.lvl_flat.specs.Sheets.{rings_on}
-use Rattle.lvl_flat.specs.inside.Visits.{pending, pick_weight, visit_weight}
-use Rattle.lvl_flat.specs.inside.Walking.{AllHaveSheets, IsWalking, references_left, toil, work, Everywhere}
-use Rattle.lvl_flat.specs.inside.Walking.{SheetsCover}
-use Rattle.lvl_flat.specs.inside.Steps.{IsPast, IsInto}
-use Rattle.lvl_flat.specs.inside.Entering.{begun, IsDrawn, IsPushed}
-use Rattle.lvl_grid.proofs.Anyone.{Any-left, Any-right, Any-sides}
-use Rattle.lvl_flat.proofs.Covering.{drawn_covers, Under}
-use Rattle.lvl_flat.proofs.Drawing.{layer_of, sorted_alike}
-use Rattle.lvl_flat.proofs.Walking.{drawn_length, weight_begun, weight_into, sum_last}
-use Rattle.lvl_flat.specs.Flattened.{FitShapes}
-use Rattle.lvl_grid.specs.declared.point.Square.{Square}
-use Rattle.lvl_flat.proofs.UnderWay.{way_done, way_into, way_past}
 use Rattle.lvl_grid.specs.declared.point.Window.{Window}
+use Rattle.lvl_cells.specs.Cells.{PlainCell, Rings}
+use Rattle.lvl_cells.specs.Checks.{Settled}
+use Rattle.lvl_cells.specs.Soundness.{AreLinked, IsOrder}
 use Rattle.lvl_flat.specs.declared.bounds.Bounds.{Bounds}
+use Rattle.lvl_flat.specs.declared.visit.Visit.{Visit}
+use Rattle.lvl_flat.specs.inside.Visits.{pick_weight, visit_weight}
+use Rattle.lvl_flat.specs.inside.Walking.{references_left, toil, work}
+use Rattle.lvl_flat.specs.inside.Steps.{IsInto}
+use Rattle.lvl_flat.specs.inside.Entering.{begun, IsPushed}
 use Rattle.lvl_flat.specs.inside.Passing.{at_place, IsMissedAt, IsPassedBy}
 use Rattle.lvl_flat.proofs.Stepping.{pending_alike, left_alike}
-
--- a cell's shapes are placed, so their vertices fit
-pub placed_fit : (m : Map) (shapes : List (PlainShape Rings)) → AreFiguresPlaced m shapes → FitShapes m shapes
-placed_fit m shapes placed = λ i h li j e lj k ring lk. (placed i h li j e lj k ring lk).fits
-
--- the sheets stay sorted, and for the same Layers
-pub layers_kept : (cells : List (PlainCell Rings)) (old new : List PlainSheet) → map layer_of new ≡ map layer_of old
-    → AllHaveSheets old cells → AllHaveSheets new cells
-layers_kept cells old new same have =
-    λ k c at i h inside. subst (λ ls. Contains ls (get_or c.shapes i h).layer) (sym same) (have k c at i h inside)
-
--- the shapes of a cell are drawn in addition to what is drawn already
-pub drawn_beside : (layer : Layer) (m : Map) (q : Square) (shapes : List (PlainShape Rings)) (old new : Rings)
-    → AreFiguresPlaced m shapes → new ≡ old ++ drawn_on layer m shapes
-    → SomeCovers new q ↔ (SomeCovers old q ⊎ Under m q (λ t. Any (ShapeCovers SomeCovers layer t) shapes))
-drawn_beside layer m q shapes old new placed same =
-    let C : List Point → Type 0 = λ ring. Covers ring q in
-    let mine = drawn_covers layer m q shapes placed in (
-      λ a.
-          elim (Any-sides C old (drawn_on layer m shapes) (subst (Any C) same a))
-          [ inl x ↦ inl x | inr y ↦ inr (mine.0 y) ],
-      λ e.
-          subst (Any C) (sym same) (elim e [
-            | inl x ↦ Any-left C old (drawn_on layer m shapes) x
-            | inr y ↦ Any-right C old (drawn_on layer m shapes) (mine.1 y)
-          ]),
-    )
-
--- a visit without picks to follow is taken off
-pub walk_done : (s : Settled) (sheets : List PlainSheet) (front : List Visit) (v : Visit)
-    → IsWalking s sheets (front ++ v ∷ []) → pending s.cells v ≡ [] → IsWalking s sheets front
-walk_done s sheets front v w none = record {
-  top = w.top;
-  way = way_done s w.top (Unit {0}) Everywhere (SheetsCover sheets) front v w.way none;
-  sorted = w.sorted;
-  layers = w.layers;
-  counts = λ layer.
-      let weight = visit_weight (own_rings_on each_ring layer) s.cells in
-      let nothing : weight v ≡ 0 = ap (sum_by (pick_weight (own_rings_on each_ring layer) s.cells)) none in
-      omega (arith, w.counts layer, sum_last weight front v, nothing);
-}
-
--- a visit goes on with the next reference
-pub walk_past : (s : Settled) (sheets : List PlainSheet) (front : List Visit) (v rest : Visit)
-    → IsWalking s sheets (front ++ v ∷ []) → IsPast s.cells v rest → IsWalking s sheets (front ++ rest ∷ [])
-walk_past s sheets front v rest w past = record {
-  top = w.top;
-  way = way_past s w.top (Unit {0}) Everywhere (SheetsCover sheets) front v rest w.way past;
-  sorted = w.sorted;
-  layers = w.layers;
-  counts = λ layer.
-      let weight = visit_weight (own_rings_on each_ring layer) s.cells in
-      let same : weight v ≡ weight rest =
-      ap (sum_by (pick_weight (own_rings_on each_ring layer) s.cells)) past.pending_is in
-      omega (arith, w.counts layer, sum_last weight front v, sum_last weight front rest, same);
-}
-
--- the visit goes into a cell: the shapes of the cell are drawn, and a visit of it is put on the stack
-pub walk_into : (s : Settled) (sheets new : List PlainSheet) (front : List Visit) (v : Visit) (i : ℕ) (m : Map)
-    (rest : Visit) → AreLinked s.cells → IsOrder s.cells s.order
-    → IsWalking s sheets (front ++ v ∷ []) → IsInto s.cells v i m rest → IsDrawn s.cells i m sheets new
-    → IsWalking s new ((front ++ rest ∷ []) ++ begun i m ∷ [])
-walk_into s sheets new front v i m rest linked ordered w into d =
-    let cells : List (PlainCell Rings) = s.cells in
-    let c : PlainCell Rings = into.next in
-    let both : Some d.cell ≡ Some c = sym d.there ∙ into.there in
-    let one : d.cell ≡ c = cc in
-    let drawn : (layer : Layer) → rings_on layer new ≡ rings_on layer sheets ++ drawn_on layer m c.shapes =
-    subst
-    (λ (b : PlainCell Rings).
-    (layer : Layer) → rings_on layer new ≡ rings_on layer sheets ++ drawn_on layer m b.shapes) one
-    d.drawn in
-    let placed : AreFiguresPlaced m c.shapes =
-    subst (λ (b : PlainCell Rings). AreFiguresPlaced m b.shapes) one d.placed in
-    let lower : List Visit = front ++ rest ∷ [] in
-    record {
-      top = w.top;
-      way =
-          way_into s w.top (Unit {0}) Everywhere (SheetsCover sheets) (SheetsCover new) front v i m rest w.way into
-          (λ every. placed_fit m c.shapes placed)
-          (λ layer q counts. drawn_beside layer m q c.shapes (rings_on layer sheets) (rings_on layer new) placed
-          (drawn layer));
-      sorted = sorted_alike new sheets d.layers w.sorted;
-      layers = layers_kept cells sheets new d.layers w.layers;
-      counts = λ layer.
-          let own : PlainCell Rings → ℕ = own_rings_on each_ring layer in
-          let weight : Visit → ℕ = visit_weight own cells in
-          let long : length (rings_on layer new) ≡ length (rings_on layer sheets) + own c =
-          ap length (drawn layer)
-          ∙ (length-append (rings_on layer sheets) (drawn_on layer m c.shapes)
-          ∙ ap (λ n. length (rings_on layer sheets) + n) (drawn_length layer m c.shapes)) in
-          omega (
-            arith,
-            w.counts layer,
-            long,
-            sum_last weight front v,
-            sum_last weight front rest,
-            sum_last weight lower (begun i m),
-            weight_into own cells v i m rest into,
-            weight_begun own cells s.order i m c linked ordered into.there,
-          );
-    }
+use Rattle.lvl_flat.proofs.Walking.{weight_begun, weight_into, sum_last}
 
 -- fewer steps are left after each
 pub less_done : (cells : List (PlainCell Rings)) (front : List Visit) (v : Visit)

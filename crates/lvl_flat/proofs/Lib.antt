@@ -13,7 +13,8 @@ pub mod Corners
 pub mod Holding
 pub mod UnderWay
 pub mod Outside
-pub mod WindowWalk
+pub mod Advancing
+pub mod Reporting
 pub mod Cutting
 pub mod Runs
 pub mod Skipping

@@ -18,7 +18,7 @@ use Rattle.lvl_flat.proofs.Covering.{some_is}
 use Rattle.lvl_flat.specs.Flattened.{TopCovers}
 use Rattle.lvl_flat.specs.Sheet.{PlainSheet}
 use Rattle.lvl_flat.specs.Sheets.{AreSorted, ContainsAll}
-use Rattle.lvl_flat.specs.inside.Walking.{AllHaveSheets, AllListed}
+use Rattle.lvl_flat.specs.inside.Walking.{AllListed}
 
 sheets_sorted : (ss : List PlainSheet) → AllPairs ComesBefore (map (λ s. s.layer) ss) → AreSorted ss
 sheets_sorted ss pairs i j d lt in' =
@@ -53,14 +53,8 @@ pub cell_listed : (layers : List Layer) (cells : List (PlainCell Rings)) (k : �
 cell_listed layers cells k c all at =
     subst (AreListed layers) (get_or_from_slice_get cells k c c at) (all k c (slice_get_within cells k c at))
 
--- each shape's Layer has its sheet
-pub cells_there : (cells : List (PlainCell Rings)) (layers : List Layer) (ss : List PlainSheet)
-    → AllListed layers cells → map (λ s. s.layer) ss ≡ layers → AllHaveSheets ss cells
-cells_there cells layers ss all are k c at =
-    subst (λ ls. AreListed ls c) (sym are) (cell_listed layers cells k c all at)
-
 -- the Layer of a shape that covers a square
-own_listed : (layers : List Layer) (layer : Layer) (c : PlainCell Rings) (q : Square) → AreListed layers c
+pub own_listed : (layers : List Layer) (layer : Layer) (c : PlainCell Rings) (q : Square) → AreListed layers c
     → Any (ShapeCovers SomeCovers layer q) c.shapes → Contains layers layer
 own_listed layers layer c q listed a =
     subst (Contains layers) a.4.0
@@ -81,9 +75,16 @@ listed_within cells layers all layer (suc n) c q own (inr a) =
     listed_within cells layers all layer n next.0 back.0
     (found (AreListed layers) cells r.cell next.0 all next.1).1 back.2
 
--- and so does the top
+-- so all that a cell of the library covers is on them
+pub cells_listed : (cells : List (PlainCell Rings)) (layers : List Layer) → AllListed layers cells → (layer : Layer)
+    (k : ℕ) (c : PlainCell Rings) (q : Square) → slice_get cells k ≡ Some c → CellCovers SomeCovers cells layer c q
+    → Contains layers layer
+cells_listed cells layers all layer k c q at covered =
+    listed_within cells layers all layer covered.0 c q (cell_listed layers cells k c all at) covered.1
+
+-- and all that the top covers
 pub top_listed : (s : Settled) (layers : List Layer) → AllListed layers s.cells → (layer : Layer) (q : Square)
     → TopCovers s layer q → Contains layers layer
 top_listed s layers all layer q covered =
     let top = some_is (λ c. CellCovers SomeCovers s.cells layer c q) (slice_get s.cells s.top) covered in
-    listed_within s.cells layers all layer top.2.0 top.0 q (cell_listed layers s.cells s.top top.0 all top.1) top.2.1
+    cells_listed s.cells layers all layer s.top top.0 q top.1 top.2

@@ -1,8 +1,8 @@
 -- A ring that is drawn at shift after shift, where those are skipped at which it misses the window.
-use Rattle.std.proofs.Common.{◌≡◌, ◌<◌, ◌≤◌, ◌+◌, ◌↔◌, ◌⊎◌, inl, inr, ℕ, List, [], ◌∷◌, All, Any, take, length, get_or}
+use Rattle.std.proofs.Common.{◌≡◌, ◌<◌, ◌≤◌, ◌+◌, ◌↔◌, ◌⊎◌, inl, inr, ℕ, List, [], All, Any, take, length, get_or}
 use Rattle.std.proofs.Common.{slice_get, Some, None, refl, sym, subst, ◌∙◌, arith}
 use Rattle.std.proofs.lemmas.Bool.{cases_lt}
-use Rattle.std.proofs.lemmas.List.{get_or-take, length-take-le, take_all}
+use Rattle.std.proofs.lemmas.List.{get_or-take, length-take-le}
 use Rattle.std.proofs.lemmas.List.Elements.{All-more}
 use Rattle.std.proofs.lemmas.Option.{slice_get_cases, slice_get_read, slice_get-get_or}
 use Rattle.std.proofs.lemmas.Option.{slice_get_within, get_or_from_slice_get}
@@ -10,55 +10,56 @@ use Rattle.lvl_grid.specs.declared.point.Point.{Point}
 use Rattle.lvl_grid.specs.declared.point.Square.{Square}
 use Rattle.lvl_grid.specs.declared.point.Window.{Window}
 use Rattle.lvl_grid.specs.declared.map.Map.{Map}
-use Rattle.lvl_grid.specs.Clip.{IsInWindow}
 use Rattle.lvl_grid.specs.Placed.{IsPlaceOfCovered}
-use Rattle.lvl_grid.proofs.Anyone.{Any-nil, Any-head, Any-uncons}
+use Rattle.lvl_grid.proofs.Anyone.{Any-nil}
 use Rattle.lvl_grid.specs.Winding.{SomeCovers}
 use Rattle.lvl_cells.specs.Cells.{Rings}
 use Rattle.lvl_flat.specs.declared.bounds.Bounds.{Bounds}
+use Rattle.lvl_flat.specs.declared.scope.Scope.{Scope}
+use Rattle.lvl_flat.specs.declared.scope.Scope.TheVariants.{Everything, Within}
 use Rattle.lvl_flat.specs.Flattened.{FitsRing}
 use Rattle.lvl_flat.specs.Boxes.{HoldsPoint}
-use Rattle.lvl_flat.specs.inside.Drawn.{FitsAtEach, RingPlacesCover}
+use Rattle.lvl_flat.specs.inside.Drawn.{FitsAtEach, IsRingDrawn}
+use Rattle.lvl_flat.specs.inside.Scopes.{IsInScope}
 use Rattle.lvl_flat.specs.inside.Passing.{IsMissed, AreMissed}
-use Rattle.lvl_flat.proofs.Cutting.{covers_more, covers_all, placed_ring_fits}
+use Rattle.lvl_flat.proofs.Cutting.{covers_more, placed_ring_fits}
 use Rattle.lvl_flat.proofs.Outside.{placed_square}
 
--- the ring is drawn at the shifts with an index below k: the rings `now` are `old` and it
-pub record IsDrawnUpTo (m : Map) (window : Window) (ring shifts : List Point) (old now : Rings) (k : ℕ) : Type 0 where
-  pub inside : k ≤ length shifts
-  pub covers : (q : Square) → SomeCovers now q
-      ↔ (SomeCovers old q ⊎ (IsInWindow window q × Any (λ e. IsPlaceOfCovered m e ring q) (take k shifts)))
-  pub fits : All (λ e. FitsRing m e ring) (take k shifts)
-
--- at none
-pub drawn_none : (m : Map) (window : Window) (ring shifts : List Point) (old : Rings)
-    → IsDrawnUpTo m window ring shifts old old 0
-drawn_none m window ring shifts old = record {
-  inside = omega arith;
+-- at no shift
+pub drawn_none : (m : Map) (scope : Scope) (ring : List Point) (old : Rings) → IsRingDrawn m scope [] ring old old
+drawn_none m scope ring old = record {
   covers = λ q. (
     λ h. inl h,
     λ d. elim d [ inl h ↦ h | inr n ↦ absurd (Any-nil (λ e. IsPlaceOfCovered m e ring q) n.1) ],
   );
   fits = λ j e lj. absurd (omega (arith, lj));
+  count = λ all. omega arith;
 }
 
 -- at one more
-pub drawn_more : (m : Map) (window : Window) (ring shifts : List Point) (old now new : Rings) (k : ℕ) (e : Point)
-    → IsDrawnUpTo m window ring shifts old now k → slice_get shifts k ≡ Some e
-    → ((q : Square) → SomeCovers new q
-    ↔ (SomeCovers now q ⊎ (IsInWindow window q × IsPlaceOfCovered m e ring q)))
-    → FitsRing m e ring → IsDrawnUpTo m window ring shifts old new (k + 1)
-drawn_more m window ring shifts old now new k e before at step fits =
+pub drawn_more : (m : Map) (scope : Scope) (ring shifts : List Point) (old now new : Rings) (k : ℕ) (e : Point)
+    → IsRingDrawn m scope (take k shifts) ring old now → slice_get shifts k ≡ Some e
+    → ((q : Square) → SomeCovers new q ↔ (SomeCovers now q ⊎ (IsInScope scope q × IsPlaceOfCovered m e ring q)))
+    → FitsRing m e ring → (scope ≡ Everything → length new ≡ length now + 1)
+    → IsRingDrawn m scope (take (k + 1) shifts) ring old new
+drawn_more m scope ring shifts old now new k e before at step fits one =
     let there : k < length shifts = slice_get_within shifts k e at in
     let is : get_or shifts k e ≡ e = get_or_from_slice_get shifts k e e at in
     record {
-      inside = omega (arith, there);
       covers = λ q.
-          covers_more (λ d. IsPlaceOfCovered m d ring q) (IsInWindow window q) (SomeCovers old q) (SomeCovers now q)
+          covers_more (λ d. IsPlaceOfCovered m d ring q) (IsInScope scope q) (SomeCovers old q) (SomeCovers now q)
           (SomeCovers new q) shifts k e at (before.covers q) (step q);
       fits =
           All-more (λ d. FitsRing m d ring) shifts k e there before.fits
           (subst (λ (p : Point). FitsRing m p ring) (sym is) fits);
+      count = λ all.
+          omega (
+            arith,
+            before.count all,
+            one all,
+            length-take-le k shifts (omega (arith, there)),
+            length-take-le (k + 1) shifts (omega (arith, there)),
+          );
     }
 
 -- what holds of some of the first items holds of some of more of them
@@ -110,10 +111,10 @@ all_of_more P xs from to on inside before here j d lj =
 
 -- at more, at which the box of the ring misses the window
 pub drawn_past : (m : Map) (window : Window) (b : Bounds) (ring shifts : List Point) (old now : Rings) (from to : ℕ)
-    → IsDrawnUpTo m window ring shifts old now from → All (HoldsPoint b) ring → from ≤ to → to ≤ length shifts
-    → AreMissed shifts from to b m window → IsDrawnUpTo m window ring shifts old now to
+    → IsRingDrawn m (Within window) (take from shifts) ring old now → All (HoldsPoint b) ring → from ≤ to
+    → to ≤ length shifts → AreMissed shifts from to b m window
+    → IsRingDrawn m (Within window) (take to shifts) ring old now
 drawn_past m window b ring shifts old now from to before held on inside missed = record {
-  inside = inside;
   covers = λ q.
       let P : Point → Type 0 = λ e. IsPlaceOfCovered m e ring q in (
         λ h. elim ((before.covers q).0 h) [
@@ -135,20 +136,8 @@ drawn_past m window b ring shifts old now from to before held on inside missed =
       all_of_more (λ e. FitsRing m e ring) shifts from to on inside before.fits (λ j e past below at.
       let out : IsMissed b m window e = missed j e past below at in
       placed_ring_fits m e b out.placed ring out.fits out.holds held);
+  count = λ all. cc;
 }
-
--- at all
-pub drawn_covers : (m : Map) (window : Window) (ring shifts : List Point) (old now : Rings) (k : ℕ)
-    → IsDrawnUpTo m window ring shifts old now k → length shifts ≤ k → (q : Square)
-    → SomeCovers now q ↔ (SomeCovers old q ⊎ (IsInWindow window q × RingPlacesCover m shifts q ring))
-drawn_covers m window ring shifts old now k drawn past q =
-    covers_all (λ d. IsPlaceOfCovered m d ring q) (IsInWindow window q) (SomeCovers old q) (SomeCovers now q) shifts k
-    past (drawn.covers q)
-
-pub drawn_fits : (m : Map) (window : Window) (ring shifts : List Point) (old now : Rings) (k : ℕ)
-    → IsDrawnUpTo m window ring shifts old now k → length shifts ≤ k → FitsAtEach m shifts ring
-drawn_fits m window ring shifts old now k drawn past =
-    subst (All (λ d. FitsRing m d ring)) (take_all k shifts past) drawn.fits
 
 -- where there is no shift, all are before
 pub past_last : (shifts : List Point) (k : ℕ) → slice_get shifts k ≡ None → length shifts ≤ k
@@ -164,18 +153,3 @@ pub fits_at : (m : Map) (ring shifts : List Point) (k : ℕ) (e : Point) → Fit
 fits_at m ring shifts k e fits at =
     subst (λ (p : Point). FitsRing m p ring) (get_or_from_slice_get shifts k e e at)
     (fits k e (slice_get_within shifts k e at))
-
--- a ring that is drawn at one shift alone
-pub drawn_once : (m : Map) (window : Window) (ring : List Point) (old new : Rings) (e : Point) (q : Square)
-    → SomeCovers new q ↔ (SomeCovers old q ⊎ (IsInWindow window q × IsPlaceOfCovered m e ring q))
-    → SomeCovers new q ↔ (SomeCovers old q ⊎ (IsInWindow window q × RingPlacesCover m (e ∷ []) q ring))
-drawn_once m window ring old new e q step =
-    let P : Point → Type 0 = λ d. IsPlaceOfCovered m d ring q in (
-      λ h. elim (step.0 h) [ inl a ↦ inl a | inr b ↦ inr (b.0, Any-head P e [] b.1) ],
-      λ d. step.1 (elim d [
-        | inl a ↦ inl a
-        | inr b ↦
-            elim (Any-uncons P e [] b.1)
-            [ inl p ↦ inr (b.0, p) | inr n ↦ absurd (Any-nil P n) ]
-      ]),
-    )

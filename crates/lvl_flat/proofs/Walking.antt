@@ -1,27 +1,21 @@
 -- What a step of the walk keeps.
-use Rattle.std.proofs.Common.{◌≡◌, ◌++◌, ◌+◌, ◌*◌, ℕ, true, false, cond, List, [], ◌∷◌, length, sum_by, slice_get}
-use Rattle.std.proofs.Common.{Option, Some, Any, Contains, ◌⊎◌, ◌↔◌, inl, inr, refl, sym, ap, subst, ◌∙◌}
-use Rattle.std.proofs.Common.{length-append, add_comm, add-zero}
-use Rattle.std.specs.List.{flat_map}
+use Rattle.std.proofs.Common.{◌≡◌, ◌++◌, ◌+◌, ℕ, List, [], ◌∷◌, length, sum_by, slice_get}
+use Rattle.std.proofs.Common.{Option, Some, Any, Contains, ◌⊎◌, ◌↔◌, inl, inr, sym, ap, subst, ◌∙◌}
+use Rattle.std.proofs.Common.{add-zero}
 use Rattle.std.specs.Option.{option_map_or}
-use Rattle.std.proofs.Math.Nat.{mul-suc, mul-zero}
-use Rattle.std.proofs.lemmas.List.{length-map}
 use Rattle.std.proofs.lemmas.List.Sums.{sum_by-cons, sum_by-append}
 use Rattle.std.proofs.lemmas.List.Elements.{Contains-append_left, Contains-push}
-use Rattle.lvl_grid.specs.declared.point.Point.{Point}
 use Rattle.lvl_grid.specs.declared.point.Square.{Square}
 use Rattle.lvl_grid.specs.declared.map.Map.{Map}
 use Rattle.lvl_grid.specs.Turn.{image_square}
 use Rattle.lvl_grid.specs.Winding.{SomeCovers}
 use Rattle.lvl_names.specs.declared.layer.Layer.{Layer}
-use Rattle.lvl_cells.specs.Cells.{PlainCell, PlainReference, PlainShape, Rings, cell_named}
+use Rattle.lvl_cells.specs.Cells.{PlainCell, PlainReference, Rings, cell_named}
 use Rattle.lvl_cells.specs.Chains.{over_chains}
 use Rattle.lvl_cells.specs.Coverage.{ShapeCovers, CellCovers}
 use Rattle.lvl_cells.specs.Soundness.{AreLinked, IsOrder}
 use Rattle.lvl_cells.proofs.Summing.{count_step}
 use Rattle.lvl_flat.specs.declared.visit.Visit.{Visit}
-use Rattle.lvl_flat.specs.inside.Drawn.{placed_ring, placed_figure, placed_shape, drawn_on}
-use Rattle.lvl_names.specs.Layers.{same_layer}
 use Rattle.lvl_flat.specs.inside.Visits.{Pick, picks, pending, pick_weight, visit_weight, PickCovers, VisitCovers}
 use Rattle.lvl_flat.specs.inside.Steps.{IsInto}
 use Rattle.lvl_flat.specs.inside.Entering.{begun}
@@ -29,30 +23,6 @@ use Rattle.lvl_grid.proofs.Anyone.{Any-head, Any-tail, Any-uncons}
 use Rattle.lvl_flat.proofs.Picks.{picks_from_start, picks_sum}
 use Rattle.lvl_flat.proofs.Covering.{Under, under_either, under_same, cell_covers, pick_covers}
 use Rattle.lvl_flat.proofs.Stepping.{pending_at}
-
--- as many rings are drawn as the cell has of its own
-figure_length : (m : Map) (rings : Rings) (shifts : List Point)
-    → length (flat_map (placed_figure m rings) shifts) ≡ length rings * length shifts
-figure_length m rings [] = sym (mul-zero (length rings))
-figure_length m rings (e ∷ shifts) =
-    length-append (placed_figure m rings e) (flat_map (placed_figure m rings) shifts)
-    ∙ (ap (λ n. length (placed_figure m rings e) + n) (figure_length m rings shifts)
-    ∙ (ap (λ n. n + length rings * length shifts) (length-map rings (placed_ring m e))
-    ∙ (add_comm (length rings) (length rings * length shifts) ∙ sym (mul-suc (length rings) (length shifts)))))
-
-pub drawn_length : (layer : Layer) (m : Map) (shapes : List (PlainShape Rings))
-    → length (drawn_on layer m shapes)
-    ≡ sum_by (λ h. cond (same_layer h.layer layer) (length h.figure * length h.shifts) 0) shapes
-drawn_length layer m [] = refl
-drawn_length layer m (h ∷ shapes) =
-    let f : PlainShape Rings → ℕ = λ g. cond (same_layer g.layer layer) (length g.figure * length g.shifts) 0 in
-    let mine : length (cond (same_layer h.layer layer) (placed_shape m h) []) ≡ f h =
-    elim (same_layer h.layer layer)
-    as (λ b. length (cond b (placed_shape m h) []) ≡ cond b (length h.figure * length h.shifts) 0)
-    [ true ↦ figure_length m h.figure h.shifts | false ↦ refl ] in
-    length-append (cond (same_layer h.layer layer) (placed_shape m h) []) (drawn_on layer m shapes)
-    ∙ (ap (λ n. n + length (drawn_on layer m shapes)) mine
-    ∙ (ap (λ n. f h + n) (drawn_length layer m shapes) ∙ sym (sum_by-cons f h shapes)))
 
 -- a sum of weights over the chains from a cell: its own, and that of a visit that has followed no reference yet
 pub weight_begun : (w : PlainCell Rings → ℕ) (cells : List (PlainCell Rings)) (order : List ℕ) (i : ℕ) (m : Map)

@@ -1,4 +1,5 @@
 pub mod Bounds
+pub mod Scopes
 pub mod Drawn
 pub mod Visits
 pub mod Walking

@@ -1,5 +1,5 @@
 //! The boxes of the cells of a library, each of which has all that its cell places.
-ghost use Rattle.std.specs.Prelude.{◌≡◌, ◌<◌, length, slice_get, Some, All, IsTrue, IfOk, IfSome};
+ghost use Rattle.std.specs.Prelude.{◌≡◌, ◌<◌, length, slice_get, List, Some, All, IsTrue, IfOk, IfSome};
 ghost use Rattle.lvl_grid.specs.declared.point.Point.{Point as GridPoint};
 ghost use Rattle.lvl_grid.specs.Turn.{image};
 ghost use Rattle.lvl_cells.specs.Cells.{PlainCell, Rings, shape_at, map_at};
@@ -161,6 +161,15 @@ impl Model for Boxes {
 }
 
 impl Boxes {
+    /// No boxes: that of no cell is known.
+    pub(crate) fn unknown(alloc: Global) -> Boxes
+        ensures { (cells : List (PlainCell Rings)) → AreBoxes cells result }
+    {
+        Boxes {
+            known: Vec::new(alloc),
+        }
+    }
+
     /// The boxes of the cells of a library. That of each cell is made from its own shapes and from
     /// the boxes of the cells that it refers to.
     pub(crate) fn new(alloc: Global, checked: &Checked) -> Result<Boxes, AllocError>

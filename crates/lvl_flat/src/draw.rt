@@ -1,83 +1,113 @@
 //! The own shapes of a cell, placed by a map.
-ghost use Rattle.std.specs.Prelude.{◌≡◌, ◌<◌, ◌++◌, length, All, OnOk, map as list_map};
-ghost use Rattle.lvl_names.specs.declared.layer.Layer.{Layer as PlainLayer};
+ghost use Rattle.std.specs.Prelude.{◌≡◌, ◌<◌, [], length, get_or, All, OnOk};
 ghost use Rattle.lvl_cells.specs.Cells.{shape_at};
-ghost use Rattle.lvl_flat.specs.inside.Drawn.{placed_figure, placed_shape, drawn_on, IsPlaced, AreFiguresPlaced};
-ghost use Rattle.lvl_flat.specs.Flattened.{FitsRing};
 ghost use Rattle.lvl_flat.specs.Flattened.{FitShapes};
-ghost use Rattle.lvl_flat.specs.Sheets.{rings_on, AreSorted, HaveSheets};
+ghost use Rattle.lvl_flat.specs.Sheets.{AreSorted};
+ghost use Rattle.lvl_flat.specs.inside.Drawn.{FitsAtEach, IsRingDrawn, IsFigureDrawn, AreDrawn};
 
+use crate::boxes::ORIGIN;
 use crate::flat::{Sheet, place_of};
-use lvl_cells::Shapes;
-use lvl_grid::{Map, PlaceFault, Point, Rings};
+use crate::room::Room;
+use crate::scope::Scope;
+use crate::within::{bounds_of_ring, draw_place, draw_places};
+use lvl_cells::{MovedRing, Shapes};
+use lvl_grid::{Map, PlaceFault, Rings};
 use std::alloc::Global;
 
-/// Appends the rings of the shape at index `i`, moved by the shift and placed by the map.
-fn draw_figure(
+/// Appends a ring at each of the shifts of shape `i`, placed by the map.
+fn draw_everywhere(
     alloc: Global,
     rings: &mut Rings,
-    shapes: &Shapes,
-    i: usize,
-    shift: Point,
-    map: &Map,
-) -> Result<(), PlaceFault>
-    requires { i < length shapes.now }
-    ensures drawn { OnOk result (rings.new ≡ rings.old ++ placed_figure map.now (shape_at shapes.now i).figure shift) }
-    ensures placed { OnOk result (All (IsPlaced map.now shift) (shape_at shapes.now i).figure) }
-    ensures out { result ≡ Err PlaceFault.OutOfRange → ¬ All (FitsRing map.now shift) (shape_at shapes.now i).figure }
-{
-    for j in 0..shapes.ring_count(i) {
-        shapes.ring(i, j).push_placed(alloc, rings, shift, map)?;
-    }
-    Ok(())
-}
-
-/// Appends the rings of the shape at index `i` at each of its shifts, placed by the map.
-fn draw_shape(
-    alloc: Global,
-    rings: &mut Rings,
+    ring: &MovedRing<'_>,
     shapes: &Shapes,
     i: usize,
     map: &Map,
 ) -> Result<(), PlaceFault>
     requires { i < length shapes.now }
-    ensures drawn { OnOk result (rings.new ≡ rings.old ++ placed_shape map.now (shape_at shapes.now i)) }
-    ensures placed { OnOk result
-        (All (λ e. All (IsPlaced map.now e) (shape_at shapes.now i).figure) (shape_at shapes.now i).shifts) }
+    ensures drawn { OnOk result
+        (IsRingDrawn map.now Scope.Everything (shape_at shapes.now i).shifts ring.now rings.old rings.new) }
     ensures out { result ≡ Err PlaceFault.OutOfRange
-        → ¬ All (λ e. All (FitsRing map.now e) (shape_at shapes.now i).figure) (shape_at shapes.now i).shifts }
+        → ¬ FitsAtEach map.now (shape_at shapes.now i).shifts ring.now }
 {
     for k in 0..shapes.shift_count(i) {
         let Some(shift) = shapes.shift(i, k) else {
             unreachable!()
         };
-        draw_figure(alloc, rings, shapes, i, shift, map)?;
+        ring.push_placed(alloc, rings, shift, map)?;
     }
     Ok(())
 }
 
-/// Appends the shapes of a cell, placed by the map, each to the sheet of its Layer.
+/// Appends ring `j` of shape `i` at each of the shape's shifts, placed by the map: what of it is in
+/// the scope.
+fn draw_ring(
+    room: &mut Room,
+    rings: &mut Rings,
+    shapes: &Shapes,
+    i: usize,
+    j: usize,
+    map: &Map,
+    scope: &Scope,
+) -> Result<(), PlaceFault>
+    requires shape { i < length shapes.now }
+    requires ring { j < length (shape_at shapes.now i).figure }
+    ensures drawn { OnOk result (IsRingDrawn map.now scope.now (shape_at shapes.now i).shifts
+        (get_or (shape_at shapes.now i).figure j []) rings.old rings.new) }
+    ensures out { result ≡ Err PlaceFault.OutOfRange
+        → ¬ FitsAtEach map.now (shape_at shapes.now i).shifts (get_or (shape_at shapes.now i).figure j []) }
+{
+    let ring = shapes.ring(i, j);
+    let Scope::Within(window) = scope else {
+        return draw_everywhere(room.alloc, rings, &ring, shapes, i, map);
+    };
+    let bounds = bounds_of_ring(&ring);
+    let Some(shifts) = shapes.shifts(i) else {
+        draw_place(room, rings, &ring, bounds, ORIGIN, map, window)?;
+        return Ok(());
+    };
+    draw_places(room, rings, &ring, bounds, shifts, map, window)
+}
+
+/// Appends the rings of shape `i`, each at each of the shape's shifts, placed by the map: what of
+/// them is in the scope.
+fn draw_shape(
+    room: &mut Room,
+    rings: &mut Rings,
+    shapes: &Shapes,
+    i: usize,
+    map: &Map,
+    scope: &Scope,
+) -> Result<(), PlaceFault>
+    requires { i < length shapes.now }
+    ensures drawn { OnOk result (IsFigureDrawn map.now scope.now (shape_at shapes.now i).shifts
+        (shape_at shapes.now i).figure rings.old rings.new) }
+    ensures out { result ≡ Err PlaceFault.OutOfRange
+        → ¬ All (FitsAtEach map.now (shape_at shapes.now i).shifts) (shape_at shapes.now i).figure }
+{
+    for j in 0..shapes.ring_count(i) {
+        draw_ring(room, rings, shapes, i, j, map, scope)?;
+    }
+    Ok(())
+}
+
+/// Appends the shapes of a cell, placed by the map, each to the sheet of its Layer: what of them is
+/// in the scope. A shape whose Layer has no sheet is skipped.
 pub(crate) fn draw_shapes(
-    alloc: Global,
+    room: &mut Room,
     sheets: &mut Vec<Sheet>,
     shapes: &Shapes,
     map: &Map,
+    scope: &Scope,
 ) -> Result<(), PlaceFault>
-    requires sorted { AreSorted sheets.old.items }
-    requires layers { HaveSheets sheets.old.items shapes.now }
-    ensures drawn { OnOk result ((layer : PlainLayer)
-        → rings_on layer sheets.new.items ≡ rings_on layer sheets.old.items ++ drawn_on layer map.now shapes.now) }
-    ensures placed { OnOk result (AreFiguresPlaced map.now shapes.now) }
+    requires { AreSorted sheets.old.items }
+    ensures drawn { OnOk result (AreDrawn map.now scope.now shapes.now sheets.old.items sheets.new.items) }
     ensures out { result ≡ Err PlaceFault.OutOfRange → ¬ FitShapes map.now shapes.now }
-    ensures layers_stay { OnOk result
-        (list_map (λ s. s.layer) sheets.new.items ≡ list_map (λ s. s.layer) sheets.old.items) }
 {
     for i in 0..shapes.len() {
-        let Some(place) = place_of(sheets, shapes.layer(i)) else {
-            unreachable!()
-        };
-        let sheet = &mut sheets[place];
-        draw_shape(alloc, &mut sheet.rings, shapes, i, map)?;
+        if let Some(place) = place_of(sheets, shapes.layer(i)) {
+            let sheet = &mut sheets[place];
+            draw_shape(room, &mut sheet.rings, shapes, i, map, scope)?;
+        }
     }
     Ok(())
 }

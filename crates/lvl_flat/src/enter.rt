@@ -3,12 +3,13 @@ ghost use Rattle.std.specs.Prelude.{◌≡◌, ◌++◌, ◌∷◌, ◌<◌, [],
 ghost use Rattle.lvl_flat.specs.inside.Entering.{begun, IsDrawn, IsEnterFault, IsPushed};
 ghost use Rattle.lvl_flat.specs.Flattened.{ReportsName};
 ghost use Rattle.lvl_flat.specs.Sheets.{AreSorted};
-ghost use Rattle.lvl_flat.specs.inside.Walking.{AllHaveSheets};
 ghost use Rattle.lvl_refusal.specs.Refused.{Says};
 
 use crate::draw::draw_shapes;
 use crate::fault::FlatFault;
 use crate::flat::Sheet;
+use crate::room::Room;
+use crate::scope::Scope;
 use crate::visit::Visit;
 use crate::walk::is_done;
 use lvl_cells::{Cell, Checked};
@@ -51,24 +52,24 @@ pub(crate) fn push_rest(
     push_visit(stack, rest)
 }
 
-/// Draws the shapes of the cell at index `place`, placed by the map.
+/// Draws the shapes of the cell at this index, placed by the map: what of them is in the scope.
 pub(crate) fn draw_cell(
-    alloc: Global,
+    room: &mut Room,
     cells: &[Cell],
     sheets: &mut Vec<Sheet>,
-    place: usize,
+    index: usize,
     map: &Map,
+    scope: &Scope,
 ) -> Result<(), Cause<FlatFault>>
-    requires there { place < length cells.now }
+    requires there { index < length cells.now }
     requires sorted { AreSorted sheets.old.items }
-    requires layers { AllHaveSheets sheets.old.items cells.now }
-    ensures drawn { OnOk result (IsDrawn cells.now place map.now sheets.old.items sheets.new.items) }
-    ensures err { IfErr result (λ refusal. Says refusal (IsEnterFault cells.now place map.now)) }
+    ensures drawn { OnOk result (IsDrawn cells.now index map.now scope.now sheets.old.items sheets.new.items) }
+    ensures err { IfErr result (λ refusal. Says refusal (IsEnterFault cells.now index map.now)) }
 {
-    let cell = &cells[place];
-    match draw_shapes(alloc, sheets, &cell.shapes, map) {
+    let cell = &cells[index];
+    match draw_shapes(room, sheets, &cell.shapes, map, scope) {
         Ok(()) => Ok(()),
-        Err(PlaceFault::OutOfRange) => Err(out_of_range(alloc, cell.name.as_bytes())),
+        Err(PlaceFault::OutOfRange) => Err(out_of_range(room.alloc, cell.name.as_bytes())),
         Err(PlaceFault::OutOfMemory) => Err(Cause::OutOfMemory),
     }
 }

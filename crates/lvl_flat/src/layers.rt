@@ -2,7 +2,7 @@
 ghost use Rattle.std.specs.Prelude.{◌≡◌, [], All, AllPairs, IfOk, map};
 ghost use Rattle.lvl_names.specs.Layers.{ComesBefore};
 ghost use Rattle.lvl_flat.specs.Sheets.{AreSorted, ContainsAll};
-ghost use Rattle.lvl_flat.specs.inside.Walking.{AllHaveSheets, AllListed};
+ghost use Rattle.lvl_flat.specs.inside.Walking.{AllListed};
 
 use crate::flat::Sheet;
 use lvl_cells::Cell;
@@ -32,7 +32,7 @@ pub(crate) fn layers_of(alloc: Global, cells: &[Cell]) -> Result<Vec<Layer>, All
 /// An empty sheet for each Layer that a shape is on, in the order of the Layers.
 pub(crate) fn sheets_of(alloc: Global, cells: &[Cell]) -> Result<Vec<Sheet>, AllocError>
     ensures sorted { IfOk result (λ sheets. AreSorted sheets.items) }
-    ensures layers { IfOk result (λ sheets. AllHaveSheets sheets.items cells.now) }
+    ensures layers { IfOk result (λ sheets. AllListed (map (λ s. s.layer) sheets.items) cells.now) }
     ensures empty { IfOk result (λ sheets. All (λ s. s.rings ≡ []) sheets.items) }
 {
     empty_sheets(alloc, &layers_of(alloc, cells)?)

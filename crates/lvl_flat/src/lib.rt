@@ -42,6 +42,7 @@ mod missed;
 mod passing;
 mod room;
 mod rows;
+mod scope;
 mod shapes;
 mod visit;
 mod walk;

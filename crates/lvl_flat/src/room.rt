@@ -36,6 +36,14 @@ fn free_half(alloc: Global, rings: &mut Rings) -> Result<usize, PlaceFault>
 }
 
 impl Room {
+    /// Room for any number of points.
+    pub(crate) fn unbounded(alloc: Global) -> Room {
+        Room {
+            alloc,
+            points: usize::MAX,
+        }
+    }
+
     /// Takes room for points that were drawn as part of `rings`. If there is less, the rings are
     /// made simpler, and if that frees at least half of their points, there is that much more room.
     /// So each search for simpler rings is paid for by the points that were drawn before it.

@@ -15,6 +15,8 @@ use crate::enter::draw_cell;
 use crate::fault::FlatFault;
 use crate::flat::Flat;
 use crate::layers::sheets_of;
+use crate::room::Room;
+use crate::scope::Scope;
 use lvl_cells::Cell;
 use lvl_refusal::Cause;
 use std::alloc::Global;
@@ -30,6 +32,14 @@ pub fn flatten_shapes(alloc: Global, cell: &Cell) -> Result<Flat, Cause<FlatFaul
 {
     let alone = slice::from_ref(cell);
     let mut sheets = sheets_of(alloc, alone)?;
-    draw_cell(alloc, alone, &mut sheets, 0, &UNMOVED)?;
+    let mut room = Room::unbounded(alloc);
+    draw_cell(
+        &mut room,
+        alone,
+        &mut sheets,
+        0,
+        &UNMOVED,
+        &Scope::Everything,
+    )?;
     Ok(Flat::filled(alloc, sheets)?)
 }

@@ -1,92 +1,23 @@
 //! Flattening of some Layers within a window: what doesn't reach into it is skipped.
-ghost use Rattle.std.specs.Prelude.{◌≡◌, ◌<◌, ◌++◌, ◌∷◌, ◌⊎◌, [], length, map, AllPairs, IfOk, IfErr, OnOk};
+ghost use Rattle.std.specs.Prelude.{◌⊎◌, AllPairs, IfOk, IfErr};
 ghost use Rattle.lvl_names.specs.Layers.{ComesBefore};
 ghost use Rattle.lvl_flat.specs.Flattened.{IsFlattenedWithin, IsFlatFault, IsTopInRange};
-ghost use Rattle.lvl_flat.specs.Sheets.{AreSorted};
 ghost use Rattle.lvl_flat.specs.Boxes.{AreBoxes};
-ghost use Rattle.lvl_flat.specs.inside.Entering.{IsDrawnWithin, IsEnterFault};
-ghost use Rattle.lvl_flat.specs.inside.Walking.{AllListed, IsWalkingWithin, work};
+ghost use Rattle.lvl_flat.specs.inside.Walking.{AllListed};
 ghost use Rattle.lvl_refusal.specs.Refused.{Says};
 
-use crate::advance::UNMOVED;
+use crate::advance::draw_all;
 use crate::boxes::Boxes;
-use crate::enter::{out_of_range, push_rest, push_visit};
 use crate::fault::FlatFault;
-use crate::flat::{Flat, Sheet};
+use crate::flat::Flat;
 use crate::layers::{empty_sheets, layers_of};
-use crate::passing::pass_by;
 use crate::room::Room;
-use crate::visit::Visit;
-use crate::walk::{Step, next_step};
-use crate::within::draw_shapes_within;
-use lvl_cells::{Cell, Checked};
-use lvl_grid::{Map, PlaceFault, Window};
+use crate::scope::Scope;
+use lvl_cells::Checked;
+use lvl_grid::Window;
 use lvl_names::Layer;
 use lvl_refusal::Cause;
 use std::alloc::Global;
-
-/// Draws the shapes of the cell at this index, placed by the map and clipped to the window.
-fn draw_cell_within(
-    room: &mut Room,
-    cells: &[Cell],
-    sheets: &mut Vec<Sheet>,
-    index: usize,
-    map: &Map,
-    window: &Window,
-) -> Result<(), Cause<FlatFault>>
-    requires there { index < length cells.now }
-    requires sorted { AreSorted sheets.old.items }
-    ensures drawn { OnOk result
-        (IsDrawnWithin cells.now index map.now window.now sheets.old.items sheets.new.items) }
-    ensures err { IfErr result (λ refusal. Says refusal (IsEnterFault cells.now index map.now)) }
-{
-    let cell = &cells[index];
-    match draw_shapes_within(room, sheets, &cell.shapes, map, window) {
-        Ok(()) => Ok(()),
-        Err(PlaceFault::OutOfRange) => Err(out_of_range(room.alloc, cell.name.as_bytes())),
-        Err(PlaceFault::OutOfMemory) => Err(Cause::OutOfMemory),
-    }
-}
-
-/// Makes one step with the visit that was taken off the stack. A cell that is placed outside of the
-/// window is skipped, and with it a run of further places outside of the window.
-fn advance_within(
-    room: &mut Room,
-    checked: &Checked,
-    boxes: &Boxes,
-    window: &Window,
-    sheets: &mut Vec<Sheet>,
-    stack: &mut Vec<Visit>,
-    visit: Visit,
-) -> Result<(), Cause<FlatFault>>
-    requires boxes { AreBoxes checked.now.cells boxes.now }
-    requires walking { IsWalkingWithin checked.now (map (λ s. s.layer) sheets.old.items) window.now sheets.old.items
-        (stack.old.items ++ visit ∷ []) }
-    ensures walking { OnOk result (IsWalkingWithin checked.now (map (λ s. s.layer) sheets.old.items) window.now
-        sheets.new.items stack.new.items) }
-    ensures nearer { OnOk result
-        (work checked.now.cells stack.new.items < work checked.now.cells (stack.old.items ++ visit ∷ [])) }
-    ensures err { IfErr result (λ refusal. Says refusal (IsFlatFault checked.now)) }
-{
-    let cells = checked.cells();
-    match next_step(checked, &visit) {
-        Step::Done => Ok(()),
-        Step::Past(rest) => Ok(push_visit(stack, rest)?),
-        Step::Into(index, map, rest) => {
-            if boxes.miss(index, &map, window) {
-                let further = pass_by(checked, boxes, window, rest);
-                return Ok(push_visit(stack, further)?);
-            }
-            push_rest(checked, stack, rest)?;
-            draw_cell_within(room, cells, sheets, index, &map, window)?;
-            Ok(push_visit(stack, Visit::begun(index, map))?)
-        }
-        Step::Out(index) => {
-            let cell = &cells[index];
-            Err(out_of_range(room.alloc, cell.name.as_bytes()))
-        }
-    }
-}
 
 /// The rings that the top places on each of the Layers, clipped to a window.
 ///
@@ -111,36 +42,13 @@ pub(crate) fn flatten_within(
     ensures ok { IfOk result (IsFlattenedWithin checked.now layers.now window.now) }
     ensures err { IfErr result (λ refusal. Says refusal (IsFlatFault checked.now)) }
 {
-    let mut room = Room {
+    let room = Room {
         alloc,
         points: most,
     };
-    let mut sheets = empty_sheets(alloc, layers)?;
-    let top = checked.top();
-    draw_cell_within(
-        &mut room,
-        checked.cells(),
-        &mut sheets,
-        top,
-        &UNMOVED,
-        window,
-    )?;
-    let mut stack = Vec::new(alloc);
-    push_visit(&mut stack, Visit::begun(top, UNMOVED))?;
-    while let Some(visit) = stack.pop() {
-        advance_within(
-            &mut room,
-            checked,
-            boxes,
-            window,
-            &mut sheets,
-            &mut stack,
-            visit,
-        )?;
-    }
-    Ok(Flat::filled(alloc, sheets)?)
+    let sheets = empty_sheets(alloc, layers)?;
+    draw_all(room, checked, boxes, sheets, &Scope::Within(*window))
 }
-
 /// Refuses a layout that [`flatten`](crate::flatten) refuses. Draws nothing, and walks only through
 /// cells whose boxes leave 64 signed bits.
 pub(crate) fn check_range(

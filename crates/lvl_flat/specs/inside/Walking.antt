@@ -3,65 +3,54 @@ use Rattle.std.specs.Prelude.{◌≡◌, ◌+◌, ◌-◌, ◌↔◌, ◌⊎◌,
 use Rattle.std.specs.Prelude.{Contains}
 use Rattle.std.specs.Option.{option_map_or}
 use Rattle.lvl_grid.specs.declared.point.Square.{Square}
-use Rattle.lvl_grid.specs.declared.point.Window.{Window}
 use Rattle.lvl_grid.specs.Winding.{SomeCovers}
 use Rattle.lvl_names.specs.declared.layer.Layer.{Layer}
 use Rattle.lvl_cells.specs.Cells.{PlainCell, Rings, each_ring}
 use Rattle.lvl_cells.specs.Chains.{own_rings_on, placed_rings_on}
 use Rattle.lvl_cells.specs.Coverage.{CellCovers}
 use Rattle.lvl_cells.specs.Checks.{Settled}
+use Rattle.lvl_flat.specs.declared.scope.Scope.{Scope}
+use Rattle.lvl_flat.specs.declared.scope.Scope.TheVariants.{Everything, Within}
 use Rattle.lvl_flat.specs.declared.visit.Visit.{Visit}
-use Rattle.lvl_flat.specs.Flattened.{AllInRange, IsOfPart}
+use Rattle.lvl_flat.specs.Flattened.{AllInRange, IsFlattened, IsFlattenedWithin}
 use Rattle.lvl_flat.specs.Sheet.{PlainSheet}
-use Rattle.lvl_flat.specs.Sheets.{AreSorted, HaveSheets, rings_on}
+use Rattle.lvl_flat.specs.Sheets.{AreSorted, rings_on}
+use Rattle.lvl_flat.specs.inside.Scopes.{IsOfScope}
 use Rattle.lvl_flat.specs.inside.Visits.{pending, visit_weight, VisitCovers, PicksFit, IsVisit}
-
--- there is a sheet for the Layer of every shape of every cell
-abbrev pub AllHaveSheets : List PlainSheet → List (PlainCell Rings) → Type 0
-AllHaveSheets sheets cells = (k : ℕ) (c : PlainCell Rings) → slice_get cells k ≡ Some c → HaveSheets sheets c.shapes
 
 -- the Layer of every shape of every cell is in the list
 abbrev pub AllListed : List Layer → List (PlainCell Rings) → Type 0
 AllListed layers cells = All (λ c. All (λ h. Contains layers h.layer) c.shapes) cells
 
--- of the squares that count on a Layer, the top covers exactly those that are drawn or that a visit has still to cover;
--- if every shape that is placed is drawn, and what the visits have still to follow is in range, all is
-pub record IsUnderWay (s : Settled) (top : PlainCell Rings) (every : Type 0)
-    (counts drawn : Layer → Square → Type 0) (stack : List Visit) : Type 0 where
-  pub is_top : slice_get s.cells s.top ≡ Some top
-  pub covers : (layer : Layer) (q : Square) → counts layer q
-      → CellCovers SomeCovers s.cells layer top q ↔ (drawn layer q ⊎ Any (VisitCovers s.cells layer q) stack)
-  pub fits : every → ((v : Visit) → Contains stack v → PicksFit s.cells v.map (pending s.cells v))
-      → AllInRange s.cells top
-  pub visits : (v : Visit) → Contains stack v → IsVisit s.cells top v
-
 -- the sheets cover the square on the Layer
 abbrev pub SheetsCover : List PlainSheet → Layer → Square → Type 0
 SheetsCover sheets layer q = SomeCovers (rings_on layer sheets) q
 
--- every square counts on every Layer
-abbrev pub Everywhere : Layer → Square → Type 0
-Everywhere layer q = Unit {0}
-
--- the walk over all that the top places: each placed ring is drawn or still to come
-pub record IsWalking (s : Settled) (sheets : List PlainSheet) (stack : List Visit) : Type 0 where
-  pub top : PlainCell Rings
-  pub way : IsUnderWay s top (Unit {0}) Everywhere (SheetsCover sheets) stack
-  pub sorted : AreSorted sheets
-  pub layers : AllHaveSheets sheets s.cells
-  pub counts : (layer : Layer)
-      → length (rings_on layer sheets) + sum_by (visit_weight (own_rings_on each_ring layer) s.cells) stack
-      ≡ placed_rings_on each_ring layer s.cells top
-
--- the walk over what covers squares of a window on the Layers of a list, each of which has a sheet; no other squares
--- are drawn
-pub record IsWalkingWithin (s : Settled) (layers : List Layer) (window : Window) (sheets : List PlainSheet)
+-- the walk over what is in a scope on the Layers of a list, each of which has a sheet: of these squares the top covers
+-- exactly those that are drawn or that a visit has still to cover, and no others are drawn. If every shape is on one of
+-- these Layers, all is in range if what the visits have still to follow is; and if everything is drawn, each placed ring
+-- is drawn or still to come
+pub record IsWalking (s : Settled) (layers : List Layer) (scope : Scope) (sheets : List PlainSheet)
     (stack : List Visit) : Type 0 where
   pub top : PlainCell Rings
-  pub way : IsUnderWay s top (AllListed layers s.cells) (IsOfPart layers window) (SheetsCover sheets) stack
+  pub is_top : slice_get s.cells s.top ≡ Some top
+  pub covers : (layer : Layer) (q : Square) → IsOfScope layers scope layer q
+      → CellCovers SomeCovers s.cells layer top q
+      ↔ (SheetsCover sheets layer q ⊎ Any (VisitCovers s.cells layer q) stack)
+  pub within : (layer : Layer) (q : Square) → SheetsCover sheets layer q → IsOfScope layers scope layer q
+  pub fits : AllListed layers s.cells
+      → ((v : Visit) → Contains stack v → PicksFit s.cells v.map (pending s.cells v)) → AllInRange s.cells top
+  pub counts : scope ≡ Everything → AllListed layers s.cells → (layer : Layer)
+      → length (rings_on layer sheets) + sum_by (visit_weight (own_rings_on each_ring layer) s.cells) stack
+      ≡ placed_rings_on each_ring layer s.cells top
+  pub visits : (v : Visit) → Contains stack v → IsVisit s.cells top v
   pub sorted : AreSorted sheets
   pub layers_are : map (λ sheet. sheet.layer) sheets ≡ layers
-  pub within : (layer : Layer) (q : Square) → SheetsCover sheets layer q → IsOfPart layers window layer q
+
+-- the walk is over: everything is drawn, if every shape is on one of the Layers; or what is in the window
+abbrev pub IsFlattenedIn : Settled → List Layer → Scope → List PlainSheet → Type 0
+IsFlattenedIn s layers Everything sheets = AllListed layers s.cells → IsFlattened s sheets
+IsFlattenedIn s layers (Within window) sheets = IsFlattenedWithin s layers window sheets
 
 -- the number of references of its cell that the visit hasn't finished
 abbrev pub references_left : List (PlainCell Rings) → Visit → ℕ

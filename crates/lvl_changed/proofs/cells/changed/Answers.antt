@@ -75,7 +75,7 @@ loop-i-preserved c =
 
 pub windows_of-requires : goal.windows_of-requires
 windows_of-requires c =
-    let settled = c.top.ensures.checked.1 in
+    let settled = c.top.ensures.checked.settled in
     let whole : Settled = c.checked-ours.result.now in
     omega (
       arith,

@@ -1,5 +1,4 @@
-use Rattle.std.proofs.Common.{◌≡◌, List, Some, length, slice_get, refl, ap, ◌∙◌, subst, arith}
-use Rattle.std.proofs.lemmas.Option.{slice_get_read}
+use Rattle.std.proofs.Common.{◌≡◌, List, Some, slice_get, subst}
 use Rattle.lvl_cells.specs.Cells.{PlainCell, Rings}
 use Rattle.lvl_cells.specs.Checks.{Settled}
 use Rattle.lvl_view.specs.declared.map.LayerPair.{LayerPair}
@@ -14,32 +13,15 @@ returns c = λ known.
     let ours : List (PlainCell Rings) = c.args.first.now.cells in
     let theirs : List (PlainCell Rings) = c.args.second.now.cells in
     let pairs : List LayerPair = c.args.view.now.pairs in
-    let x : PlainCell Rings = c.index-cells-ours.result in
-    let y : PlainCell Rings = c.index-cells-theirs.result in
+    let x : PlainCell Rings = c.cell-our_cell.result.now in
+    let y : PlainCell Rings = c.cell-their_cell.result.now in
     let old : Windows = c.hold_shapes.new.windows in
     let new : Windows = c.hold_references.new.windows in
     let at : slice_get ours c.args.ours ≡ Some x =
-    subst (λ (cs : List (PlainCell Rings)). slice_get cs c.args.ours ≡ Some x)
-    (c.cells.ensures.value ∙ ap (λ (z : Settled). z.cells) c.checked.ensures.library)
-    (slice_get_read c.cells.result.now (length c.cells.result.now) c.args.ours x refl
-    (omega (
-      arith,
-      c.requires.ours,
-      ap length c.cells.ensures.value,
-      ap (λ (z : Settled). length z.cells) c.checked.ensures.library,
-    ))
-    c.index-cells-ours.is) in
+    subst (λ (z : Settled). slice_get z.cells c.args.ours ≡ Some x) c.checked.ensures.library c.cell-our_cell.ensures in
     let there : slice_get theirs c.args.theirs ≡ Some y =
-    subst (λ (cs : List (PlainCell Rings)). slice_get cs c.args.theirs ≡ Some y)
-    (c.cells-2.ensures.value ∙ ap (λ (z : Settled). z.cells) c.checked-2.ensures.library)
-    (slice_get_read c.cells-2.result.now (length c.cells-2.result.now) c.args.theirs y refl
-    (omega (
-      arith,
-      c.requires.theirs,
-      ap length c.cells-2.ensures.value,
-      ap (λ (z : Settled). length z.cells) c.checked-2.ensures.library,
-    ))
-    c.index-cells-theirs.is) in
+    subst (λ (z : Settled). slice_get z.cells c.args.theirs ≡ Some y) c.checked-2.ensures.library
+    c.cell-their_cell.ensures in
     cells_alike ours theirs c.args.ours c.args.theirs x y pairs new at there
     (alike_wider old new (ShapesCover x.shapes) (IsMoved pairs (ShapesCover y.shapes))
     c.in_ok-hold_references.ensures.kept c.in_ok-hold_shapes.ensures.held)

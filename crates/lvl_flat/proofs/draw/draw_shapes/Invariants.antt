@@ -1,15 +1,7 @@
-use Rattle.std.proofs.Common.{◌≡◌, ◌++◌, take, map}
-use Rattle.lvl_names.specs.declared.layer.Layer.{Layer}
-use Rattle.lvl_flat.specs.inside.Drawn.{drawn_on, AreFiguresPlaced}
-use Rattle.lvl_flat.specs.Sheets.{rings_on}
+use Rattle.std.proofs.Common.{take}
+use Rattle.lvl_flat.specs.inside.Drawn.{AreDrawn}
 use Rattle.lvl_flat.proofs.draw.draw_shapes.Given as goal
 
--- the shapes so far are drawn, and the sheets are for the same Layers as before
+-- the shapes so far are drawn
 abbrev pub invariant-loop-i : goal.invariant-loop-i
-invariant-loop-i l = record {
-  drawn : (layer : Layer)
-      → rings_on layer l.sheets.items
-      ≡ rings_on layer l.initial.sheets.items ++ drawn_on layer l.map (take l.i l.shapes);
-  placed : AreFiguresPlaced l.map (take l.i l.shapes);
-  layers : map (λ s. s.layer) l.sheets.items ≡ map (λ s. s.layer) l.initial.sheets.items;
-}
+invariant-loop-i l = AreDrawn l.map l.scope (take l.i l.shapes) l.initial.sheets.items l.sheets.items

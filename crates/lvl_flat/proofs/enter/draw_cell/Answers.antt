@@ -1,52 +1,33 @@
-use Rattle.std.proofs.Common.{◌≡◌, length, slice_get, Some, Err, sym, ap, subst, ◌∙◌, refl}
+use Rattle.std.proofs.Common.{◌≡◌, length, slice_get, Some, Err, ap, subst, ◌∙◌, refl}
 use Rattle.std.proofs.lemmas.Option.{slice_get_read}
-use Rattle.lvl_names.specs.declared.layer.Layer.{Layer}
 use Rattle.lvl_cells.specs.Cells.{PlainCell, Rings}
-use Rattle.lvl_flat.specs.inside.Drawn.{drawn_on, AreFiguresPlaced}
-use Rattle.lvl_flat.specs.Flattened.{FitShapes}
-use Rattle.lvl_flat.specs.Sheets.{HaveSheets, rings_on}
-use Rattle.lvl_flat.specs.Flattened.{ReportsName}
-use Rattle.std.specs.Prelude.{◌++◌}
+use Rattle.lvl_flat.specs.inside.Drawn.{AreDrawn}
+use Rattle.lvl_flat.specs.Flattened.{FitShapes, ReportsName}
 use Rattle.lvl_refusal.specs.Refused.{Says}
 use Rattle.lvl_refusal.proofs.Saying.{Says-map}
-use Rattle.lvl_flat.proofs.UnderWay.{reports_entered}
+use Rattle.lvl_flat.proofs.Reporting.{reports_entered}
 use Rattle.lvl_flat.proofs.enter.draw_cell.Goals as goal
-
-pub draw_shapes-requires-clause-layers : goal.draw_shapes-requires-clause-layers
-draw_shapes-requires-clause-layers c =
-    let cell : PlainCell Rings = c.index-cells-place.result in
-    let at : slice_get c.args.cells.now c.args.place ≡ Some cell =
-    slice_get_read c.args.cells.now (length c.args.cells.now) c.args.place cell refl c.requires.there
-    c.index-cells-place.is in
-    let shapes : c.cell.inside.shapes ≡ cell.shapes = ap (λ (b : PlainCell Rings). b.shapes) c.cell.view_is in
-    subst (HaveSheets c.args.sheets.now.items) (sym shapes) (c.requires.layers c.args.place cell at)
 
 pub returns-in-Ok-clause-drawn : goal.returns-in-Ok-clause-drawn
 returns-in-Ok-clause-drawn c =
-    let cell : PlainCell Rings = c.index-cells-place.result in
-    let at : slice_get c.args.cells.now c.args.place ≡ Some cell =
-    slice_get_read c.args.cells.now (length c.args.cells.now) c.args.place cell refl c.requires.there
-    c.index-cells-place.is in
-    let shapes : c.cell.inside.shapes ≡ cell.shapes = ap (λ (b : PlainCell Rings). b.shapes) c.cell.view_is in
+    let cell : PlainCell Rings = c.index-cells-index.result in
     record {
       cell = cell;
-      there = at;
+      there =
+          slice_get_read c.args.cells.now (length c.args.cells.now) c.args.index cell refl c.requires.there
+          c.index-cells-index.is;
       drawn =
           subst
-          (λ hs. (layer : Layer)
-          → rings_on layer c.draw_shapes.new.sheets.items
-          ≡ rings_on layer c.args.sheets.now.items ++ drawn_on layer c.args.map.now hs) shapes
-          c.in-Ok.ensures.drawn;
-      placed = subst (AreFiguresPlaced c.args.map.now) shapes c.in-Ok.ensures.placed;
-      layers = c.in-Ok.ensures.layers_stay;
+          (λ hs. AreDrawn c.args.map.now c.args.scope.now hs c.args.sheets.now.items c.draw_shapes.new.sheets.items)
+          (ap (λ (b : PlainCell Rings). b.shapes) c.cell.view_is) c.in-Ok.ensures.drawn;
     }
 
 pub returns-in-Err-OutOfRange-clause-err : goal.returns-in-Err-OutOfRange-clause-err
 returns-in-Err-OutOfRange-clause-err c =
-    let cell : PlainCell Rings = c.index-cells-place.result in
-    let at : slice_get c.args.cells.now c.args.place ≡ Some cell =
-    slice_get_read c.args.cells.now (length c.args.cells.now) c.args.place cell refl c.requires.there
-    c.index-cells-place.is in
+    let cell : PlainCell Rings = c.index-cells-index.result in
+    let at : slice_get c.args.cells.now c.args.index ≡ Some cell =
+    slice_get_read c.args.cells.now (length c.args.cells.now) c.args.index cell refl c.requires.there
+    c.index-cells-index.is in
     let shapes : c.cell.inside.shapes ≡ cell.shapes = ap (λ (b : PlainCell Rings). b.shapes) c.cell.view_is in
     let name : c.as_bytes.result.now ≡ cell.name =
     c.as_bytes.ensures ∙ ap (λ (b : PlainCell Rings). b.name) c.cell.view_is in
@@ -56,4 +37,4 @@ returns-in-Err-OutOfRange-clause-err c =
     subst (λ hs. FitShapes c.args.map.now hs → ⊥) shapes
     (c.in-Err-OutOfRange.ensures.out (ap Err c.in-Err-OutOfRange.field-0-is)) in
     Says-map (ReportsName cell.name) _ c.out_of_range.result
-    (reports_entered c.args.cells.now c.args.place c.args.map.now cell at out) reports
+    (reports_entered c.args.cells.now c.args.index c.args.map.now cell at out) reports

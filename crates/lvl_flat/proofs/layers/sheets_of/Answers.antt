@@ -1,6 +1,7 @@
-use Rattle.std.proofs.Common.{◌∙◌}
+use Rattle.std.proofs.Common.{◌∙◌, subst, sym}
 use Rattle.std.proofs.lemmas.Result.{IfOk-weaker}
-use Rattle.lvl_flat.proofs.Listing.{cells_there, sheets_rise}
+use Rattle.lvl_flat.specs.inside.Walking.{AllListed}
+use Rattle.lvl_flat.proofs.Listing.{sheets_rise}
 use Rattle.lvl_flat.proofs.layers.sheets_of.Goals as goal
 
 pub returns-clause-sorted : goal.returns-clause-sorted
@@ -12,5 +13,6 @@ returns-clause-sorted c =
 pub returns-clause-layers : goal.returns-clause-layers
 returns-clause-layers c =
     IfOk-weaker c.empty_sheets.result _ _
-    (λ sheets e. cells_there c.args.cells.now _ sheets.items c.in_ok-layers_of.ensures.all (e ∙ c.deref.ensures.value))
+    (λ sheets e. subst (λ ls. AllListed ls c.args.cells.now) (sym (e ∙ c.deref.ensures.value))
+    c.in_ok-layers_of.ensures.all)
     c.empty_sheets.ensures.layers

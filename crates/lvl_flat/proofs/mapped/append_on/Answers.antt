@@ -1,12 +1,33 @@
-use Rattle.std.proofs.Common.{◌≡◌, ◌≢◌, ◌++◌, [], cond, List, All, set, ap, subst, ◌∙◌, arith, slice_get, Some}
+use Rattle.std.proofs.Common.{◌≡◌, ◌≢◌, ◌++◌, [], ℕ, true, false, cond, not, List, All, set, ap, subst, ◌∙◌, arith}
+use Rattle.std.proofs.Common.{refl, slice_get, sym, Some}
+use Rattle.std.proofs.lemmas.List.{append-nil}
 use Rattle.std.proofs.lemmas.Option.{slice_get_within, get_or_from_slice_get}
 use Rattle.lvl_names.specs.declared.layer.Layer.{Layer}
 use Rattle.lvl_cells.specs.Cells.{Rings}
 use Rattle.lvl_names.specs.Layers.{same_layer}
 use Rattle.lvl_flat.specs.Sheet.{PlainSheet}
-use Rattle.lvl_flat.specs.Sheets.{rings_on}
-use Rattle.lvl_flat.proofs.Drawing.{layer_of, not_theirs, layers-set, rings_on-set}
+use Rattle.lvl_names.proofs.Layers.{tested_layer}
+use Rattle.lvl_flat.specs.Sheets.{AreSorted, rings_on}
+use Rattle.lvl_flat.proofs.Cutting.{rings_on-put}
+use Rattle.lvl_flat.proofs.Drawing.{layer_of, not_theirs, layers-set}
+use Rattle.lvl_flat.proofs.Orders.{rings_where}
 use Rattle.lvl_flat.proofs.mapped.append_on.Goals as goal
+
+-- rings added to a sheet are added on its Layer, and on no other
+rings_on-set : (sheets : List PlainSheet) (i : ℕ) (s : PlainSheet) (added : Rings) → AreSorted sheets
+    → slice_get sheets i ≡ Some s → (layer : Layer)
+    → rings_on layer (set sheets i (record { layer = s.layer; rings = s.rings ++ added }))
+    ≡ rings_on layer sheets ++ cond (same_layer s.layer layer) added []
+rings_on-set sheets i s added sorted at layer =
+    rings_on-put sheets i s (s.rings ++ added) sorted at layer
+    ∙ elim (same_layer s.layer layer)
+    as (λ b. same_layer s.layer layer ≡ b
+    → cond b (s.rings ++ added) (rings_on layer sheets) ≡ rings_on layer sheets ++ cond b added []) [
+      | true ↦ λ e.
+          let here : s.layer ≡ layer = tested_layer s.layer layer (ap not e) in
+          ap (λ (rs : Rings). rs ++ added) (sym (rings_where sheets layer i s sorted at here))
+      | false ↦ λ e. sym (append-nil (rings_on layer sheets))
+    ] refl
 
 abbrev of : Layer → Rings → PlainSheet
 of x r = record { layer = x; rings = r }

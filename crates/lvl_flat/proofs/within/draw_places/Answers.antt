@@ -1,41 +1,31 @@
-use Rattle.std.proofs.Common.{◌≡◌, ◌<◌, ◌+◌, List, Err, Some, length, slice_get, sym, ◌∙◌, arith, refl}
+use Rattle.std.proofs.Common.{◌≡◌, ◌<◌, ◌+◌, List, Err, Some, length, slice_get, subst, sym, ◌∙◌, arith, refl}
+use Rattle.std.proofs.lemmas.List.{take_all}
 use Rattle.std.proofs.lemmas.Option.{slice_get_within}
 use Rattle.std.proofs.lemmas.Result.{err_from_is_err_and}
 use Rattle.lvl_grid.specs.declared.point.Point.{Point}
 use Rattle.lvl_grid.specs.declared.ring.PlaceFault.{PlaceFault}
+use Rattle.lvl_flat.specs.declared.scope.Scope.TheVariants.{Within}
+use Rattle.lvl_flat.specs.inside.Drawn.{IsRingDrawn}
 use Rattle.lvl_flat.specs.inside.Passing.{AreMissed}
 use Rattle.lvl_flat.proofs.Runs.{all_missed}
-use Rattle.lvl_flat.proofs.Skipping.{drawn_none, drawn_more, drawn_past, drawn_covers, drawn_fits, fits_at}
-use Rattle.lvl_flat.proofs.Skipping.{past_last}
+use Rattle.lvl_flat.proofs.Skipping.{drawn_none, drawn_more, drawn_past, fits_at, past_last}
 use Rattle.lvl_flat.proofs.within.draw_places.Goals as goal
 
-pub returns-then-misses_moved-clause-covers : goal.returns-then-misses_moved-clause-covers
-returns-then-misses_moved-clause-covers c =
+pub returns-then-misses_moved-clause-drawn : goal.returns-then-misses_moved-clause-drawn
+returns-then-misses_moved-clause-drawn c =
     let shifts : List Point = c.args.shifts.now in
     let missed : AreMissed shifts 0 (length shifts) c.args.bounds c.args.map.now c.args.window.now =
     all_missed shifts 0 (length shifts) c.args.bounds c.bounds_of_shifts.result c.args.map.now c.args.window.now
     c.bounds_of_shifts.ensures (c.if-misses_moved.ensures refl) in
-    drawn_covers c.args.map.now c.args.window.now c.args.ring.now shifts c.args.rings.now c.args.rings.now
-    (length shifts)
+    subst
+    (λ es. IsRingDrawn c.args.map.now (Within c.args.window.now) es c.args.ring.now c.args.rings.now c.args.rings.now)
+    (take_all (length shifts) shifts (omega arith))
     (drawn_past c.args.map.now c.args.window.now c.args.bounds c.args.ring.now shifts c.args.rings.now c.args.rings.now
-    0 (length shifts) (drawn_none c.args.map.now c.args.window.now c.args.ring.now shifts c.args.rings.now)
-    c.requires.bounds (omega arith) (omega arith) missed) (omega arith)
-
-pub returns-then-misses_moved-clause-fits : goal.returns-then-misses_moved-clause-fits
-returns-then-misses_moved-clause-fits c =
-    let shifts : List Point = c.args.shifts.now in
-    let missed : AreMissed shifts 0 (length shifts) c.args.bounds c.args.map.now c.args.window.now =
-    all_missed shifts 0 (length shifts) c.args.bounds c.bounds_of_shifts.result c.args.map.now c.args.window.now
-    c.bounds_of_shifts.ensures (c.if-misses_moved.ensures refl) in
-    drawn_fits c.args.map.now c.args.window.now c.args.ring.now shifts c.args.rings.now c.args.rings.now
-    (length shifts)
-    (drawn_past c.args.map.now c.args.window.now c.args.bounds c.args.ring.now shifts c.args.rings.now c.args.rings.now
-    0 (length shifts) (drawn_none c.args.map.now c.args.window.now c.args.ring.now shifts c.args.rings.now)
-    c.requires.bounds (omega arith) (omega arith) missed) (omega arith)
+    0 (length shifts) (drawn_none c.args.map.now (Within c.args.window.now) c.args.ring.now c.args.rings.now)
+    c.requires.bounds (omega arith) (omega arith) missed)
 
 pub loop-shift-init : goal.loop-shift-init
-loop-shift-init c =
-    drawn_none c.args.map.now c.args.window.now c.args.ring.now c.args.shifts.now c.args.rings.now
+loop-shift-init c = drawn_none c.args.map.now (Within c.args.window.now) c.args.ring.now c.args.rings.now
 
 pub returns-in_err-drawn-clause-out : goal.returns-in_err-drawn-clause-out
 returns-in_err-drawn-clause-out c = λ out fits.
@@ -61,9 +51,9 @@ loop-shift-preserved-then-count-k-ge-LEAST_RUN c =
     let seen : slice_get c.args.shifts.now c.loop-shift.k ≡ Some c.in-Some.shift = sym c.at.ensures ∙ c.in-Some.is in
     drawn_past c.args.map.now c.args.window.now c.args.bounds c.args.ring.now c.args.shifts.now c.args.rings.now
     c.draw_place.new.rings (c.loop-shift.k + 1) c.missed_from-k.result
-    (drawn_more c.args.map.now c.args.window.now c.args.ring.now c.args.shifts.now c.args.rings.now c.loop-shift.rings
+    (drawn_more c.args.map.now (Within c.args.window.now) c.args.ring.now c.args.shifts.now c.args.rings.now c.loop-shift.rings
     c.draw_place.new.rings c.loop-shift.k c.in-Some.shift c.loop-shift.invariant seen c.in_ok-drawn.ensures.covers
-    c.in_ok-drawn.ensures.fits)
+    c.in_ok-drawn.ensures.fits (λ all. cc))
     c.requires.bounds c.missed_from-k.ensures.on c.missed_from-k.ensures.inside c.missed_from-k.ensures.missed
 
 pub loop-shift-smaller : goal.loop-shift-smaller
@@ -74,18 +64,14 @@ loop-shift-smaller c =
 pub loop-shift-preserved : goal.loop-shift-preserved
 loop-shift-preserved c =
     let seen : slice_get c.args.shifts.now c.loop-shift.k ≡ Some c.in-Some.shift = sym c.at.ensures ∙ c.in-Some.is in
-    drawn_more c.args.map.now c.args.window.now c.args.ring.now c.args.shifts.now c.args.rings.now c.loop-shift.rings
+    drawn_more c.args.map.now (Within c.args.window.now) c.args.ring.now c.args.shifts.now c.args.rings.now c.loop-shift.rings
     c.draw_place.new.rings c.loop-shift.k c.in-Some.shift c.loop-shift.invariant seen c.in_ok-drawn.ensures.covers
-    c.in_ok-drawn.ensures.fits
+    c.in_ok-drawn.ensures.fits (λ all. cc)
 
-pub returns-clause-covers : goal.returns-clause-covers
-returns-clause-covers c =
-    drawn_covers c.args.map.now c.args.window.now c.args.ring.now c.args.shifts.now c.args.rings.now c.loop-shift.rings
-    c.loop-shift.k c.loop-shift.invariant
-    (past_last c.args.shifts.now c.loop-shift.k (sym c.at.ensures ∙ c.in_default.is))
-
-pub returns-clause-fits : goal.returns-clause-fits
-returns-clause-fits c =
-    drawn_fits c.args.map.now c.args.window.now c.args.ring.now c.args.shifts.now c.args.rings.now c.loop-shift.rings
-    c.loop-shift.k c.loop-shift.invariant
-    (past_last c.args.shifts.now c.loop-shift.k (sym c.at.ensures ∙ c.in_default.is))
+pub returns-clause-drawn : goal.returns-clause-drawn
+returns-clause-drawn c =
+    subst
+    (λ es. IsRingDrawn c.args.map.now (Within c.args.window.now) es c.args.ring.now c.args.rings.now c.loop-shift.rings)
+    (take_all c.loop-shift.k c.args.shifts.now
+    (past_last c.args.shifts.now c.loop-shift.k (sym c.at.ensures ∙ c.in_default.is)))
+    c.loop-shift.invariant

@@ -1,10 +1,11 @@
-use Rattle.std.proofs.Common.{◌-◌, length}
-use Rattle.lvl_flat.proofs.Skipping.{IsDrawnUpTo}
+use Rattle.std.proofs.Common.{◌-◌, length, take}
+use Rattle.lvl_flat.specs.declared.scope.Scope.TheVariants.{Within}
+use Rattle.lvl_flat.specs.inside.Drawn.{IsRingDrawn}
 use Rattle.lvl_flat.proofs.within.draw_places.Given as goal
 
 -- the ring is drawn at the shifts so far
 abbrev pub invariant-loop-shift : goal.invariant-loop-shift
-invariant-loop-shift l = IsDrawnUpTo l.map l.window l.ring l.shifts l.initial.rings l.rings l.k
+invariant-loop-shift l = IsRingDrawn l.map (Within l.window) (take l.k l.shifts) l.ring l.initial.rings l.rings
 
 -- fewer shifts are left after each
 abbrev pub decreases-loop-shift : goal.decreases-loop-shift

@@ -9,7 +9,7 @@ pub returns-in-Some : goal.returns-in-Some
 returns-in-Some c = λ h.
     let cells : List (PlainCell Rings) = c.args.checked.now.cells in
     let top : ℕ = c.top.result in
-    let settled = c.top.ensures.checked.1 in
+    let settled = c.top.ensures.checked.settled in
     let cell_at : slice_get cells top ≡ Some settled.cell = ap (slice_get cells) c.top.ensures.value ∙ settled.is in
     let both = c.requires top c.in-Some.field-0 settled.cell c.in-Some.ensures cell_at in
     subst (λ o. IfSome o (AllInRange cells)) (sym settled.is)

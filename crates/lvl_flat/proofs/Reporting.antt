@@ -1,0 +1,107 @@
+-- Cells that are out of range, and what is reported of them.
+use Rattle.std.proofs.Common.{◌≡◌, ◌++◌, ℕ, suc, List, [], ◌∷◌, slice_get, Some, Contains, refl, sym, ap, subst, ◌∙◌}
+use Rattle.std.proofs.Common.{arith}
+use Rattle.lvl_grid.specs.declared.map.Map.{Map}
+use Rattle.lvl_grid.proofs.Composing.{composed, image-composed}
+use Rattle.lvl_names.specs.declared.layer.Layer.{Layer}
+use Rattle.lvl_cells.specs.Cells.{PlainCell, Rings, map_at}
+use Rattle.lvl_cells.specs.Chains.{Chain, unmoved}
+use Rattle.lvl_cells.specs.Checks.{Settled}
+use Rattle.lvl_flat.specs.declared.fault.FlatFault.{FlatFault}
+use Rattle.lvl_flat.specs.declared.fault.FlatFault.TheVariants.{OutOfRange}
+use Rattle.lvl_flat.specs.declared.scope.Scope.{Scope}
+use Rattle.lvl_flat.specs.declared.visit.Visit.{Visit}
+use Rattle.lvl_flat.specs.Flattened.{IsOutOfRange, IsFlatFault, FitShapes, ReportsName}
+use Rattle.lvl_flat.specs.Sheet.{PlainSheet}
+use Rattle.lvl_flat.specs.inside.Entering.{IsCellOut, IsEnterFault}
+use Rattle.lvl_flat.specs.inside.Steps.{IsInto, IsOut}
+use Rattle.lvl_flat.specs.inside.Visits.{pending}
+use Rattle.lvl_flat.specs.inside.Walking.{IsWalking}
+use Rattle.lvl_flat.proofs.Advancing.{next_chain}
+use Rattle.lvl_flat.proofs.Walking.{in_last}
+
+-- a visit whose next pick is out of range
+pub out_by_shift : (s : Settled) (layers : List Layer) (scope : Scope) (sheets : List PlainSheet)
+    (front : List Visit) (v : Visit)
+    (i : ℕ) → IsWalking s layers scope sheets (front ++ v ∷ []) → (o : IsOut s.cells v i) → IsOutOfRange s o.next.name
+out_by_shift s layers scope sheets front v i w o =
+    let m : Map = composed v.map (map_at o.pick.0 o.pick.1) in
+    let old = w.visits v (in_last front v) in
+    record {
+      top = w.top;
+      is_top = w.is_top;
+      steps = suc old.steps;
+      map = m;
+      cell = o.next;
+      chain =
+          next_chain s.cells w.top v m o.pick o.next old o.has o.named
+          (λ p. image-composed v.map (map_at o.pick.0 o.pick.1) p);
+      named = refl;
+      out = λ fits. o.out fits.shift;
+    }
+
+-- a cell whose placed vertices are out of range
+pub out_by_vertex : (s : Settled) (layers : List Layer) (scope : Scope) (sheets : List PlainSheet)
+    (front : List Visit) (v : Visit)
+    (i : ℕ) (m : Map) (rest : Visit) (name : List ℕ) → IsWalking s layers scope sheets (front ++ v ∷ [])
+    → IsInto s.cells v i m rest → IsCellOut s.cells i m name → IsOutOfRange s name
+out_by_vertex s layers scope sheets front v i m rest name w into o =
+    let old = w.visits v (in_last front v) in
+    let both : Some o.cell ≡ Some into.next = sym o.there ∙ into.there in
+    let one : o.cell ≡ into.next = cc in
+    let first : Contains (pending s.cells v) into.pick =
+    subst (λ ps. Contains ps into.pick) (sym into.pending_is) (0, omega arith, refl) in
+    record {
+      top = w.top;
+      is_top = w.is_top;
+      steps = suc old.steps;
+      map = m;
+      cell = o.cell;
+      chain =
+          subst (λ (c : PlainCell Rings). Chain s.cells w.top (suc old.steps) m c) (sym one)
+          (next_chain s.cells w.top v m into.pick into.next old first into.named into.placed);
+      named = o.named;
+      out = λ fits. o.out fits.vertices;
+    }
+
+-- the name of a cell that is out of range
+pub names_out : (s : Settled) (name : List ℕ) (fault : FlatFault) → ReportsName name fault → IsOutOfRange s name
+    → IsFlatFault s fault
+names_out s name (OutOfRange reported) reports out = subst (IsOutOfRange s) (sym reports) out
+
+pub entered_out : (s : Settled) (i : ℕ) (m : Map) → ((name : List ℕ) → IsCellOut s.cells i m name → IsOutOfRange s name)
+    → (fault : FlatFault) → IsEnterFault s.cells i m fault → IsFlatFault s fault
+entered_out s i m out (OutOfRange name) h = out name.items h
+
+pub reports_entered : (cells : List (PlainCell Rings)) (i : ℕ) (m : Map) (c : PlainCell Rings)
+    → slice_get cells i ≡ Some c → (FitShapes m c.shapes → ⊥) → (fault : FlatFault) → ReportsName c.name fault
+    → IsEnterFault cells i m fault
+reports_entered cells i m c at out (OutOfRange name) reports =
+    record { cell = c; there = at; named = sym reports; out = out }
+
+-- a top whose own vertices are out of range
+pub top_out : (s : Settled) (c : PlainCell Rings) (name : List ℕ) → slice_get s.cells s.top ≡ Some c
+    → IsCellOut s.cells s.top unmoved name → IsOutOfRange s name
+top_out s c name at o =
+    let both : Some o.cell ≡ Some c = sym o.there ∙ at in
+    let one : o.cell ≡ c = cc in
+    record {
+      top = c;
+      is_top = at;
+      steps = 0;
+      map = unmoved;
+      cell = o.cell;
+      chain = (refl, one);
+      named = o.named;
+      out = λ fits. o.out fits.vertices;
+    }
+
+-- a cell that is drawn alone, and whose vertices are out of range
+pub own_out : (c : PlainCell Rings) (fault : FlatFault) → IsEnterFault (c ∷ []) 0 unmoved fault
+    → ReportsName c.name fault × (¬ FitShapes unmoved c.shapes)
+own_out c (OutOfRange name) o =
+    let both : Some c ≡ Some o.cell = o.there in
+    let one : o.cell ≡ c = cc in (
+      sym o.named ∙ ap (λ (b : PlainCell Rings). b.name) one,
+      subst (λ (b : PlainCell Rings). ¬ FitShapes unmoved b.shapes) one o.out,
+    )
