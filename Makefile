@@ -14,11 +14,11 @@ bin/lvl: $(SOURCES)
 	@$(NEEDS_RT)
 	@.ci/build
 
-# The gate: every proof from nothing, the edits that must be refused, the tests and the program.
+# The gate: every proof, the edits that must be refused, the tests, and the program on what no contract says.
 check:
 	@$(NEEDS_RT)
 	@rm -rf bin/.crates
-	@rt ci
+	@.ci/check
 
 # Each allocation refused in turn, to the tests and the program that the gate has built.
 growths:
