@@ -1,7 +1,7 @@
 //! What the documentation of the crates shows, line by line.
 
-use lvl_profile::Ignore;
 use lvl_io::fake::Pieces;
+use lvl_profile::Ignore;
 use oasis_figures::{Drawn, Modal};
 use oasis_library::read_oasis;
 use oasis_records::{Record, RecordType, read_fields, read_id};

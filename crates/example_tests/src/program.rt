@@ -2,8 +2,8 @@
 
 use gds_records::fake::{SQUARE, Stream};
 use lvl::{Tops, Verdict, compare_layouts, digest_file, read_layout, show_file};
-use lvl_profile::Ignore;
 use lvl_io::fake::{Pieces, Sink};
+use lvl_profile::Ignore;
 use lvl_report::{Status, run_show};
 use std::alloc::{AllocError, Global};
 use std::test::Fail;

@@ -19,8 +19,8 @@ use crate::head::GdsHead;
 use crate::ignoring::WithIgnored;
 use gds_records::{RecordFault, Records, Stopped};
 use lvl_cells::Library;
-use lvl_profile::Ignore;
 use lvl_io::{Buffer, Read};
+use lvl_profile::Ignore;
 use lvl_refusal::Cause;
 use std::alloc::Global;
 

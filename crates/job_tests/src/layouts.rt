@@ -8,9 +8,9 @@ use lvl::{
 use lvl_cells::CellFault;
 use lvl_corners::LayerDigest;
 use lvl_grid::Square;
-use lvl_profile::Ignore;
 use lvl_io::fake::Pieces;
 use lvl_names::Layer;
+use lvl_profile::Ignore;
 use lvl_region::Side;
 use lvl_view::View;
 use std::alloc::{AllocError, Global};

@@ -15,8 +15,8 @@ use crate::side::read_side;
 use crate::verdict::Refusal;
 use lvl_cells::Library;
 use lvl_corners::mask_bytes_decide;
-use lvl_profile::Ignore;
 use lvl_io::Read;
+use lvl_profile::Ignore;
 use lvl_region::Side;
 use std::alloc::Global;
 

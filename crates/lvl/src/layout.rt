@@ -12,8 +12,8 @@ ghost use Rattle.lvl.specs.Sides.{layout_parts, IsFileFault};
 
 use gds_library::{GdsFault, GdsHead, GdsKind, RecordFault, read_gds_by};
 use lvl_cells::Library;
-use lvl_profile::Ignore;
 use lvl_io::{Failure, Peeked, Read};
+use lvl_profile::Ignore;
 use lvl_refusal::Cause;
 use oasis_library::{OasisFault, OasisHead, read_oasis_by};
 use std::alloc::Global;

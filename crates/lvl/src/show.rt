@@ -13,8 +13,8 @@ use crate::side::{check_named, fit_side, read_side};
 use crate::verdict::Refusal;
 use lvl_cells::Library;
 use lvl_count::rings_by_layer;
-use lvl_profile::Ignore;
 use lvl_io::Read;
+use lvl_profile::Ignore;
 use lvl_region::Side;
 use std::alloc::Global;
 

@@ -7,8 +7,8 @@ ghost use Rattle.lvl_report.specs.Texts.{line};
 ghost use Rattle.lvl_report.specs.Writing.{AppendsBeginning};
 
 use crate::fault::JobFault;
-use lvl_profile::Ignore;
 use lvl_io::{Failure, Write};
+use lvl_profile::Ignore;
 use lvl_region::Side;
 use lvl_report::Hint;
 use lvl_text::{ignore_fault, view_fault};

@@ -13,8 +13,8 @@ use crate::outcome::Outcome;
 use crate::status::{RunFault, Status};
 use crate::tell::{tell, tell_digest, tell_shown};
 use lvl::{Tops, compare_files, digest_file, show_file};
-use lvl_profile::Ignore;
 use lvl_io::{Read, Write};
+use lvl_profile::Ignore;
 use lvl_view::View;
 use std::alloc::Global;
 

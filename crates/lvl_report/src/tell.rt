@@ -12,8 +12,8 @@ use crate::output::put;
 use crate::status::RunFault;
 use crate::text::{form, form_shown};
 use lvl::{Comparison, Digested, Refusal, Shown};
-use lvl_profile::Ignore;
 use lvl_io::Write;
+use lvl_profile::Ignore;
 use std::alloc::Global;
 
 /// Writes the text of an answer about two files, and returns how the run ends. `ignore` is what was

@@ -4,8 +4,8 @@ ghost use Rattle.lvl_text.specs.Faults.{spaced, path_fault, cell_fault, flat_fau
 
 use lvl_cells::CellFault;
 use lvl_flat::FlatFault;
-use lvl_profile::IgnoreFault;
 use lvl_path::PathFault;
+use lvl_profile::IgnoreFault;
 use lvl_view::ViewFault;
 use std::io;
 use std::io::Write;

@@ -3,8 +3,8 @@
 use crate::fence::fence;
 use gds_records::Records;
 use gds_records::fake::{SQUARE, Stream};
-use lvl_profile::Ignore;
 use lvl_io::fake::Pieces;
+use lvl_profile::Ignore;
 use oasis_values::{Input, Real};
 use std::alloc::Global;
 use std::test::Fail;

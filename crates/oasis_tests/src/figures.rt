@@ -2,10 +2,10 @@
 
 use crate::rows::{bytes_of, check_text, cut};
 use lvl_grid::{Map, Point, Ring};
-use lvl_profile::Ignore;
 use lvl_io::Read;
 use lvl_io::fake::Pieces;
 use lvl_names::Layer;
+use lvl_profile::Ignore;
 use lvl_refusal::Cause;
 use oasis_figures::{Drawn, FigureRule, Modal};
 use oasis_records::{Record, RecordType, read_fields, read_id};

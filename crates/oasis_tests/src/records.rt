@@ -1,8 +1,8 @@
 //! A file with one square in one cell, byte by byte.
 
-use lvl_profile::Ignore;
 use lvl_io::Read;
 use lvl_io::fake::Pieces;
+use lvl_profile::Ignore;
 use oasis_records::{
     CellRef, Record, RecordType, Rectangle, Start, Validation, read_fields, read_id, read_magic,
 };

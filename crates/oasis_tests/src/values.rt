@@ -3,9 +3,9 @@
 
 use crate::rows::{bytes_of, check_text, cut};
 use lvl_grid::Point;
-use lvl_profile::Ignore;
 use lvl_io::Read;
 use lvl_io::fake::Pieces;
+use lvl_profile::Ignore;
 use lvl_refusal::Cause;
 use oasis_values::{Input, Real, Repetition, Text, Use, ValueFault};
 use std::alloc::{AllocError, Global};

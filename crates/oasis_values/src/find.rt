@@ -10,8 +10,8 @@ ghost use Rattle.oasis_values.specs.inside.Leading.{IsStop, Stops, Finds};
 
 use crate::fault::ValueFault;
 use crate::integer::{Leading, scan_integer};
-use lvl_profile::Ignore;
 use lvl_io::{Buffer, Missing, Read};
+use lvl_profile::Ignore;
 
 /// What was found, and how many bytes it takes.
 #[derive(Clone, Copy)]

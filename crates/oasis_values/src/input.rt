@@ -3,8 +3,8 @@ ghost use Rattle.std.specs.Prelude.{◌≡◌, ◌-◌, ◌≤◌, false, true, 
 
 use crate::fault::ValueFault;
 use crate::find::{find_byte, find_integer};
-use lvl_profile::Ignore;
 use lvl_io::{Buffer, FILE_LIMIT, Read};
+use lvl_profile::Ignore;
 
 /// Reads values from a reader, one at a time. It reads from the reader only when it needs a byte and has
 /// none ahead.

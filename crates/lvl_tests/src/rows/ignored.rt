@@ -3,8 +3,8 @@
 use super::compared::exchanged;
 use super::words::{SQUARE, cut, file};
 use super::{Answer, is_answer, no_tops, sink, status_of};
-use lvl_profile::Ignore;
 use lvl_io::fake::Pieces;
+use lvl_profile::Ignore;
 use lvl_report::{Status, run_by, run_digest, run_show_by};
 use std::alloc::{AllocError, Global};
 use std::process::Abort;
