@@ -1,6 +1,8 @@
 -- Cells that are out of range, and what is reported of them.
 use Rattle.std.proofs.Common.{◌≡◌, ◌++◌, ℕ, suc, List, [], ◌∷◌, slice_get, Some, Contains, refl, sym, ap, subst, ◌∙◌}
 use Rattle.std.proofs.Common.{arith}
+use Rattle.std.proofs.lemmas.List.Elements.{Contains-push}
+use Rattle.lvl_cells.proofs.Sequences.{one_answer}
 use Rattle.lvl_grid.specs.declared.map.Map.{Map}
 use Rattle.lvl_grid.proofs.Composing.{composed, image-composed}
 use Rattle.lvl_names.specs.declared.layer.Layer.{Layer}
@@ -18,7 +20,6 @@ use Rattle.lvl_flat.specs.inside.Steps.{IsInto, IsOut}
 use Rattle.lvl_flat.specs.inside.Visits.{pending}
 use Rattle.lvl_flat.specs.inside.Walking.{IsWalking}
 use Rattle.lvl_flat.proofs.Advancing.{next_chain}
-use Rattle.lvl_flat.proofs.Walking.{in_last}
 
 -- a visit whose next pick is out of range
 pub out_by_shift : (s : Settled) (layers : List Layer) (scope : Scope) (sheets : List PlainSheet)
@@ -26,7 +27,7 @@ pub out_by_shift : (s : Settled) (layers : List Layer) (scope : Scope) (sheets :
     (i : ℕ) → IsWalking s layers scope sheets (front ++ v ∷ []) → (o : IsOut s.cells v i) → IsOutOfRange s o.next.name
 out_by_shift s layers scope sheets front v i w o =
     let m : Map = composed v.map (map_at o.pick.0 o.pick.1) in
-    let old = w.visits v (in_last front v) in
+    let old = w.visits v (Contains-push front v) in
     record {
       top = w.top;
       is_top = w.is_top;
@@ -46,9 +47,8 @@ pub out_by_vertex : (s : Settled) (layers : List Layer) (scope : Scope) (sheets 
     (i : ℕ) (m : Map) (rest : Visit) (name : List ℕ) → IsWalking s layers scope sheets (front ++ v ∷ [])
     → IsInto s.cells v i m rest → IsCellOut s.cells i m name → IsOutOfRange s name
 out_by_vertex s layers scope sheets front v i m rest name w into o =
-    let old = w.visits v (in_last front v) in
-    let both : Some o.cell ≡ Some into.next = sym o.there ∙ into.there in
-    let one : o.cell ≡ into.next = cc in
+    let old = w.visits v (Contains-push front v) in
+    let one : o.cell ≡ into.next = one_answer o.there into.there in
     let first : Contains (pending s.cells v) into.pick =
     subst (λ ps. Contains ps into.pick) (sym into.pending_is) (0, omega arith, refl) in
     record {
@@ -83,8 +83,7 @@ reports_entered cells i m c at out (OutOfRange name) reports =
 pub top_out : (s : Settled) (c : PlainCell Rings) (name : List ℕ) → slice_get s.cells s.top ≡ Some c
     → IsCellOut s.cells s.top unmoved name → IsOutOfRange s name
 top_out s c name at o =
-    let both : Some o.cell ≡ Some c = sym o.there ∙ at in
-    let one : o.cell ≡ c = cc in
+    let one : o.cell ≡ c = one_answer o.there at in
     record {
       top = c;
       is_top = at;

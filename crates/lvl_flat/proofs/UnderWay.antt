@@ -1,7 +1,10 @@
 -- The state of the walk is kept where a visit is taken off the stack, or goes on.
 use Rattle.std.proofs.Common.{◌≡◌, ◌<◌, ◌≤◌, ◌+◌, ◌-◌, ◌++◌, ℕ, zero, suc, List, [], ◌∷◌, sum_by, slice_get}
 use Rattle.std.proofs.Common.{Option, Some, Any, Contains, ◌↔◌, inl, inr, refl, sym, ap, subst, ◌∙◌, arith}
-use Rattle.std.proofs.lemmas.List.Elements.{Contains-push_cases}
+use Rattle.std.proofs.lemmas.List.Elements.{Contains-push_cases, Contains-push}
+use Rattle.std.proofs.lemmas.List.Sums.{sum_by_push}
+use Rattle.lvl_cells.proofs.Sequences.{one_answer}
+use Rattle.lvl_cells.proofs.Walks.{contains_front}
 use Rattle.lvl_grid.specs.declared.point.Square.{Square}
 use Rattle.lvl_grid.specs.declared.point.Window.{Window}
 use Rattle.lvl_grid.specs.declared.map.Map.{Map}
@@ -28,7 +31,7 @@ use Rattle.lvl_flat.specs.inside.Walking.{IsWalking}
 use Rattle.lvl_flat.proofs.Outside.{outside_covers, outside_fits}
 use Rattle.lvl_flat.proofs.Ranging.{fits_alike}
 use Rattle.lvl_flat.proofs.Stepping.{pending_alike}
-use Rattle.lvl_flat.proofs.Walking.{visit_into, in_front, in_last, sum_last}
+use Rattle.lvl_flat.proofs.Walking.{visit_into}
 
 -- a visit without picks to follow is taken off
 pub walk_done : (s : Settled) (layers : List Layer) (scope : Scope) (sheets : List PlainSheet)
@@ -64,14 +67,14 @@ walk_done s layers scope sheets front v w none = record {
             (subst (λ (x : Visit). Contains (pending s.cells x) p) (sym same) chosen) in
             let below : chosen'.0 < 0 = chosen'.1 in omega arith)
       ]);
-  visits = λ u there. w.visits u (in_front front v u there);
+  visits = λ u there. w.visits u (contains_front front v u there);
   sorted = w.sorted;
   layers_are = w.layers_are;
   within = w.within;
   counts = λ all listed layer.
       let f : Visit → ℕ = visit_weight (own_rings_on each_ring layer) s.cells in
       let nothing : f v ≡ 0 = ap (sum_by (pick_weight (own_rings_on each_ring layer) s.cells)) none in
-      omega (arith, w.counts all listed layer, sum_last f front v, nothing);
+      omega (arith, w.counts all listed layer, sum_by_push f front v, nothing);
 }
 
 -- a visit without picks to follow, below another one, is left out
@@ -112,7 +115,7 @@ below_left_out s layers scope sheets front v u w none = record {
       elim (Contains-push_cases (front ++ v ∷ []) u x has) [
         | inl there ↦
             elim (Contains-push_cases front v x there) [
-              | inl before ↦ each x (in_front front u x before)
+              | inl before ↦ each x (contains_front front u x before)
               | inr same ↦
                   λ p d m chosen named whole. absurd (let chosen' : Contains [] p =
                   subst (λ ps. Contains ps p) none
@@ -120,12 +123,12 @@ below_left_out s layers scope sheets front v u w none = record {
                   let below : chosen'.0 < 0 = chosen'.1 in omega arith)
             ]
         | inr same ↦
-            subst (λ (y : Visit). PicksFit s.cells y.map (pending s.cells y)) same (each u (in_last front u))
+            subst (λ (y : Visit). PicksFit s.cells y.map (pending s.cells y)) same (each u (Contains-push front u))
       ]);
   visits = λ x has.
       elim (Contains-push_cases front u x has) [
-        | inl there ↦ w.visits x (in_front (front ++ v ∷ []) u x (in_front front v x there))
-        | inr same ↦ subst (IsVisit s.cells w.top) same (w.visits u (in_last (front ++ v ∷ []) u))
+        | inl there ↦ w.visits x (contains_front (front ++ v ∷ []) u x (contains_front front v x there))
+        | inr same ↦ subst (IsVisit s.cells w.top) same (w.visits u (Contains-push (front ++ v ∷ []) u))
       ];
   sorted = w.sorted;
   layers_are = w.layers_are;
@@ -136,9 +139,9 @@ below_left_out s layers scope sheets front v u w none = record {
       omega (
         arith,
         w.counts all listed layer,
-        sum_last f front v,
-        sum_last f front u,
-        sum_last f (front ++ v ∷ []) u,
+        sum_by_push f front v,
+        sum_by_push f front u,
+        sum_by_push f (front ++ v ∷ []) u,
         nothing,
       );
 }
@@ -184,17 +187,17 @@ replaced s layers scope sheets front v rest w map_is cell_is alike fitting weigh
       w.fits whole
       (λ u has.
       elim (Contains-push_cases front v u has) [
-        | inl there ↦ each u (in_front front rest u there)
+        | inl there ↦ each u (contains_front front rest u there)
         | inr same ↦
             subst (λ (x : Visit). PicksFit s.cells x.map (pending s.cells x)) same
             (fitting (subst (λ (n : Map). PicksFit s.cells n (pending s.cells rest)) map_is
-            (each rest (in_last front rest))))
+            (each rest (Contains-push front rest))))
       ]);
   visits = λ u has.
       elim (Contains-push_cases front rest u has) [
-        | inl there ↦ w.visits u (in_front front v u there)
+        | inl there ↦ w.visits u (contains_front front v u there)
         | inr same ↦
-            let old = w.visits v (in_last front v) in
+            let old = w.visits v (Contains-push front v) in
             subst (IsVisit s.cells w.top) same
             (record {
               cell = old.cell;
@@ -209,7 +212,7 @@ replaced s layers scope sheets front v rest w map_is cell_is alike fitting weigh
   counts = λ all listed layer.
       let f : Visit → ℕ = visit_weight (own_rings_on each_ring layer) s.cells in
       let same : f v ≡ f rest = weigh all (own_rings_on each_ring layer) in
-      omega (arith, w.counts all listed layer, sum_last f front v, sum_last f front rest, same);
+      omega (arith, w.counts all listed layer, sum_by_push f front v, sum_by_push f front rest, same);
 }
 
 -- a visit is replaced by one with the same picks to follow
@@ -259,8 +262,7 @@ into_fits cells v i m rest into under rest_fits =
     let first : (b : PlainCell Rings) (x : Map) → cell_named cells into.pick.0.cell ≡ Some b
     → IsComposed v.map (map_at into.pick.0 into.pick.1) x → FitsUnder cells x b =
     λ b x named whole.
-    let two : Some into.next ≡ Some b = sym into.named ∙ named in
-    let same : into.next ≡ b = cc in
+    let same : into.next ≡ b = one_answer into.named named in
     subst (FitsUnder cells x) same (fits_alike cells m x into.next (λ p. whole p ∙ sym (into.placed p)) under) in
     subst (PicksFit cells v.map) (sym into.pending_is)
     (picks_fit_cons cells v.map into.pick (pending cells rest) first rest_fits)
