@@ -1,5 +1,5 @@
 -- The state of the walk is kept where a cell is drawn.
-use Rattle.std.proofs.Common.{◌≡◌, ◌+◌, ◌++◌, ℕ, zero, suc, List, [], ◌∷◌, length, map, sum_by, slice_get, Some}
+use Rattle.std.proofs.Common.{◌≡◌, ◌+◌, ◌++◌, ℕ, suc, List, [], ◌∷◌, length, map, sum_by, slice_get, Some}
 use Rattle.std.proofs.Common.{All, Any, Contains, ◌⊎◌, ◌↔◌, inl, inr, refl, sym, ap, subst, ◌∙◌, arith, rules}
 use Rattle.std.proofs.lemmas.Int.{ints, clamps}
 use Rattle.std.proofs.lemmas.List.Elements.{Contains-push_cases, Contains-push}
@@ -37,7 +37,7 @@ use Rattle.lvl_flat.proofs.Listing.{cell_listed}
 use Rattle.lvl_flat.proofs.Picks.{picks_from_start, picks_within}
 use Rattle.lvl_flat.proofs.Ranging.{chain_more, fits_under, image-unmoved}
 use Rattle.lvl_flat.proofs.Stepping.{pending_at}
-use Rattle.lvl_flat.proofs.UnderWay.{into_fits}
+use Rattle.lvl_flat.proofs.UnderWay.{into_fits, only}
 use Rattle.lvl_flat.proofs.Walking.{visit_begun, visit_into, weight_begun, weight_into}
 
 -- a ring at the shifts, placed by the map
@@ -136,6 +136,24 @@ next_chain cells top v m p d old has named whole =
     (subst (λ ps. Contains ps p) (pending_at cells v old.cell old.there) has) in
     chain_more cells top old.steps v.map m old.cell d p old.chain among named whole
 
+-- a visit of that cell
+pub next_visit : (cells : List (PlainCell Rings)) (top : PlainCell Rings) (v : Visit) (i : ℕ) (m : Map) (rest : Visit)
+    → IsVisit cells top v → IsInto cells v i m rest → IsVisit cells top (begun i m)
+next_visit cells top v i m rest old into =
+    let first : Contains (pending cells v) into.pick =
+    subst (λ ps. Contains ps into.pick) (sym into.pending_is) (0, omega arith, refl) in
+    record {
+      cell = into.next;
+      there = into.there;
+      steps = suc old.steps;
+      chain = next_chain cells top v m into.pick into.next old first into.named into.placed;
+    }
+
+-- a visit of the top
+pub top_visit : (s : Settled) (c : PlainCell Rings) → slice_get s.cells s.top ≡ Some c
+    → IsVisit s.cells c (begun s.top unmoved)
+top_visit s c at = record { cell = c; there = at; steps = 0; chain = (refl, refl) }
+
 -- a visited cell fits if its shapes, its shift and the picks of the visit do
 begun_fits : (cells : List (PlainCell Rings)) (i : ℕ) (m : Map) (c : PlainCell Rings) → slice_get cells i ≡ Some c
     → FitsPoint m.at → FitShapes m c.shapes → PicksFit cells m (pending cells (begun i m)) → FitsUnder cells m c
@@ -160,8 +178,6 @@ walk_into s layers scope sheets new front v i m rest linked ordered w into d =
     let child : Visit = begun i m in
     let lower : List Visit = front ++ rest ∷ [] in
     let old : IsVisit cells w.top v = w.visits v (Contains-push front v) in
-    let first : Contains (pending cells v) into.pick =
-    subst (λ ps. Contains ps into.pick) (sym into.pending_is) (0, omega arith, refl) in
     record {
       top = w.top;
       is_top = w.is_top;
@@ -235,13 +251,7 @@ walk_into s layers scope sheets new front v i m rest linked ordered w into d =
                       })
                 ]
             | inr same ↦
-                subst (IsVisit cells w.top) same
-                (record {
-                  cell = c;
-                  there = into.there;
-                  steps = suc old.steps;
-                  chain = next_chain cells w.top v m into.pick c old first into.named into.placed;
-                })
+                subst (IsVisit cells w.top) same (next_visit cells w.top v i m rest old into)
           ];
       sorted = sorted_alike new sheets drawn.layers w.sorted;
       layers_are = drawn.layers ∙ w.layers_are;
@@ -272,10 +282,6 @@ under_unmoved q P = (λ u. subst P (sym (square_stays u.0) ∙ u.1) u.2, λ p. (
 
 fits_unmoved : FitsPoint unmoved.at
 fits_unmoved = record { x_fits = search rules; y_fits = search rules }
-
-only : (v u : Visit) → Contains (v ∷ []) u → (P : Visit → Type 0) → P v → P u
-only v u (zero, below, same) P p = subst P same p
-only v u (suc k, below, same) P p = absurd (omega arith)
 
 -- the walk begins with the top drawn on empty sheets
 pub walk_begins : (s : Settled) (layers : List Layer) (scope : Scope) (c : PlainCell Rings)
@@ -316,9 +322,7 @@ walk_begins s layers scope c empty new linked ordered at sorted are none d =
           let under : FitsUnder cells unmoved c =
           begun_fits cells s.top unmoved c at fits_unmoved (drawn_fit unmoved scope c.shapes empty new drawn (have whole)) (each child (0, omega arith, refl)) in
           λ n m e chain. under n m e chain m (λ p. sym (image-unmoved (image m p)));
-      visits =
-          λ u has. only child u has (λ v. IsVisit cells c v)
-          (record { cell = c; there = at; steps = 0; chain = (refl, refl) });
+      visits = λ u has. only child u has (λ v. IsVisit cells c v) (top_visit s c at);
       sorted = sorted_alike new empty drawn.layers sorted;
       layers_are = drawn.layers ∙ are;
       within =
