@@ -1,8 +1,11 @@
 -- The state of the walk is kept where a cell is drawn.
-use Rattle.std.proofs.Common.{◌≡◌, ◌+◌, ◌++◌, ℕ, zero, suc, List, [], ◌∷◌, length, map, sum_by, slice_get, Some}
+use Rattle.std.proofs.Common.{◌≡◌, ◌+◌, ◌++◌, ℕ, suc, List, [], ◌∷◌, length, map, sum_by, slice_get, Some}
 use Rattle.std.proofs.Common.{All, Any, Contains, ◌⊎◌, ◌↔◌, inl, inr, refl, sym, ap, subst, ◌∙◌, arith, rules}
 use Rattle.std.proofs.lemmas.Int.{ints, clamps}
-use Rattle.std.proofs.lemmas.List.Elements.{Contains-push_cases}
+use Rattle.std.proofs.lemmas.List.Elements.{Contains-push_cases, Contains-push}
+use Rattle.std.proofs.lemmas.List.Sums.{sum_by_push}
+use Rattle.lvl_cells.proofs.Sequences.{one_answer}
+use Rattle.lvl_cells.proofs.Walks.{contains_front}
 use Rattle.lvl_grid.specs.declared.point.Point.{Point}
 use Rattle.lvl_grid.specs.declared.point.Square.{Square}
 use Rattle.lvl_grid.specs.declared.map.Map.{Map}
@@ -34,8 +37,8 @@ use Rattle.lvl_flat.proofs.Listing.{cell_listed}
 use Rattle.lvl_flat.proofs.Picks.{picks_from_start, picks_within}
 use Rattle.lvl_flat.proofs.Ranging.{chain_more, fits_under, image-unmoved}
 use Rattle.lvl_flat.proofs.Stepping.{pending_at}
-use Rattle.lvl_flat.proofs.UnderWay.{into_fits}
-use Rattle.lvl_flat.proofs.Walking.{visit_begun, visit_into, in_front, in_last, sum_last, weight_begun, weight_into}
+use Rattle.lvl_flat.proofs.UnderWay.{into_fits, only}
+use Rattle.lvl_flat.proofs.Walking.{visit_begun, visit_into, weight_begun, weight_into}
 
 -- a ring at the shifts, placed by the map
 ring_place : (m : Map) (q : Square) (shifts : List Point) (ring : List Point)
@@ -133,6 +136,24 @@ next_chain cells top v m p d old has named whole =
     (subst (λ ps. Contains ps p) (pending_at cells v old.cell old.there) has) in
     chain_more cells top old.steps v.map m old.cell d p old.chain among named whole
 
+-- a visit of that cell
+pub next_visit : (cells : List (PlainCell Rings)) (top : PlainCell Rings) (v : Visit) (i : ℕ) (m : Map) (rest : Visit)
+    → IsVisit cells top v → IsInto cells v i m rest → IsVisit cells top (begun i m)
+next_visit cells top v i m rest old into =
+    let first : Contains (pending cells v) into.pick =
+    subst (λ ps. Contains ps into.pick) (sym into.pending_is) (0, omega arith, refl) in
+    record {
+      cell = into.next;
+      there = into.there;
+      steps = suc old.steps;
+      chain = next_chain cells top v m into.pick into.next old first into.named into.placed;
+    }
+
+-- a visit of the top
+pub top_visit : (s : Settled) (c : PlainCell Rings) → slice_get s.cells s.top ≡ Some c
+    → IsVisit s.cells c (begun s.top unmoved)
+top_visit s c at = record { cell = c; there = at; steps = 0; chain = (refl, refl) }
+
 -- a visited cell fits if its shapes, its shift and the picks of the visit do
 begun_fits : (cells : List (PlainCell Rings)) (i : ℕ) (m : Map) (c : PlainCell Rings) → slice_get cells i ≡ Some c
     → FitsPoint m.at → FitShapes m c.shapes → PicksFit cells m (pending cells (begun i m)) → FitsUnder cells m c
@@ -149,17 +170,14 @@ pub walk_into : (s : Settled) (layers : List Layer) (scope : Scope) (sheets new 
 walk_into s layers scope sheets new front v i m rest linked ordered w into d =
     let cells : List (PlainCell Rings) = s.cells in
     let c : PlainCell Rings = into.next in
-    let both : Some d.cell ≡ Some c = sym d.there ∙ into.there in
-    let one : d.cell ≡ c = cc in
+    let one : d.cell ≡ c = one_answer d.there into.there in
     let drawn : AreDrawn m scope c.shapes sheets new =
     subst (λ (b : PlainCell Rings). AreDrawn m scope b.shapes sheets new) one d.drawn in
     let have : AllListed layers cells → HaveSheets sheets c.shapes =
     all_there cells layers sheets i c into.there w.layers_are in
     let child : Visit = begun i m in
     let lower : List Visit = front ++ rest ∷ [] in
-    let old : IsVisit cells w.top v = w.visits v (in_last front v) in
-    let first : Contains (pending cells v) into.pick =
-    subst (λ ps. Contains ps into.pick) (sym into.pending_is) (0, omega arith, refl) in
+    let old : IsVisit cells w.top v = w.visits v (Contains-push front v) in
     record {
       top = w.top;
       is_top = w.is_top;
@@ -205,14 +223,14 @@ walk_into s layers scope sheets new front v i m rest linked ordered w into d =
           );
       fits = λ whole each.
           let under : FitsUnder cells m c =
-          begun_fits cells i m c into.there into.in_range (drawn_fit m scope c.shapes sheets new drawn (have whole)) (each child (in_last lower child)) in
+          begun_fits cells i m c into.there into.in_range (drawn_fit m scope c.shapes sheets new drawn (have whole)) (each child (Contains-push lower child)) in
           let rest_fits : PicksFit cells v.map (pending cells rest) =
           subst (λ (n : Map). PicksFit cells n (pending cells rest)) into.map_is
-          (each rest (in_front lower child rest (in_last front rest))) in
+          (each rest (contains_front lower child rest (Contains-push front rest))) in
           w.fits whole
           (λ u has.
           elim (Contains-push_cases front v u has) [
-            | inl there ↦ each u (in_front lower child u (in_front front rest u there))
+            | inl there ↦ each u (contains_front lower child u (contains_front front rest u there))
             | inr same ↦
                 subst (λ (x : Visit). PicksFit cells x.map (pending cells x)) same
                 (into_fits cells v i m rest into under rest_fits)
@@ -221,7 +239,7 @@ walk_into s layers scope sheets new front v i m rest linked ordered w into d =
           elim (Contains-push_cases lower child u has) [
             | inl there ↦
                 elim (Contains-push_cases front rest u there) [
-                  | inl far ↦ w.visits u (in_front front v u far)
+                  | inl far ↦ w.visits u (contains_front front v u far)
                   | inr same ↦
                       subst (IsVisit cells w.top) same
                       (record {
@@ -233,13 +251,7 @@ walk_into s layers scope sheets new front v i m rest linked ordered w into d =
                       })
                 ]
             | inr same ↦
-                subst (IsVisit cells w.top) same
-                (record {
-                  cell = c;
-                  there = into.there;
-                  steps = suc old.steps;
-                  chain = next_chain cells w.top v m into.pick c old first into.named into.placed;
-                })
+                subst (IsVisit cells w.top) same (next_visit cells w.top v i m rest old into)
           ];
       sorted = sorted_alike new sheets drawn.layers w.sorted;
       layers_are = drawn.layers ∙ w.layers_are;
@@ -253,9 +265,9 @@ walk_into s layers scope sheets new front v i m rest linked ordered w into d =
             arith,
             w.counts all listed layer,
             long,
-            sum_last weight front v,
-            sum_last weight front rest,
-            sum_last weight lower (begun i m),
+            sum_by_push weight front v,
+            sum_by_push weight front rest,
+            sum_by_push weight lower (begun i m),
             weight_into own cells v i m rest into,
             weight_begun own cells s.order i m c linked ordered into.there,
           );
@@ -271,10 +283,6 @@ under_unmoved q P = (λ u. subst P (sym (square_stays u.0) ∙ u.1) u.2, λ p. (
 fits_unmoved : FitsPoint unmoved.at
 fits_unmoved = record { x_fits = search rules; y_fits = search rules }
 
-only : (v u : Visit) → Contains (v ∷ []) u → (P : Visit → Type 0) → P v → P u
-only v u (zero, below, same) P p = subst P same p
-only v u (suc k, below, same) P p = absurd (omega arith)
-
 -- the walk begins with the top drawn on empty sheets
 pub walk_begins : (s : Settled) (layers : List Layer) (scope : Scope) (c : PlainCell Rings)
     (empty new : List PlainSheet) → AreLinked s.cells → IsOrder s.cells s.order → slice_get s.cells s.top ≡ Some c
@@ -283,8 +291,7 @@ pub walk_begins : (s : Settled) (layers : List Layer) (scope : Scope) (c : Plain
 walk_begins s layers scope c empty new linked ordered at sorted are none d =
     let cells : List (PlainCell Rings) = s.cells in
     let child : Visit = begun s.top unmoved in
-    let both : Some d.cell ≡ Some c = sym d.there ∙ at in
-    let one : d.cell ≡ c = cc in
+    let one : d.cell ≡ c = one_answer d.there at in
     let drawn : AreDrawn unmoved scope c.shapes empty new =
     subst (λ (b : PlainCell Rings). AreDrawn unmoved scope b.shapes empty new) one d.drawn in
     let have : AllListed layers cells → HaveSheets empty c.shapes = all_there cells layers empty s.top c at are in
@@ -315,9 +322,7 @@ walk_begins s layers scope c empty new linked ordered at sorted are none d =
           let under : FitsUnder cells unmoved c =
           begun_fits cells s.top unmoved c at fits_unmoved (drawn_fit unmoved scope c.shapes empty new drawn (have whole)) (each child (0, omega arith, refl)) in
           λ n m e chain. under n m e chain m (λ p. sym (image-unmoved (image m p)));
-      visits =
-          λ u has. only child u has (λ v. IsVisit cells c v)
-          (record { cell = c; there = at; steps = 0; chain = (refl, refl) });
+      visits = λ u has. only child u has (λ v. IsVisit cells c v) (top_visit s c at);
       sorted = sorted_alike new empty drawn.layers sorted;
       layers_are = drawn.layers ∙ are;
       within =

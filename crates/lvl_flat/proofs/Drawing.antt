@@ -1,15 +1,15 @@
 -- Shapes drawn one after another, each on the sheet of its Layer.
 use Rattle.std.proofs.Common.{◌≡◌, ◌≢◌, ◌<◌, ◌+◌, ◌*◌, ℕ, zero, suc, cond, List, [], ◌∷◌, length, sum_by}
 use Rattle.std.proofs.Common.{get_or, set, take, map, slice_get, Some, All, Contains, refl, sym, ap, subst, ◌∙◌, arith}
-use Rattle.std.proofs.lemmas.List.{take_more, get_or-map, length-map}
+use Rattle.std.proofs.lemmas.List.{get_or-map, length-map}
 use Rattle.std.proofs.lemmas.List.Elements.{All-map, All-contains}
+use Rattle.std.proofs.lemmas.List.Sums.{sum_by_more}
 use Rattle.lvl_names.specs.declared.layer.Layer.{Layer}
 use Rattle.lvl_names.specs.Layers.{ComesBefore, same_layer}
 use Rattle.lvl_cells.specs.Cells.{PlainShape, Rings}
 use Rattle.lvl_flat.specs.inside.Drawn.{rings_of}
 use Rattle.lvl_flat.specs.Sheet.{PlainSheet}
 use Rattle.lvl_flat.specs.Sheets.{AreSorted}
-use Rattle.lvl_flat.proofs.Walking.{sum_last}
 
 abbrev pub layer_of : PlainSheet → Layer
 layer_of s = s.layer
@@ -56,5 +56,4 @@ pub rings_more : (layer : Layer) (shapes : List (PlainShape Rings)) (i : ℕ) (h
     ≡ rings_of layer (take i shapes) + cond (same_layer h.layer layer) (length h.figure * length h.shifts) 0
 rings_more layer shapes i h lt is =
     let f : PlainShape Rings → ℕ = λ g. cond (same_layer g.layer layer) (length g.figure * length g.shifts) 0 in
-    ap (sum_by f) (take_more shapes i h lt)
-    ∙ (sum_last f (take i shapes) (get_or shapes i h) ∙ ap (λ g. sum_by f (take i shapes) + f g) (sym is))
+    sum_by_more f shapes i h lt ∙ ap (λ g. sum_by f (take i shapes) + f g) (sym is)

@@ -10,7 +10,7 @@ use Rattle.lvl_grid.specs.Winding.{Covers, SomeCovers}
 use Rattle.lvl_grid.proofs.Anyone.{Any-nil}
 use Rattle.lvl_names.specs.declared.layer.Layer.{Layer}
 use Rattle.lvl_names.specs.Layers.{ComesBefore, same_layer}
-use Rattle.lvl_names.proofs.Layers.{before_itself, tested_layer}
+use Rattle.lvl_names.proofs.Layers.{tested_layer}
 use Rattle.lvl_cells.specs.Cells.{PlainCell, Rings}
 use Rattle.lvl_cells.specs.Chains.{unmoved}
 use Rattle.lvl_cells.specs.Checks.{Settled}
@@ -26,7 +26,7 @@ use Rattle.lvl_flat.specs.inside.Entering.{IsDrawn}
 use Rattle.lvl_flat.specs.inside.Scopes.{IsOfScope}
 use Rattle.lvl_flat.specs.inside.Visits.{VisitCovers, PicksFit, pending}
 use Rattle.lvl_flat.specs.inside.Walking.{AllListed, IsFlattenedIn, IsWalking}
-use Rattle.lvl_flat.proofs.Orders.{sorted_tail, rings_nowhere}
+use Rattle.lvl_flat.proofs.Orders.{comes_before_rest, others_after, sorted_tail, rings_nowhere}
 use Rattle.lvl_flat.proofs.Drawing.{layer_of, sorted_alike}
 use Rattle.lvl_flat.proofs.Listing.{cell_listed, cells_listed, own_listed}
 use Rattle.lvl_flat.proofs.Advancing.{shapes_place, under_unmoved}
@@ -45,10 +45,6 @@ sorted_cons t ss before sorted zero zero d lt in' = absurd (omega arith)
 sorted_cons t ss before sorted zero (suc j) d lt in' = before j d (omega arith)
 sorted_cons t ss before sorted (suc i) zero d lt in' = absurd (omega arith)
 sorted_cons t ss before sorted (suc i) (suc j) d lt in' = sorted i j d (omega arith) (omega arith)
-
-pub comes_before_rest : (t : PlainSheet) (ss : List PlainSheet) → AreSorted (t ∷ ss)
-    → All (λ s. ComesBefore t.layer s.layer) ss
-comes_before_rest t ss sorted = λ k d inside. sorted 0 (suc k) d (omega arith) (omega arith)
 
 sorted_filter : (p : PlainSheet → Bool) (ss : List PlainSheet) → AreSorted ss → AreSorted (filter p ss)
 sorted_filter p [] sorted = sorted
@@ -78,12 +74,7 @@ rings_on-filled (t ∷ ss) sorted layer =
           as (λ b. same_layer t.layer layer ≡ b → rings_on layer ss ≡ cond b t.rings (rings_on layer ss)) [
             | true ↦ λ f.
                 let here : t.layer ≡ layer = tested_layer t.layer layer (ap not f) in
-                let others : All (λ s. s.layer ≢ layer) ss =
-                All-weaker (λ s. ComesBefore t.layer s.layer) (λ s. s.layer ≢ layer)
-                (λ s before same. before_itself layer (subst (λ (x : Layer). ComesBefore x layer) here
-                (subst (λ (x : Layer). ComesBefore t.layer x) same before))) ss
-                (comes_before_rest t ss sorted) in
-                rings_nowhere ss layer others ∙ sym (none_there t.rings e)
+                rings_nowhere ss layer (others_after t ss layer sorted here) ∙ sym (none_there t.rings e)
             | false ↦ λ f. refl
           ] refl
     ] refl

@@ -2,6 +2,7 @@
 use Rattle.std.proofs.Common.{◌≡◌, ◌<◌, ◌≤◌, ◌++◌, ◌+◌, ◌-◌, ℕ, zero, suc, List, [], ◌∷◌, length, sum_by}
 use Rattle.std.proofs.Common.{refl, slice_get, Option, inl, inr, ap, subst, ◌∙◌, arith}
 use Rattle.std.specs.Option.{option_map_or}
+use Rattle.std.proofs.lemmas.List.Sums.{sum_by_push}
 use Rattle.lvl_grid.specs.declared.map.Map.{Map}
 use Rattle.lvl_grid.specs.declared.point.Window.{Window}
 use Rattle.lvl_cells.specs.Cells.{PlainCell, Rings}
@@ -15,13 +16,13 @@ use Rattle.lvl_flat.specs.inside.Steps.{IsInto}
 use Rattle.lvl_flat.specs.inside.Entering.{begun, IsPushed}
 use Rattle.lvl_flat.specs.inside.Passing.{at_place, IsMissedAt, IsPassedBy}
 use Rattle.lvl_flat.proofs.Stepping.{pending_alike, left_alike}
-use Rattle.lvl_flat.proofs.Walking.{weight_begun, weight_into, sum_last}
+use Rattle.lvl_flat.proofs.Walking.{weight_begun, weight_into}
 
 -- fewer steps are left after each
 pub less_done : (cells : List (PlainCell Rings)) (front : List Visit) (v : Visit)
     → work cells front < work cells (front ++ v ∷ [])
 less_done cells front v =
-    omega (arith, sum_last (visit_weight toil cells) front v, sum_last (λ u. 1 + references_left cells u) front v)
+    omega (arith, sum_by_push (visit_weight toil cells) front v, sum_by_push (λ u. 1 + references_left cells u) front v)
 
 -- no more are left if a visit isn't put on the stack
 pub less_left_out : (cells : List (PlainCell Rings)) (front pushed : List Visit) (v u : Visit)
@@ -38,12 +39,12 @@ less_left_out cells front pushed v u (inr none) =
     omega (
       arith,
       same,
-      sum_last weight front u,
-      sum_last weight front v,
-      sum_last weight (front ++ v ∷ []) u,
-      sum_last left front u,
-      sum_last left front v,
-      sum_last left (front ++ v ∷ []) u,
+      sum_by_push weight front u,
+      sum_by_push weight front v,
+      sum_by_push weight (front ++ v ∷ []) u,
+      sum_by_push left front u,
+      sum_by_push left front v,
+      sum_by_push left (front ++ v ∷ []) u,
     )
 
 pub less_into : (s : Settled) (front : List Visit) (v : Visit) (i : ℕ) (m : Map) (rest : Visit) → AreLinked s.cells
@@ -64,12 +65,12 @@ less_into s front v i m rest linked ordered into =
       all,
       weight_into toil cells v i m rest into,
       weight_begun toil cells s.order i m into.next linked ordered into.there,
-      sum_last (visit_weight toil cells) front v,
-      sum_last (visit_weight toil cells) front rest,
-      sum_last (visit_weight toil cells) (front ++ rest ∷ []) (begun i m),
-      sum_last left front v,
-      sum_last left front rest,
-      sum_last left (front ++ rest ∷ []) (begun i m),
+      sum_by_push (visit_weight toil cells) front v,
+      sum_by_push (visit_weight toil cells) front rest,
+      sum_by_push (visit_weight toil cells) (front ++ rest ∷ []) (begun i m),
+      sum_by_push left front v,
+      sum_by_push left front rest,
+      sum_by_push left (front ++ rest ∷ []) (begun i m),
     )
 
 -- a pick that is skipped
@@ -120,8 +121,8 @@ less_passed s known window front v u linked ordered passed =
       run,
       same,
       alike,
-      sum_last weight front v,
-      sum_last weight front start,
-      sum_last left front v,
-      sum_last left front start,
+      sum_by_push weight front v,
+      sum_by_push weight front start,
+      sum_by_push left front v,
+      sum_by_push left front start,
     )

@@ -1,25 +1,24 @@
 -- Rings moved to the targets of their Layers.
-use Rattle.std.proofs.Common.{◌≡◌, ◌≢◌, ◌↔◌, ◌++◌, Bool, true, false, cond, not, List, [], ◌∷◌, map, All, Contains, inl}
+use Rattle.std.proofs.Common.{◌≡◌, ◌↔◌, ◌++◌, Bool, true, false, cond, not, List, [], ◌∷◌, map, All, Contains, inl}
 use Rattle.std.proofs.Common.{inr, refl, sym, ap, subst, ◌∙◌, arith}
 use Rattle.std.proofs.lemmas.List.{append-nil, map-append}
 use Rattle.std.proofs.lemmas.List.Concat.{flat_map-append}
-use Rattle.std.proofs.lemmas.List.Elements.{All-contains, All-weaker, Contains-append_right}
+use Rattle.std.proofs.lemmas.List.Elements.{All-contains, Contains-append_right}
 use Rattle.lvl_grid.specs.declared.point.Point.{Point}
 use Rattle.lvl_grid.specs.declared.point.Square.{Square}
 use Rattle.lvl_grid.specs.Winding.{Covers, SomeCovers}
 use Rattle.lvl_grid.proofs.Anyone.{Any-nil, Any-left, Any-right, Any-sides}
 use Rattle.lvl_names.specs.declared.layer.Layer.{Layer}
 use Rattle.lvl_cells.specs.Cells.{Rings}
-use Rattle.lvl_names.specs.Layers.{ComesBefore, same_layer}
-use Rattle.lvl_names.proofs.Layers.{before_itself, same_is, tested_layer}
+use Rattle.lvl_names.specs.Layers.{same_layer}
+use Rattle.lvl_names.proofs.Layers.{same_is, tested_layer}
 use Rattle.lvl_view.specs.declared.map.LayerPair.{LayerPair}
 use Rattle.lvl_view.specs.Views.{target_of}
 use Rattle.lvl_flat.specs.Mapped.{mapped_on}
 use Rattle.lvl_view.specs.Moved.{IsMoved}
 use Rattle.lvl_flat.specs.Sheet.{PlainSheet}
 use Rattle.lvl_flat.specs.Sheets.{AreSorted, rings_on}
-use Rattle.lvl_flat.proofs.Orders.{sorted_tail, rings_nowhere}
-use Rattle.lvl_flat.proofs.Ending.{comes_before_rest}
+use Rattle.lvl_flat.proofs.Orders.{others_after, sorted_tail, rings_nowhere}
 
 -- the rings of the sheet if its Layer's target is this one, else none
 abbrev pub moved_on : List LayerPair → Layer → PlainSheet → Rings
@@ -43,11 +42,8 @@ covered_after t ts layer s sorted a =
     as (λ b. same_layer t.layer layer ≡ b → SomeCovers (cond b t.rings (rings_on layer ts)) s) [
       | true ↦ λ e.
           let here : t.layer ≡ layer = tested_layer t.layer layer (ap not e) in
-          let others : All (λ u. u.layer ≢ layer) ts =
-          All-weaker (λ u. ComesBefore t.layer u.layer) (λ u. u.layer ≢ layer)
-          (λ u before same. before_itself layer (subst (λ (x : Layer). ComesBefore x layer) here
-          (subst (λ (x : Layer). ComesBefore t.layer x) same before))) ts (comes_before_rest t ts sorted) in
-          absurd (none_cover s (subst (λ (rings : Rings). SomeCovers rings s) (rings_nowhere ts layer others) a))
+          let none : rings_on layer ts ≡ [] = rings_nowhere ts layer (others_after t ts layer sorted here) in
+          absurd (none_cover s (subst (λ (rings : Rings). SomeCovers rings s) none a))
       | false ↦ λ e. a
     ] refl
 

@@ -3,7 +3,7 @@ use Rattle.std.proofs.Common.{◌≡◌, ◌<◌, ◌≤◌, ℕ, List, length, 
 use Rattle.std.proofs.Common.{slice_get, All, ◌∙◌, ◌≢◌, [], ◌∷◌, zero, suc, cond}
 use Rattle.std.proofs.lemmas.Option.{slice_get_within, get_or_from_slice_get, slice_get-get_or}
 use Rattle.std.proofs.lemmas.Bool.{cases_lt}
-use Rattle.std.proofs.lemmas.List.Elements.{All-head, All-tail}
+use Rattle.std.proofs.lemmas.List.Elements.{All-head, All-tail, All-weaker}
 use Rattle.lvl_names.specs.declared.layer.Layer.{Layer}
 use Rattle.lvl_flat.specs.Sheet.{PlainSheet}
 use Rattle.lvl_flat.specs.Sheets.{AreSorted, rings_on}
@@ -68,6 +68,19 @@ nowhere sheets layer low sorted below above other k d in' same =
 
 pub sorted_tail : (s : PlainSheet) (sheets : List PlainSheet) → AreSorted (s ∷ sheets) → AreSorted sheets
 sorted_tail s sheets sorted = λ i j d lt in'. sorted (suc i) (suc j) d (omega (arith, lt)) (omega (arith, in'))
+
+-- a sheet comes before all after it, so these are for other Layers
+pub comes_before_rest : (t : PlainSheet) (ss : List PlainSheet) → AreSorted (t ∷ ss)
+    → All (λ s. ComesBefore t.layer s.layer) ss
+comes_before_rest t ss sorted = λ k d inside. sorted 0 (suc k) d (omega arith) (omega arith)
+
+pub others_after : (t : PlainSheet) (ss : List PlainSheet) (layer : Layer) → AreSorted (t ∷ ss) → t.layer ≡ layer
+    → All (λ s. s.layer ≢ layer) ss
+others_after t ss layer sorted here =
+    All-weaker (λ s. ComesBefore t.layer s.layer) (λ s. s.layer ≢ layer)
+    (λ s before same. before_itself layer (subst (λ (x : Layer). ComesBefore x layer) here
+    (subst (λ (x : Layer). ComesBefore t.layer x) same before))) ss
+    (comes_before_rest t ss sorted)
 
 -- the rings on a Layer that has a sheet, and on one that has none
 pub rings_where : (sheets : List PlainSheet) (layer : Layer) (i : ℕ) (s : PlainSheet) → AreSorted sheets

@@ -1,6 +1,7 @@
 -- Cells that are out of range, and what is reported of them.
-use Rattle.std.proofs.Common.{◌≡◌, ◌++◌, ℕ, suc, List, [], ◌∷◌, slice_get, Some, Contains, refl, sym, ap, subst, ◌∙◌}
-use Rattle.std.proofs.Common.{arith}
+use Rattle.std.proofs.Common.{◌≡◌, ◌++◌, ℕ, suc, List, [], ◌∷◌, slice_get, Some, refl, sym, ap, subst, ◌∙◌}
+use Rattle.std.proofs.lemmas.List.Elements.{Contains-push}
+use Rattle.lvl_cells.proofs.Sequences.{one_answer}
 use Rattle.lvl_grid.specs.declared.map.Map.{Map}
 use Rattle.lvl_grid.proofs.Composing.{composed, image-composed}
 use Rattle.lvl_names.specs.declared.layer.Layer.{Layer}
@@ -13,12 +14,11 @@ use Rattle.lvl_flat.specs.declared.scope.Scope.{Scope}
 use Rattle.lvl_flat.specs.declared.visit.Visit.{Visit}
 use Rattle.lvl_flat.specs.Flattened.{IsOutOfRange, IsFlatFault, FitShapes, ReportsName}
 use Rattle.lvl_flat.specs.Sheet.{PlainSheet}
-use Rattle.lvl_flat.specs.inside.Entering.{IsCellOut, IsEnterFault}
+use Rattle.lvl_flat.specs.inside.Entering.{begun, IsCellOut, IsEnterFault}
 use Rattle.lvl_flat.specs.inside.Steps.{IsInto, IsOut}
-use Rattle.lvl_flat.specs.inside.Visits.{pending}
+use Rattle.lvl_flat.specs.inside.Visits.{IsVisit}
 use Rattle.lvl_flat.specs.inside.Walking.{IsWalking}
-use Rattle.lvl_flat.proofs.Advancing.{next_chain}
-use Rattle.lvl_flat.proofs.Walking.{in_last}
+use Rattle.lvl_flat.proofs.Advancing.{next_chain, next_visit, top_visit}
 
 -- a visit whose next pick is out of range
 pub out_by_shift : (s : Settled) (layers : List Layer) (scope : Scope) (sheets : List PlainSheet)
@@ -26,7 +26,7 @@ pub out_by_shift : (s : Settled) (layers : List Layer) (scope : Scope) (sheets :
     (i : ℕ) → IsWalking s layers scope sheets (front ++ v ∷ []) → (o : IsOut s.cells v i) → IsOutOfRange s o.next.name
 out_by_shift s layers scope sheets front v i w o =
     let m : Map = composed v.map (map_at o.pick.0 o.pick.1) in
-    let old = w.visits v (in_last front v) in
+    let old = w.visits v (Contains-push front v) in
     record {
       top = w.top;
       is_top = w.is_top;
@@ -40,29 +40,34 @@ out_by_shift s layers scope sheets front v i w o =
       out = λ fits. o.out fits.shift;
     }
 
--- a cell whose placed vertices are out of range
-pub out_by_vertex : (s : Settled) (layers : List Layer) (scope : Scope) (sheets : List PlainSheet)
-    (front : List Visit) (v : Visit)
-    (i : ℕ) (m : Map) (rest : Visit) (name : List ℕ) → IsWalking s layers scope sheets (front ++ v ∷ [])
-    → IsInto s.cells v i m rest → IsCellOut s.cells i m name → IsOutOfRange s name
-out_by_vertex s layers scope sheets front v i m rest name w into o =
-    let old = w.visits v (in_last front v) in
-    let both : Some o.cell ≡ Some into.next = sym o.there ∙ into.there in
-    let one : o.cell ≡ into.next = cc in
-    let first : Contains (pending s.cells v) into.pick =
-    subst (λ ps. Contains ps into.pick) (sym into.pending_is) (0, omega arith, refl) in
+-- a visited cell whose placed vertices are out of range
+visited_out : (s : Settled) (top : PlainCell Rings) (v : Visit) (name : List ℕ) → slice_get s.cells s.top ≡ Some top
+    → IsVisit s.cells top v → IsCellOut s.cells v.cell v.map name → IsOutOfRange s name
+visited_out s top v name at visit o =
+    let one : o.cell ≡ visit.cell = one_answer o.there visit.there in
     record {
-      top = w.top;
-      is_top = w.is_top;
-      steps = suc old.steps;
-      map = m;
+      top = top;
+      is_top = at;
+      steps = visit.steps;
+      map = v.map;
       cell = o.cell;
-      chain =
-          subst (λ (c : PlainCell Rings). Chain s.cells w.top (suc old.steps) m c) (sym one)
-          (next_chain s.cells w.top v m into.pick into.next old first into.named into.placed);
+      chain = subst (λ (c : PlainCell Rings). Chain s.cells top visit.steps v.map c) (sym one) visit.chain;
       named = o.named;
       out = λ fits. o.out fits.vertices;
     }
+
+-- which the walk goes into, or begins with
+pub out_by_vertex : (s : Settled) (layers : List Layer) (scope : Scope) (sheets : List PlainSheet)
+    (front : List Visit) (v : Visit) (i : ℕ) (m : Map) (rest : Visit) (name : List ℕ)
+    → IsWalking s layers scope sheets (front ++ v ∷ []) → IsInto s.cells v i m rest → IsCellOut s.cells i m name
+    → IsOutOfRange s name
+out_by_vertex s layers scope sheets front v i m rest name w into =
+    visited_out s w.top (begun i m) name w.is_top
+    (next_visit s.cells w.top v i m rest (w.visits v (Contains-push front v)) into)
+
+pub top_out : (s : Settled) (c : PlainCell Rings) (name : List ℕ) → slice_get s.cells s.top ≡ Some c
+    → IsCellOut s.cells s.top unmoved name → IsOutOfRange s name
+top_out s c name at = visited_out s c (begun s.top unmoved) name at (top_visit s c at)
 
 -- the name of a cell that is out of range
 pub names_out : (s : Settled) (name : List ℕ) (fault : FlatFault) → ReportsName name fault → IsOutOfRange s name
@@ -78,23 +83,6 @@ pub reports_entered : (cells : List (PlainCell Rings)) (i : ℕ) (m : Map) (c : 
     → IsEnterFault cells i m fault
 reports_entered cells i m c at out (OutOfRange name) reports =
     record { cell = c; there = at; named = sym reports; out = out }
-
--- a top whose own vertices are out of range
-pub top_out : (s : Settled) (c : PlainCell Rings) (name : List ℕ) → slice_get s.cells s.top ≡ Some c
-    → IsCellOut s.cells s.top unmoved name → IsOutOfRange s name
-top_out s c name at o =
-    let both : Some o.cell ≡ Some c = sym o.there ∙ at in
-    let one : o.cell ≡ c = cc in
-    record {
-      top = c;
-      is_top = at;
-      steps = 0;
-      map = unmoved;
-      cell = o.cell;
-      chain = (refl, one);
-      named = o.named;
-      out = λ fits. o.out fits.vertices;
-    }
 
 -- a cell that is drawn alone, and whose vertices are out of range
 pub own_out : (c : PlainCell Rings) (fault : FlatFault) → IsEnterFault (c ∷ []) 0 unmoved fault

@@ -1,9 +1,8 @@
 -- Runs of shifts that are skipped at once.
 use Rattle.std.proofs.Common.{◌≡◌, ◌≤◌, ◌<◌, ◌+◌, ◌-◌, ◌*◌, ◌/◌, ◌%◌, ◌^◌, ℕ, suc, ℤ, pos, negsuc, ◌+ℤ◌, ◌*ℤ◌, ◌≤ℤ◌}
-use Rattle.std.proofs.Common.{List, length, get_or, slice_get, Option, Some, All, inl, inr, refl, sym, ap, subst, ◌∙◌}
+use Rattle.std.proofs.Common.{List, length, get_or, slice_get, Option, Some, All, refl, sym, ap, subst, ◌∙◌}
 use Rattle.std.proofs.Common.{arith}
 use Rattle.std.proofs.Math.Nat.{mul-le-mul_left, add-mul, div-eq_of_lt-le, div-lt_iff_lt-mul, div-mul-le_self, mod-lt}
-use Rattle.std.proofs.lemmas.Bool.{cases_lt}
 use Rattle.std.proofs.lemmas.Nat.{div-add-mod', le-div, mod-mul-add}
 use Rattle.std.proofs.lemmas.Int.{ints}
 use Rattle.std.proofs.lemmas.Option.{slice_get_within, slice_get-get_or, get_or_from_slice_get}
@@ -277,12 +276,6 @@ wider_ends shifts a b from row wider ends = record {
   first = λ e at. wider.holds e (ends.first e at);
   last = λ e at. wider.holds e (ends.last e at);
 }
-
--- a run after another
-pub missed_on : (shifts : List Point) (from end' to : ℕ) (inner : Bounds) (m : Map) (w : Window)
-    → AreMissed shifts from end' inner m w → AreMissed shifts end' to inner m w → AreMissed shifts from to inner m w
-missed_on shifts from end' to inner m w before after j e l below at =
-    elim (cases_lt j end') [ inl near ↦ before j e l near at | inr past ↦ after j e past below at ]
 
 -- all shifts miss if their box does
 pub all_missed : (shifts : List Point) (from to : ℕ) (inner by : Bounds) (m : Map) (w : Window)

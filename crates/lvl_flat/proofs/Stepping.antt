@@ -3,6 +3,7 @@ use Rattle.std.proofs.Common.{◌≡◌, ◌<◌, ◌≤◌, ◌+◌, ◌-◌, �
 use Rattle.std.proofs.Common.{Contains, refl, sym, ap, subst, ◌∙◌, arith}
 use Rattle.std.specs.Option.{option_map_or}
 use Rattle.std.proofs.lemmas.Option.{slice_get_within}
+use Rattle.lvl_cells.proofs.Sequences.{one_answer}
 use Rattle.lvl_grid.specs.declared.map.Map.{Map}
 use Rattle.lvl_grid.specs.Turn.{image, FitsPoint}
 use Rattle.lvl_cells.specs.Cells.{PlainCell, PlainReference, Rings, map_at, cell_named}
@@ -71,7 +72,6 @@ step_past cells v c r at there past =
 record Picked (cells : List (PlainCell Rings)) (v : Visit) (t : ℕ) (inner : Map) : Type 0 where
   pick : Pick
   next : PlainCell Rings
-  rest : List Pick
   pending_is : pending cells v
       ≡ pick ∷ pending cells (at_place v (v.place + 1))
   named : cell_named cells pick.0.cell ≡ Some next
@@ -83,15 +83,13 @@ picked : (cells : List (PlainCell Rings)) (v : Visit) (c : PlainCell Rings) (r :
     → IsPlacing r v.place inner → IsTargetOf cells v.cell v.reference t → Picked cells v t inner
 picked cells v c r t inner at there place target =
     let rest : Visit = at_place v (v.place + 1) in
-    let cells_are : Some target.cell ≡ Some c = sym target.cell_is ∙ at in
-    let cell : target.cell ≡ c = cc in
+    let cell : target.cell ≡ c = one_answer target.cell_is at in
     let references_are : Some target.reference ≡ Some r =
     sym target.reference_is ∙ (ap (λ (b : PlainCell Rings). slice_get b.references v.reference) cell ∙ there) in
     let reference : target.reference ≡ r = cc in
     record {
       pick = (r, place.shift);
       next = target.target;
-      rest = [];
       pending_is =
           pending_at cells v c at
           ∙ (pick_next c.references v.reference v.place r place.shift there place.there

@@ -1,12 +1,17 @@
 -- The state of the walk is kept where a visit is taken off the stack, or goes on.
 use Rattle.std.proofs.Common.{◌≡◌, ◌<◌, ◌≤◌, ◌+◌, ◌-◌, ◌++◌, ℕ, zero, suc, List, [], ◌∷◌, sum_by, slice_get}
-use Rattle.std.proofs.Common.{Option, Some, Any, Contains, ◌↔◌, inl, inr, refl, sym, ap, subst, ◌∙◌, arith}
-use Rattle.std.proofs.lemmas.List.Elements.{Contains-push_cases}
+use Rattle.std.proofs.Common.{Option, Some, Any, Contains, ◌↔◌, inl, inr, refl, sym, ap, append_assoc, subst, ◌∙◌, arith}
+use Rattle.std.proofs.lemmas.List.{append-nil}
+use Rattle.std.proofs.lemmas.List.Elements.{Contains-append_cases, Contains-append_left, Contains-append_right}
+use Rattle.std.proofs.lemmas.List.Elements.{Contains-push, Contains-push_cases}
+use Rattle.std.proofs.lemmas.List.Sums.{sum_by-append, sum_by-cons, sum_by_push}
+use Rattle.lvl_cells.proofs.Sequences.{one_answer}
+use Rattle.lvl_cells.proofs.Walks.{contains_front}
 use Rattle.lvl_grid.specs.declared.point.Square.{Square}
 use Rattle.lvl_grid.specs.declared.point.Window.{Window}
 use Rattle.lvl_grid.specs.declared.map.Map.{Map}
 use Rattle.lvl_grid.specs.Turn.{image_square}
-use Rattle.lvl_grid.proofs.Anyone.{Any-nil, Any-push}
+use Rattle.lvl_grid.proofs.Anyone.{Any-nil, Any-left, Any-right, Any-sides, Any-push, Any-tail, Any-uncons}
 use Rattle.lvl_names.specs.declared.layer.Layer.{Layer}
 use Rattle.lvl_cells.specs.Cells.{PlainCell, Rings, each_ring, map_at, cell_named}
 use Rattle.lvl_cells.specs.Chains.{Chain, IsComposed, own_rings_on}
@@ -28,105 +33,66 @@ use Rattle.lvl_flat.specs.inside.Walking.{IsWalking}
 use Rattle.lvl_flat.proofs.Outside.{outside_covers, outside_fits}
 use Rattle.lvl_flat.proofs.Ranging.{fits_alike}
 use Rattle.lvl_flat.proofs.Stepping.{pending_alike}
-use Rattle.lvl_flat.proofs.Walking.{visit_into, in_front, in_last, sum_last}
+use Rattle.lvl_flat.proofs.Walking.{visit_into}
 
--- a visit without picks to follow is taken off
-pub walk_done : (s : Settled) (layers : List Layer) (scope : Scope) (sheets : List PlainSheet)
-    (front : List Visit) (v : Visit)
-    → IsWalking s layers scope sheets (front ++ v ∷ []) → pending s.cells v ≡ [] → IsWalking s layers scope sheets front
-walk_done s layers scope sheets front v w none = record {
+pub only : (v u : Visit) → Contains (v ∷ []) u → (P : Visit → Type 0) → P v → P u
+only v u (zero, below, same) P p = subst P same p
+only v u (suc k, below, same) P p = absurd (omega arith)
+
+-- a visit without picks to follow is left out
+left_out : (s : Settled) (layers : List Layer) (scope : Scope) (sheets : List PlainSheet) (front back : List Visit)
+    (v : Visit) → IsWalking s layers scope sheets (front ++ v ∷ back) → pending s.cells v ≡ []
+    → IsWalking s layers scope sheets (front ++ back)
+left_out s layers scope sheets front back v w none = record {
   top = w.top;
   is_top = w.is_top;
   covers = λ layer q counts.
-      let both = w.covers layer q counts in
-      let last = Any-push (VisitCovers s.cells layer q) front v in (
+      let V : Visit → Type 0 = VisitCovers s.cells layer q in
+      let both = w.covers layer q counts in (
         λ h.
             elim (both.0 h) [
               | inl a ↦ inl a
               | inr b ↦
-                  elim (last.0 b) [
-                    | inl c ↦ inr c
-                    | inr u ↦
-                        absurd (Any-nil (PickCovers s.cells layer u.0)
-                        (subst (Any (PickCovers s.cells layer u.0)) none u.2))
-                  ]
-            ],
-        λ e. both.1 (elim e [ inl a ↦ inl a | inr b ↦ inr (last.1 (inl b)) ]),
-      );
-  fits = λ whole each.
-      w.fits whole
-      (λ u has.
-      elim (Contains-push_cases front v u has) [
-        | inl there ↦ each u there
-        | inr same ↦
-            λ p d m chosen named whole. absurd (let chosen' : Contains [] p =
-            subst (λ ps. Contains ps p) none
-            (subst (λ (x : Visit). Contains (pending s.cells x) p) (sym same) chosen) in
-            let below : chosen'.0 < 0 = chosen'.1 in omega arith)
-      ]);
-  visits = λ u there. w.visits u (in_front front v u there);
-  sorted = w.sorted;
-  layers_are = w.layers_are;
-  within = w.within;
-  counts = λ all listed layer.
-      let f : Visit → ℕ = visit_weight (own_rings_on each_ring layer) s.cells in
-      let nothing : f v ≡ 0 = ap (sum_by (pick_weight (own_rings_on each_ring layer) s.cells)) none in
-      omega (arith, w.counts all listed layer, sum_last f front v, nothing);
-}
-
--- a visit without picks to follow, below another one, is left out
-below_left_out : (s : Settled) (layers : List Layer) (scope : Scope) (sheets : List PlainSheet)
-    (front : List Visit) (v u : Visit) → IsWalking s layers scope sheets ((front ++ v ∷ []) ++ u ∷ [])
-    → pending s.cells v ≡ [] → IsWalking s layers scope sheets (front ++ u ∷ [])
-below_left_out s layers scope sheets front v u w none = record {
-  top = w.top;
-  is_top = w.is_top;
-  covers = λ layer q counts.
-      let both = w.covers layer q counts in
-      let old = Any-push (VisitCovers s.cells layer q) (front ++ v ∷ []) u in
-      let below = Any-push (VisitCovers s.cells layer q) front v in
-      let new = Any-push (VisitCovers s.cells layer q) front u in (
-        λ h.
-            elim (both.0 h) [
-              | inl a ↦ inl a
-              | inr b ↦
-                  elim (old.0 b) [
-                    | inl c ↦
-                        elim (below.0 c) [
-                          | inl d ↦ inr (new.1 (inl d))
-                          | inr x ↦
-                              absurd (Any-nil (PickCovers s.cells layer x.0)
-                              (subst (Any (PickCovers s.cells layer x.0)) none x.2))
+                  inr (elim (Any-sides V front (v ∷ back) b) [
+                    | inl c ↦ Any-left V front back c
+                    | inr d ↦
+                        elim (Any-uncons V v back d) [
+                          | inl u ↦
+                              absurd (Any-nil (PickCovers s.cells layer u.0)
+                              (subst (Any (PickCovers s.cells layer u.0)) none u.2))
+                          | inr e ↦ Any-right V front back e
                         ]
-                    | inr x ↦ inr (new.1 (inr x))
-                  ]
+                  ])
             ],
         λ e. both.1 (elim e [
           | inl a ↦ inl a
-          | inr b ↦ inr (old.1 (elim (new.0 b) [ inl c ↦ inl (below.1 (inl c)) | inr x ↦ inr x ]))
+          | inr b ↦
+              inr (elim (Any-sides V front back b) [
+                | inl c ↦ Any-left V front (v ∷ back) c
+                | inr d ↦ Any-right V front (v ∷ back) (Any-tail V v back d)
+              ])
         ]),
       );
   fits = λ whole each.
       w.fits whole
-      (λ x has.
-      elim (Contains-push_cases (front ++ v ∷ []) u x has) [
-        | inl there ↦
-            elim (Contains-push_cases front v x there) [
-              | inl before ↦ each x (in_front front u x before)
-              | inr same ↦
-                  λ p d m chosen named whole. absurd (let chosen' : Contains [] p =
-                  subst (λ ps. Contains ps p) none
-                  (subst (λ (y : Visit). Contains (pending s.cells y) p) (sym same) chosen) in
-                  let below : chosen'.0 < 0 = chosen'.1 in omega arith)
+      (λ u has.
+      elim (Contains-append_cases front (v ∷ back) u has) [
+        | inl there ↦ each u (Contains-append_left front back u there)
+        | inr later ↦
+            elim (Contains-append_cases (v ∷ []) back u later) [
+              | inl here ↦
+                  only v u here (λ x. PicksFit s.cells x.map (pending s.cells x))
+                  (λ p d m chosen named whole. absurd (let chosen' : Contains [] p =
+                  subst (λ ps. Contains ps p) none chosen in
+                  let below : chosen'.0 < 0 = chosen'.1 in omega arith))
+              | inr after ↦ each u (Contains-append_right front back u after)
             ]
-        | inr same ↦
-            subst (λ (y : Visit). PicksFit s.cells y.map (pending s.cells y)) same (each u (in_last front u))
       ]);
-  visits = λ x has.
-      elim (Contains-push_cases front u x has) [
-        | inl there ↦ w.visits x (in_front (front ++ v ∷ []) u x (in_front front v x there))
-        | inr same ↦ subst (IsVisit s.cells w.top) same (w.visits u (in_last (front ++ v ∷ []) u))
-      ];
+  visits = λ u has.
+      w.visits u (elim (Contains-append_cases front back u has) [
+        | inl there ↦ Contains-append_left front (v ∷ back) u there
+        | inr later ↦ Contains-append_right front (v ∷ back) u (Contains-append_right (v ∷ []) back u later)
+      ]);
   sorted = w.sorted;
   layers_are = w.layers_are;
   within = w.within;
@@ -136,14 +102,21 @@ below_left_out s layers scope sheets front v u w none = record {
       omega (
         arith,
         w.counts all listed layer,
-        sum_last f front v,
-        sum_last f front u,
-        sum_last f (front ++ v ∷ []) u,
+        sum_by-append f front (v ∷ back),
+        sum_by-append f front back,
+        sum_by-cons f v back,
         nothing,
       );
 }
 
--- as it is if it isn't put on the stack
+-- it is taken off
+pub walk_done : (s : Settled) (layers : List Layer) (scope : Scope) (sheets : List PlainSheet) (front : List Visit)
+    (v : Visit) → IsWalking s layers scope sheets (front ++ v ∷ []) → pending s.cells v ≡ []
+    → IsWalking s layers scope sheets front
+walk_done s layers scope sheets front v w none =
+    subst (IsWalking s layers scope sheets) (append-nil front) (left_out s layers scope sheets front [] v w none)
+
+-- or it isn't put on the stack, below another one
 pub walk_left_out : (s : Settled) (layers : List Layer) (scope : Scope) (sheets : List PlainSheet)
     (front pushed : List Visit) (v u : Visit) → IsWalking s layers scope sheets ((front ++ v ∷ []) ++ u ∷ [])
     → IsPushed s.cells front v pushed → IsWalking s layers scope sheets (pushed ++ u ∷ [])
@@ -151,7 +124,8 @@ walk_left_out s layers scope sheets front pushed v u w (inl is) =
     subst (λ vs. IsWalking s layers scope sheets (vs ++ u ∷ [])) (sym is) w
 walk_left_out s layers scope sheets front pushed v u w (inr none) =
     subst (λ vs. IsWalking s layers scope sheets (vs ++ u ∷ [])) (sym none.0)
-    (below_left_out s layers scope sheets front v u w none.1)
+    (left_out s layers scope sheets front (u ∷ []) v
+    (subst (IsWalking s layers scope sheets) (append_assoc front (v ∷ []) (u ∷ [])) w) none.1)
 
 -- a visit is replaced by one with the same picks to follow, except for some that need nothing more
 replaced : (s : Settled) (layers : List Layer) (scope : Scope) (sheets : List PlainSheet)
@@ -184,17 +158,17 @@ replaced s layers scope sheets front v rest w map_is cell_is alike fitting weigh
       w.fits whole
       (λ u has.
       elim (Contains-push_cases front v u has) [
-        | inl there ↦ each u (in_front front rest u there)
+        | inl there ↦ each u (contains_front front rest u there)
         | inr same ↦
             subst (λ (x : Visit). PicksFit s.cells x.map (pending s.cells x)) same
             (fitting (subst (λ (n : Map). PicksFit s.cells n (pending s.cells rest)) map_is
-            (each rest (in_last front rest))))
+            (each rest (Contains-push front rest))))
       ]);
   visits = λ u has.
       elim (Contains-push_cases front rest u has) [
-        | inl there ↦ w.visits u (in_front front v u there)
+        | inl there ↦ w.visits u (contains_front front v u there)
         | inr same ↦
-            let old = w.visits v (in_last front v) in
+            let old = w.visits v (Contains-push front v) in
             subst (IsVisit s.cells w.top) same
             (record {
               cell = old.cell;
@@ -209,7 +183,7 @@ replaced s layers scope sheets front v rest w map_is cell_is alike fitting weigh
   counts = λ all listed layer.
       let f : Visit → ℕ = visit_weight (own_rings_on each_ring layer) s.cells in
       let same : f v ≡ f rest = weigh all (own_rings_on each_ring layer) in
-      omega (arith, w.counts all listed layer, sum_last f front v, sum_last f front rest, same);
+      omega (arith, w.counts all listed layer, sum_by_push f front v, sum_by_push f front rest, same);
 }
 
 -- a visit is replaced by one with the same picks to follow
@@ -259,8 +233,7 @@ into_fits cells v i m rest into under rest_fits =
     let first : (b : PlainCell Rings) (x : Map) → cell_named cells into.pick.0.cell ≡ Some b
     → IsComposed v.map (map_at into.pick.0 into.pick.1) x → FitsUnder cells x b =
     λ b x named whole.
-    let two : Some into.next ≡ Some b = sym into.named ∙ named in
-    let same : into.next ≡ b = cc in
+    let same : into.next ≡ b = one_answer into.named named in
     subst (FitsUnder cells x) same (fits_alike cells m x into.next (λ p. whole p ∙ sym (into.placed p)) under) in
     subst (PicksFit cells v.map) (sym into.pending_is)
     (picks_fit_cons cells v.map into.pick (pending cells rest) first rest_fits)

@@ -1,10 +1,8 @@
 -- What a step of the walk keeps.
-use Rattle.std.proofs.Common.{◌≡◌, ◌++◌, ◌+◌, ℕ, List, [], ◌∷◌, length, sum_by, slice_get}
-use Rattle.std.proofs.Common.{Option, Some, Any, Contains, ◌⊎◌, ◌↔◌, inl, inr, sym, ap, subst, ◌∙◌}
-use Rattle.std.proofs.Common.{add-zero}
+use Rattle.std.proofs.Common.{◌≡◌, ◌+◌, ℕ, List, length, sum_by, slice_get}
+use Rattle.std.proofs.Common.{Option, Some, Any, ◌⊎◌, ◌↔◌, inl, inr, sym, ap, subst, ◌∙◌}
 use Rattle.std.specs.Option.{option_map_or}
-use Rattle.std.proofs.lemmas.List.Sums.{sum_by-cons, sum_by-append}
-use Rattle.std.proofs.lemmas.List.Elements.{Contains-append_left, Contains-push}
+use Rattle.std.proofs.lemmas.List.Sums.{sum_by-cons}
 use Rattle.lvl_grid.specs.declared.point.Square.{Square}
 use Rattle.lvl_grid.specs.declared.map.Map.{Map}
 use Rattle.lvl_grid.specs.Turn.{image_square}
@@ -44,9 +42,6 @@ weight_into w cells v i m rest into =
     ap (sum_by (pick_weight w cells)) into.pending_is
     ∙ (sum_by-cons (pick_weight w cells) into.pick (pending cells rest)
     ∙ ap (λ n. n + visit_weight w cells rest) (ap o into.named))
-
-pub sum_last : {X : Type 0} (f : X → ℕ) (xs : List X) (x : X) → sum_by f (xs ++ x ∷ []) ≡ sum_by f xs + f x
-sum_last f xs x = sum_by-append f xs (x ∷ []) ∙ ap (λ n. sum_by f xs + n) (sum_by-cons f x [] ∙ add-zero (f x))
 
 -- a visit that has followed no reference yet covers what its cell does through references
 pub visit_begun : (cells : List (PlainCell Rings)) (layer : Layer) (i : ℕ) (m : Map) (q : Square) (c : PlainCell Rings)
@@ -98,9 +93,3 @@ visit_into cells layer v i m rest q into =
             )
           ],
     )
-
-pub in_front : (front : List Visit) (v u : Visit) → Contains front u → Contains (front ++ v ∷ []) u
-in_front front v u h = Contains-append_left front (v ∷ []) u h
-
-pub in_last : (front : List Visit) (v : Visit) → Contains (front ++ v ∷ []) v
-in_last front v = Contains-push front v

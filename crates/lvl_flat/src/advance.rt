@@ -70,8 +70,8 @@ fn advance(
     }
 }
 
-/// The rings that the top places on the Layers of the sheets, which are empty: what of them is in
-/// the scope.
+/// The rings that the top places on the Layers of the sheets, which are empty. Within a window they
+/// are clipped to it.
 pub(crate) fn draw_all(
     room: Room,
     checked: &Checked,

@@ -38,8 +38,8 @@ fn draw_everywhere(
     Ok(())
 }
 
-/// Appends ring `j` of shape `i` at each of the shape's shifts, placed by the map: what of it is in
-/// the scope.
+/// Appends ring `j` of shape `i` at each of the shape's shifts, placed by the map and, within a
+/// window, clipped to it.
 fn draw_ring(
     room: &mut Room,
     rings: &mut Rings,
@@ -68,8 +68,8 @@ fn draw_ring(
     draw_places(room, rings, &ring, bounds, shifts, map, window)
 }
 
-/// Appends the rings of shape `i`, each at each of the shape's shifts, placed by the map: what of
-/// them is in the scope.
+/// Appends the rings of shape `i`, each at each of the shape's shifts, placed by the map and,
+/// within a window, clipped to it.
 fn draw_shape(
     room: &mut Room,
     rings: &mut Rings,
@@ -90,8 +90,8 @@ fn draw_shape(
     Ok(())
 }
 
-/// Appends the shapes of a cell, placed by the map, each to the sheet of its Layer: what of them is
-/// in the scope. A shape whose Layer has no sheet is skipped.
+/// Appends the shapes of a cell, placed by the map and, within a window, clipped to it, each to the
+/// sheet of its Layer. A shape whose Layer has no sheet is skipped.
 pub(crate) fn draw_shapes(
     room: &mut Room,
     sheets: &mut Vec<Sheet>,

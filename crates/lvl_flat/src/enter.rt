@@ -52,7 +52,8 @@ pub(crate) fn push_rest(
     push_visit(stack, rest)
 }
 
-/// Draws the shapes of the cell at this index, placed by the map: what of them is in the scope.
+/// Draws the shapes of the cell at this index, placed by the map and, within a window, clipped to
+/// it.
 pub(crate) fn draw_cell(
     room: &mut Room,
     cells: &[Cell],

@@ -31,7 +31,7 @@ pub(crate) fn bounds_of_ring(ring: &MovedRing<'_>) -> Bounds
     }
 }
 
-/// The same, point by point.
+/// The box of the points of a ring, which are looked at one by one.
 fn bounds_of_points(ring: &MovedRing<'_>) -> Bounds
     requires { IsRing ring.now }
     ensures { All (HoldsPoint result) ring.now }

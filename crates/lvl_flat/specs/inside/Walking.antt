@@ -47,7 +47,7 @@ pub record IsWalking (s : Settled) (layers : List Layer) (scope : Scope) (sheets
   pub sorted : AreSorted sheets
   pub layers_are : map (λ sheet. sheet.layer) sheets ≡ layers
 
--- the walk is over: everything is drawn, if every shape is on one of the Layers; or what is in the window
+-- the sheets of a walk that is over: those of everything, if every shape is on one of the Layers, or those of a window
 abbrev pub IsFlattenedIn : Settled → List Layer → Scope → List PlainSheet → Type 0
 IsFlattenedIn s layers Everything sheets = AllListed layers s.cells → IsFlattened s sheets
 IsFlattenedIn s layers (Within window) sheets = IsFlattenedWithin s layers window sheets

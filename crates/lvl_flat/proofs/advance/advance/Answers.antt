@@ -3,6 +3,7 @@ use Rattle.std.proofs.Common.{length, map, slice_get, Some, sym, ap, subst, â—Œâ
 use Rattle.std.proofs.Common.{arith, refl}
 use Rattle.std.proofs.lemmas.Option.{slice_get_within, slice_get_read}
 use Rattle.std.proofs.lemmas.Result.{err_from_is_err_and}
+use Rattle.std.proofs.lemmas.List.Elements.{Contains-push}
 use Rattle.lvl_cells.specs.Cells.{PlainCell, Rings}
 use Rattle.lvl_cells.specs.Checks.{Settled}
 use Rattle.lvl_grid.specs.declared.point.Window.{Window}
@@ -15,7 +16,6 @@ use Rattle.lvl_flat.specs.Flattened.{ReportsName}
 use Rattle.lvl_flat.specs.inside.Steps.{IsInto, IsOut}
 use Rattle.lvl_flat.specs.inside.Walking.{IsWalking, work}
 use Rattle.lvl_flat.proofs.Drawing.{layer_of}
-use Rattle.lvl_flat.proofs.Walking.{in_last}
 use Rattle.lvl_flat.proofs.Going.{less_into, less_left_out, less_missed, less_passed}
 use Rattle.lvl_flat.proofs.Advancing.{walk_into}
 use Rattle.lvl_flat.proofs.UnderWay.{walk_done, walk_left_out, walk_missed, walk_passed, walk_past}
@@ -26,13 +26,13 @@ use Rattle.lvl_flat.proofs.advance.advance.Goals as goal
 
 pub next_step-requires : goal.next_step-requires
 next_step-requires c =
-    let old = c.requires.walking.visits c.args.visit (in_last c.args.stack.now.items c.args.visit) in
+    let old = c.requires.walking.visits c.args.visit (Contains-push c.args.stack.now.items c.args.visit) in
     slice_get_within c.args.checked.now.cells c.args.visit.cell old.cell old.there
 
 pub push_rest-requires : goal.push_rest-requires
 push_rest-requires c =
     let s : Settled = c.args.checked.now in
-    let old = c.requires.walking.visits c.args.visit (in_last c.args.stack.now.items c.args.visit) in
+    let old = c.requires.walking.visits c.args.visit (Contains-push c.args.stack.now.items c.args.visit) in
     let into : IsInto s.cells c.args.visit c.in-Into.index c.in-Into.map c.in-Into.rest = c.in-Into.ensures in
     omega (arith, slice_get_within s.cells c.args.visit.cell old.cell old.there, into.cell_is)
 
@@ -78,7 +78,7 @@ returns-in_ok-push_visit-in-Past-clause-walking c =
 pub pass_by-further-requires-clause-cell : goal.pass_by-further-requires-clause-cell
 pass_by-further-requires-clause-cell c =
     let s : Settled = c.args.checked.now in
-    let old = c.requires.walking.visits c.args.visit (in_last c.args.stack.now.items c.args.visit) in
+    let old = c.requires.walking.visits c.args.visit (Contains-push c.args.stack.now.items c.args.visit) in
     let into : IsInto s.cells c.args.visit c.in-Into.index c.in-Into.map c.in-Into.rest = c.in-Into.ensures in
     omega (arith, slice_get_within s.cells c.args.visit.cell old.cell old.there, into.cell_is)
 

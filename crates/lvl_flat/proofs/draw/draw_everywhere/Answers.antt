@@ -7,11 +7,8 @@ use Rattle.lvl_flat.specs.declared.scope.Scope.TheVariants.{Everything}
 use Rattle.lvl_flat.specs.inside.Drawn.{IsRingDrawn}
 use Rattle.lvl_flat.specs.inside.Scopes.{IsInScope}
 use Rattle.lvl_flat.proofs.Cutting.{whole_adds}
-use Rattle.lvl_flat.proofs.Skipping.{drawn_none, drawn_more}
+use Rattle.lvl_flat.proofs.Skipping.{drawn_more}
 use Rattle.lvl_flat.proofs.draw.draw_everywhere.Goals as goal
-
-pub loop-k-init : goal.loop-k-init
-loop-k-init c = drawn_none c.args.map.now Everything c.args.ring.now c.args.rings.now
 
 pub loop-k-preserved : goal.loop-k-preserved
 loop-k-preserved c =

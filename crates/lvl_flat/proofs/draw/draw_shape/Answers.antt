@@ -1,5 +1,5 @@
 use Rattle.std.proofs.Common.{◌≡◌, ◌<◌, ◌+◌, ◌*◌, [], ℕ, List, Some, length, get_or, slice_get, take, subst, arith}
-use Rattle.std.proofs.Common.{inl, inr, ap, sym, ◌∙◌}
+use Rattle.std.proofs.Common.{ap, sym, ◌∙◌}
 use Rattle.std.proofs.Math.Nat.{add-mul}
 use Rattle.std.proofs.lemmas.List.{length-take-le, take_all}
 use Rattle.std.proofs.lemmas.List.Elements.{All-more}
@@ -7,27 +7,12 @@ use Rattle.std.proofs.lemmas.Option.{slice_get-get_or}
 use Rattle.lvl_grid.specs.declared.map.Map.{Map}
 use Rattle.lvl_grid.specs.declared.point.Point.{Point}
 use Rattle.lvl_grid.specs.Winding.{SomeCovers}
-use Rattle.lvl_grid.proofs.Anyone.{Any-nil}
 use Rattle.lvl_cells.specs.Cells.{Rings, shape_at}
 use Rattle.lvl_flat.specs.declared.scope.Scope.{Scope}
 use Rattle.lvl_flat.specs.inside.Drawn.{FitsAtEach, IsFigureDrawn, RingPlacesCover}
 use Rattle.lvl_flat.specs.inside.Scopes.{IsInScope}
 use Rattle.lvl_flat.proofs.Cutting.{covers_more}
 use Rattle.lvl_flat.proofs.draw.draw_shape.Goals as goal
-
-pub loop-j-init : goal.loop-j-init
-loop-j-init c = record {
-  covers = λ q. (
-    λ h. inl h,
-    λ d. elim d [
-      | inl h ↦ h
-      | inr n ↦
-          absurd (Any-nil (RingPlacesCover c.args.map.now (shape_at c.args.shapes.now c.args.i).shifts q) n.1)
-    ],
-  );
-  fits = λ j e lj. absurd (omega (arith, lj));
-  count = λ all. omega arith;
-}
 
 pub loop-j-preserved : goal.loop-j-preserved
 loop-j-preserved c =

@@ -1,12 +1,11 @@
 use Rattle.std.proofs.Common.{◌≡◌, ◌≢◌, ◌<◌, ◌↔◌, ◌⊎◌, ◌*◌, List, All, Contains, map, length, get_or, sym, ap, subst, ◌∙◌}
-use Rattle.std.proofs.Common.{arith, cond, inl, inr, refl, Global, Vec, take, ◌+◌}
+use Rattle.std.proofs.Common.{arith, cond, Global, Vec, take, ◌+◌}
 use Rattle.std.proofs.Common.{slice_get, set, Some, ℕ, ◌++◌, ◌∷◌, []}
 use Rattle.std.proofs.lemmas.List.{get_or_default, take_all, take_more}
 use Rattle.std.proofs.lemmas.List.Elements.{All-more, All-pop}
 use Rattle.std.proofs.lemmas.Option.{slice_get_within, slice_get-get_or, get_or_from_slice_get}
 use Rattle.lvl_grid.specs.declared.map.Map.{Map}
 use Rattle.lvl_grid.specs.Winding.{SomeCovers}
-use Rattle.lvl_grid.proofs.Anyone.{Any-nil}
 use Rattle.lvl_names.specs.declared.layer.Layer.{Layer}
 use Rattle.lvl_names.specs.Layers.{same_layer}
 use Rattle.lvl_cells.specs.Cells.{PlainShape, Rings, shape_at}
@@ -41,21 +40,6 @@ index_mut-sheet-requires c =
     slice_get_within c.deref.result.now c.in-Some.place c.in-Some.ensures.found.sheet
     c.in-Some.ensures.found.there in
     omega (arith, inside, c.deref.ensures.len)
-
-pub loop-i-init : goal.loop-i-init
-loop-i-init c = record {
-  covers = λ l q. (
-    λ h. inl h,
-    λ d. elim d [
-      | inl h ↦ h
-      | inr n ↦
-          absurd (Any-nil (λ (g : PlainShape Rings). (g.layer ≡ l) × ShapePlacesCover c.args.map.now q g) n.1)
-    ],
-  );
-  fits = λ j g lj. absurd (omega (arith, lj));
-  count = λ all have l. omega arith;
-  layers = refl;
-}
 
 pub loop-i-preserved : goal.loop-i-preserved
 loop-i-preserved c =

@@ -24,9 +24,6 @@ returns-then-misses_moved-clause-drawn c =
     0 (length shifts) (drawn_none c.args.map.now (Within c.args.window.now) c.args.ring.now c.args.rings.now)
     c.requires.bounds (omega arith) (omega arith) missed)
 
-pub loop-shift-init : goal.loop-shift-init
-loop-shift-init c = drawn_none c.args.map.now (Within c.args.window.now) c.args.ring.now c.args.rings.now
-
 pub returns-in_err-drawn-clause-out : goal.returns-in_err-drawn-clause-out
 returns-in_err-drawn-clause-out c = λ out fits.
     let seen : slice_get c.args.shifts.now c.loop-shift.k ≡ Some c.in-Some.shift = sym c.at.ensures ∙ c.in-Some.is in
