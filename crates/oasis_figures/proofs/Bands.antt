@@ -2,7 +2,7 @@
 use Rattle.std.proofs.Common.{◌≡◌, ◌∙◌, ℕ, Bool, true, false, List, [], ◌∷◌, Option, Some, None, refl, sym, ap, subst}
 use Rattle.std.proofs.Common.{arith, map, ℤ, pos, negsuc}
 use Rattle.std.proofs.lemmas.Bool.{or_right}
-use Rattle.std.specs.Prelude.{◌<◌, ◌||◌, All, option_map}
+use Rattle.std.specs.Prelude.{◌<◌, ◌||◌, All, option_map, unwrap_or}
 use Rattle.std.specs.Option.{option_or}
 use Rattle.std.specs.declared.alloc.Global.{Global}
 use Rattle.std.specs.declared.vec.Vec.{Vec}
@@ -18,7 +18,7 @@ use Rattle.oasis_records.specs.declared.record.Record.{Record}
 use Rattle.oasis_figures.specs.Figures.{number, reach, path_points, half_of, start_of, end_of, layer_of, shifts_of}
 use Rattle.oasis_figures.specs.Figures.{IsDrawn}
 use Rattle.oasis_figures.specs.Keeping.{StandsFor}
-use Rattle.oasis_figures.specs.Modal.{value_or, modal, path_set, start_set, end_set, geometry}
+use Rattle.oasis_figures.specs.Modal.{modal, path_set, start_set, end_set, geometry}
 use Rattle.oasis_figures.specs.Rules.{Breaks, Breaches, BreachesNone, is_negative, order}
 use Rattle.oasis_figures.specs.declared.drawn.Drawn.TheVariants.{Rings}
 use Rattle.oasis_figures.specs.declared.extension.Extent.{Extent}
@@ -48,7 +48,7 @@ pub read_after : (m : Modal) (p : Path) (v : Resolved) (list : Option (Vec Point
     (points vertices : List Point)
     → ((earlier : List Record) → StandsFor m earlier → IsResolved earlier p v)
     → option_map (λ l. l.items) list ≡ p.points
-    → points ≡ value_or (option_or (option_map (λ l. l.items) list) (option_map (λ l. l.items) m.path)) []
+    → points ≡ unwrap_or (option_or (option_map (λ l. l.items) list) (option_map (λ l. l.items) m.path)) []
     → vertices ≡ map (shifted v.at) points → IsReadAfter m p v vertices
 read_after m p v list points vertices known f g w = λ earlier s. record {
   values = known earlier s;

@@ -1,6 +1,6 @@
 -- What records draw and set, by the values that are known.
 use Rattle.std.proofs.Common.{◌≡◌, ◌∙◌, ℕ, List, [], ◌∷◌, Option, Some, None, refl, sym, ap, map}
-use Rattle.std.specs.Prelude.{option_map}
+use Rattle.std.specs.Prelude.{option_map, unwrap_or}
 use Rattle.std.specs.Option.{option_or}
 use Rattle.std.specs.declared.alloc.Global.{Global}
 use Rattle.std.specs.declared.vec.Vec.{Vec}
@@ -11,7 +11,7 @@ use Rattle.lvl_grid.specs.declared.point.Point.{Point}
 use Rattle.oasis_values.specs.declared.repetition.Repetition.{Repetition}
 use Rattle.oasis_records.specs.declared.record.Record.{Record}
 use Rattle.oasis_figures.specs.Figures.{number, layer_by, layer_of}
-use Rattle.oasis_figures.specs.Modal.{value_or, modal, listed, layer_set, datatype_set}
+use Rattle.oasis_figures.specs.Modal.{modal, listed, layer_set, datatype_set}
 
 abbrev points_of : Option (Vec Point Global) → Option (List Point)
 points_of list = option_map (λ l. l.items) list
@@ -20,11 +20,11 @@ points_of list = option_map (λ l. l.items) list
 pub vertices_at : (place at : Point) (given : Option (List Point)) (list before : Option (Vec Point Global))
     (set : Option (List Point))
     (points : List Point) → place ≡ at → points_of list ≡ given → points_of before ≡ set
-    → points ≡ value_or (option_or (points_of list) (points_of before)) []
-    → map (shifted at) points ≡ map (shifted place) (value_or (option_or given set) [])
+    → points ≡ unwrap_or (option_or (points_of list) (points_of before)) []
+    → map (shifted at) points ≡ map (shifted place) (unwrap_or (option_or given set) [])
 vertices_at place at given list before set points e f g h =
-    let by_list = ap (λ (o : Option (List Point)). value_or (option_or o (points_of before)) []) f in
-    let by_set = ap (λ (o : Option (List Point)). value_or (option_or given o) []) g in
+    let by_list = ap (λ (o : Option (List Point)). unwrap_or (option_or o (points_of before)) []) f in
+    let by_set = ap (λ (o : Option (List Point)). unwrap_or (option_or given o) []) g in
     ap (λ (p : Point). map (shifted p) points) (sym e) ∙ ap (map (shifted place)) (h ∙ by_list ∙ by_set)
 
 -- the layer and the datatype that records give make the Layer of what they draw

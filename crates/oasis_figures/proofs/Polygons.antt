@@ -1,6 +1,6 @@
 -- Polygons: their rings, and the rules that they breach.
 use Rattle.std.proofs.Common.{◌≡◌, ◌∙◌, List, [], ◌∷◌, Option, Some, refl, sym, ap, subst, arith, map}
-use Rattle.std.specs.Prelude.{◌<◌, All, option_map}
+use Rattle.std.specs.Prelude.{◌<◌, All, option_map, unwrap_or}
 use Rattle.std.specs.Option.{option_or}
 use Rattle.std.specs.declared.alloc.Global.{Global}
 use Rattle.std.specs.declared.vec.Vec.{Vec}
@@ -14,7 +14,7 @@ use Rattle.oasis_records.specs.declared.polygon.Polygon.{Polygon}
 use Rattle.oasis_records.specs.declared.record.Record.{Record}
 use Rattle.oasis_figures.specs.Figures.{polygon_ring, layer_of, shifts_of, IsDrawn}
 use Rattle.oasis_figures.specs.Keeping.{StandsFor}
-use Rattle.oasis_figures.specs.Modal.{value_or, modal, polygon_set, geometry}
+use Rattle.oasis_figures.specs.Modal.{modal, polygon_set, geometry}
 use Rattle.oasis_figures.specs.Rules.{Breaks, Breaches, BreachesNone, order}
 use Rattle.oasis_figures.specs.declared.drawn.Drawn.TheVariants.{Ring}
 use Rattle.oasis_figures.specs.declared.modal.Modal.{Modal}
@@ -40,7 +40,7 @@ pub read_after : (m : Modal) (p : Polygon) (v : Resolved) (list : Option (Vec Po
     (points vertices : List Point)
     → ((earlier : List Record) → StandsFor m earlier → IsResolved earlier p v)
     → option_map (λ l. l.items) list ≡ p.points
-    → points ≡ value_or (option_or (option_map (λ l. l.items) list) (option_map (λ l. l.items) m.polygon)) []
+    → points ≡ unwrap_or (option_or (option_map (λ l. l.items) list) (option_map (λ l. l.items) m.polygon)) []
     → vertices ≡ map (shifted v.at) points → IsReadAfter m p v vertices
 read_after m p v list points vertices known f g w = λ earlier s.
     let place = geometry (a_polygon p ∷ earlier) in

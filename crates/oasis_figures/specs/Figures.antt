@@ -1,7 +1,7 @@
 -- What a record of a cell draws (SEMI P39 OASIS 1.0, the section of each record). `earlier` are the records of the cell
 -- before it, the latest first.
 use Rattle.std.specs.Prelude.{◌≡◌, ℕ, ◌*◌, ◌==◌, not, ℤ, pos, Bool, false, if◌then◌else◌, List, [], ◌∷◌, map, Option}
-use Rattle.std.specs.Prelude.{Some, None, All}
+use Rattle.std.specs.Prelude.{Some, None, All, unwrap_or}
 use Rattle.lvl_grid.specs.declared.point.Point.{Point}
 use Rattle.lvl_grid.specs.Turn.{FitsPoint, shifted}
 use Rattle.lvl_grid.specs.Winding.{rectangle_between}
@@ -21,7 +21,7 @@ use Rattle.oasis_records.specs.declared.cell.CellRef.TheVariants.{Number}
 use Rattle.oasis_records.specs.declared.placement.Transform.{Transform}
 use Rattle.oasis_records.specs.declared.placement.Transform.TheVariants.{Turned, Scaled}
 use Rattle.oasis_records.specs.declared.record.Record.TheVariants.{Placement, Rectangle, Polygon, Path}
-use Rattle.oasis_figures.specs.Modal.{value_or, modal, layer_set, datatype_set, width_set, height_set, repetition_set}
+use Rattle.oasis_figures.specs.Modal.{modal, layer_set, datatype_set, width_set, height_set, repetition_set}
 use Rattle.oasis_figures.specs.Modal.{repetition_of, geometry}
 use Rattle.oasis_figures.specs.Modal.{cell_set, polygon_set, half_width_set, path_set, start_set, end_set, placement}
 use Rattle.oasis_figures.specs.declared.drawn.Drawn.{Drawn}
@@ -29,7 +29,7 @@ use Rattle.oasis_figures.specs.declared.drawn.Drawn.TheVariants.{Ring, Rings, Pl
 
 -- the value of a variable; 0 if it is undefined
 abbrev pub number : Option ℕ → ℕ
-number n = value_or n 0
+number n = unwrap_or n 0
 
 -- a Layer
 abbrev pub layer_by : ℕ → ℕ → Layer
@@ -47,7 +47,7 @@ rectangle_ring records =
 
 -- the points of a list, moved so that the first is at the position of the latest figure
 abbrev pub vertices : List Record → Option (List Point) → List Point
-vertices records points = map (shifted (geometry records)) (value_or points [])
+vertices records points = map (shifted (geometry records)) (unwrap_or points [])
 
 -- the ring of the latest polygon
 abbrev pub polygon_ring : List Record → List Point
@@ -82,7 +82,7 @@ path_figure records =
 -- the shifts of a record: those of its repetition, or only the zero shift
 abbrev pub shifts_by : Option Repetition → Option (List Point) → List Point
 shifts_by None shifts = one_place
-shifts_by (Some r) shifts = value_or shifts one_place
+shifts_by (Some r) shifts = unwrap_or shifts one_place
 
 -- the shifts of the record r
 abbrev pub shifts_of : List Record → Record → List Point
@@ -129,7 +129,7 @@ is_magnified (Scaled (Some m) a) = not (is_number 1 m)
 
 -- the cell of the latest placement that names one
 abbrev pub cell_of : List Record → CellRef
-cell_of records = value_or (modal cell_set records) (Number 0)
+cell_of records = unwrap_or (modal cell_set records) (Number 0)
 
 -- a placement of a cell that is given by its number or its name
 pub record Placed : Type 0 where
@@ -145,7 +145,7 @@ placements_of earlier (Placement p) =
     record {
       cell = cell_of (Placement p ∷ earlier);
       flip = p.flip;
-      turn = value_or (turn_of p.transform) R0;
+      turn = unwrap_or (turn_of p.transform) R0;
       at = placement (Placement p ∷ earlier);
       shifts = shifts_of earlier (Placement p);
     }

@@ -1,7 +1,7 @@
 -- Modal variables (SEMI P39 OASIS 1.0, "Modal variables"). Lists of records are the records of a cell after its CELL,
 -- the latest first.
 use Rattle.std.specs.Prelude.{ℕ, ℤ, pos, ◌+ℤ◌, Bool, true, false, if◌then◌else◌, List, [], ◌∷◌, Option, Some, None}
-use Rattle.std.specs.Prelude.{option_map}
+use Rattle.std.specs.Prelude.{option_map, unwrap_or}
 use Rattle.std.specs.Option.{option_or, option_and_then}
 use Rattle.lvl_grid.specs.declared.point.Point.{Point}
 use Rattle.oasis_values.specs.declared.repetition.Repetition.{Repetition}
@@ -12,11 +12,6 @@ use Rattle.oasis_records.specs.declared.path.Extension.TheVariants.{Modal as AsB
 use Rattle.oasis_records.specs.declared.record.Record.{Record}
 use Rattle.oasis_records.specs.declared.record.Record.TheVariants.{Placement, Rectangle, Polygon, Path}
 use Rattle.oasis_records.specs.declared.record.Record.TheVariants.{Text, XyAbsolute, XyRelative}
-
--- the value; `other` if there is none
-abbrev pub value_or : {A : Type 0} → Option A → A → A
-value_or None other = other
-value_or (Some x) other = x
 
 -- the value of a variable: that of the latest record which set it, or None. `f earlier r` is what the record r sets it
 -- to after the records `earlier`; a field that is in a record sets its variable
@@ -112,7 +107,7 @@ mode_set earlier r = None
 
 -- whether the mode is relative; it is absolute at the beginning of a cell
 abbrev pub is_relative : List Record → Bool
-is_relative records = value_or (modal mode_set records) false
+is_relative records = unwrap_or (modal mode_set records) false
 
 -- the coordinate after a record: if the record has one, it replaces the one before in absolute mode, and is added to it
 -- in relative mode

@@ -152,5 +152,6 @@ pub record Breaches (earlier : List Record) (r : Record) (rule : FigureRule) : T
   pub broken : Breaks earlier r rule
   pub first : (other : FigureRule) → order other < order rule → ¬ Breaks earlier r other
 
+-- the record breaks none of the rules
 abbrev pub BreachesNone : List Record → Record → Type 0
 BreachesNone earlier r = (rule : FigureRule) → ¬ Breaks earlier r rule

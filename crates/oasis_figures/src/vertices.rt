@@ -1,9 +1,8 @@
 //! The vertices of polygons and paths: point lists, moved to the position of a figure.
-ghost use Rattle.std.specs.Prelude.{◌≡◌, [], map, All, SomeIff, IfOk, IfErr, OnOk, is_some, option_map};
+ghost use Rattle.std.specs.Prelude.{◌≡◌, [], map, All, SomeIff, IfOk, IfErr, OnOk, is_some, option_map, unwrap_or};
 ghost use Rattle.std.specs.Option.{option_or};
 ghost use Rattle.lvl_refusal.specs.Refused.{Says};
 ghost use Rattle.lvl_grid.specs.Turn.{FitsPoint, shifted};
-ghost use Rattle.oasis_figures.specs.Modal.{value_or};
 
 use crate::rule::FigureRule;
 use lvl_grid::Point;
@@ -64,7 +63,7 @@ pub(crate) fn known<'a>(
     modal: &'a Option<Vec<Point>>,
 ) -> &'a [Point]
     ensures { result.now
-        ≡ value_or (option_or (option_map (λ v. v.items) listed.now) (option_map (λ v. v.items) modal.now)) [] }
+        ≡ unwrap_or (option_or (option_map (λ v. v.items) listed.now) (option_map (λ v. v.items) modal.now)) [] }
 {
     match (listed, modal) {
         (Some(points), _) | (None, Some(points)) => points,

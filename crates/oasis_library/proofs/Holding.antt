@@ -1,7 +1,7 @@
 -- What was read is updated with one more record.
 use Rattle.std.proofs.Common.{◌≡◌, false, List, [], ◌∷◌, ◌++◌, map, refl, sym, ap, ◌∙◌, subst, if◌then◌else◌, Result}
 use Rattle.std.proofs.Common.{Ok, Err, IfOk, OnOk}
-use Rattle.std.specs.Prelude.{flat_map, Option}
+use Rattle.std.specs.Prelude.{flat_map, Option, Some, None}
 use Rattle.lvl_refusal.specs.declared.Cause.{Cause}
 use Rattle.lvl_refusal.specs.declared.Cause.TheVariants.{Breach, OutOfMemory}
 use Rattle.oasis_records.specs.declared.cell.CellRef.{CellRef}
@@ -11,6 +11,7 @@ use Rattle.oasis_figures.specs.Rules.{BreachesNone}
 use Rattle.oasis_figures.specs.declared.drawn.Drawn.{Drawn}
 use Rattle.oasis_figures.specs.declared.modal.Modal.{Modal}
 use Rattle.oasis_figures.specs.declared.rule.FigureRule.{FigureRule}
+use Rattle.oasis_figures.specs.declared.rule.FigureRule.TheVariants.{Undefined, Path as PathRule}
 use Rattle.oasis_stream.specs.declared.fault.NameRule.{NameRule}
 use Rattle.oasis_stream.specs.declared.fault.OasisKind.{OasisKind}
 use Rattle.oasis_stream.specs.declared.fault.OasisKind.TheVariants.{Name, Figure}
@@ -20,7 +21,7 @@ use Rattle.oasis_records.specs.declared.record.Record.{Record}
 use Rattle.oasis_figures.specs.Keeping.{StandsFor}
 use Rattle.oasis_stream.specs.Items.{Item, magic, item, records}
 use Rattle.oasis_stream.specs.Order.{last_or, name_in, names_in}
-use Rattle.oasis_stream.specs.Rules.{is_cell, since_cell, NamingBreaches, RecordBreaches}
+use Rattle.oasis_stream.specs.Rules.{is_cell, since_cell, KeepsRules}
 use Rattle.oasis_stream.specs.inside.Reached.{HasReached, passed}
 use Rattle.oasis_stream.proofs.Reached.{law_passed, flat_map-snoc, last_or-append}
 use Rattle.oasis_library.specs.Cells.{drawings, with_rings}
@@ -127,10 +128,11 @@ figure_ok old new next (Ok x) q d e f t earlier h =
 figure_ok old new next (Err (Breach k)) q d e f t earlier h = (let z : Err (Breach (Figure k)) ≡ Ok d = sym e ∙ f in cc)
 figure_ok old new next (Err OutOfMemory) q d e f t earlier h = (let z : Err OutOfMemory ≡ Ok d = sym e ∙ f in cc)
 
--- no rule of names and none of figures is breached
-pub none_breached : (rs : List Record) (r : Record) → ((k : NameRule) → NamingBreaches (names_in rs) r k → ⊥)
-    → BreachesNone (since_cell rs) r
-    → (k : OasisKind) → RecordBreaches rs r k → ⊥
-none_breached rs r names figures (Name k) b = names k b
-none_breached rs r names figures (Figure k) b = figures k b.broken
-none_breached rs r names figures _ b = b
+-- a CELL breaches no rule
+pub cell_keeps : (rs : List Record) (ref : CellRef) → KeepsRules rs (Cell ref)
+cell_keeps rs ref = (λ k b. b, none)
+  where
+    none : BreachesNone (since_cell rs) (Cell ref)
+    none (Undefined v) b = (let z : None ≡ Some v = b in cc)
+    none (PathRule f) b = b
+    none _ b = b

@@ -16,7 +16,7 @@ use Rattle.oasis_records.specs.declared.record.Record.{Record}
 use Rattle.oasis_records.specs.declared.record.Record.TheVariants.{End}
 use Rattle.oasis_stream.specs.Items.{Item, magic, item, records, IsEnded}
 use Rattle.oasis_stream.specs.Order.{last_or}
-use Rattle.oasis_stream.specs.Rules.{RecordBreaches}
+use Rattle.oasis_stream.specs.Rules.{RecordBreaches, KeepsRules}
 use Rattle.oasis_stream.specs.Front.{IsItem, IsNext, oasis}
 use Rattle.oasis_stream.specs.Reported.{of_kind, reported_record}
 use Rattle.oasis_stream.specs.inside.Refuses.{RefusesAt}
@@ -70,7 +70,7 @@ first_on {remaining = remaining} {errors = errors} {lent = lent} ignore xs x {ol
     let to = start_to ignore xs (input_offset old) (bytes_left remaining old) start known in
     item_on ignore xs IsNothing (HasBegun x) to magic live under
     (subst (λ is. Reads remaining errors lent (IsItem is) old new (Ok (Ok magic))) (sym to.holds) p)
-    ((λ e. none_ended (subst IsEnded to.holds e)), λ k b. b)
+    (λ e. none_ended (subst IsEnded to.holds e))
     (subst (λ is. HasBegun x (is ++ magic ∷ [])) (sym to.holds)
     (h, (λ e. (let z : magic ≡ item (End e.1) = last_same [] e.0 magic (item (End e.1)) e.2 in cc)), [], refl))
 
@@ -106,7 +106,7 @@ pub record_on : {R : Type 0} {remaining : R → Option (List ℕ)} {errors : R �
     (to : ReadTo (oasis ignore) xs (input_offset old) (HasBegun x) (bytes_left remaining old))
     → has_failed old ≡ false → input_ignore old ≡ ignore
     → Reads remaining errors lent (IsNext (records to.records)) old new (Ok (Ok (item r)))
-    → Holds y (records to.records ++ r ∷ []) → ((k : OasisKind) → RecordBreaches (records to.records) r k → ⊥)
+    → Holds y (records to.records ++ r ∷ []) → KeepsRules (records to.records) r
     → ReadTo (oasis ignore) xs (input_offset new) (HasMore y r) (bytes_left remaining new)
 record_on {R = R} ignore xs x y r to live under p h none =
     item_on ignore xs (HasBegun x) (HasMore y r) to (item r) live under (as_item x to.records to.holds p)

@@ -1,6 +1,6 @@
 -- What a record that was taken adds to a cell.
 use Rattle.std.proofs.Common.{◌≡◌, List, [], ◌∷◌, ◌++◌, map, Some, None, sym, ap, ◌∙◌, if◌then◌else◌}
-use Rattle.std.specs.Prelude.{Option, is_some}
+use Rattle.std.specs.Prelude.{Option, is_some, unwrap_or}
 use Rattle.std.proofs.lemmas.List.{append-nil}
 use Rattle.lvl_grid.specs.declared.map.Map.{Map}
 use Rattle.lvl_grid.specs.declared.point.Point.{Point}
@@ -11,7 +11,7 @@ use Rattle.oasis_records.specs.declared.record.Record.{Record}
 use Rattle.oasis_records.specs.declared.record.Record.TheVariants.{Placement}
 use Rattle.oasis_figures.specs.Figures.{Placed, shapes_of, placements_of, shifts_of, in_rings, placements_in, shapes_in}
 use Rattle.oasis_figures.specs.Figures.{cell_of}
-use Rattle.oasis_figures.specs.Modal.{modal, cell_set, value_or}
+use Rattle.oasis_figures.specs.Modal.{modal, cell_set}
 use Rattle.oasis_figures.specs.Rules.{BreachesNone, first_undefined, is_defined, of_repetition}
 use Rattle.oasis_figures.specs.declared.drawn.Drawn.{Drawn}
 use Rattle.oasis_figures.specs.declared.drawn.Drawn.TheVariants.{Placement as Placing}
@@ -56,7 +56,7 @@ pub placed_grown : (earlier : List Record) (r : Record) (by : Map) (m : Modal) (
     → a_kept d.name d.shapes (d.placements ++ p ∷ []) ≡ grown earlier r d
 placed_grown earlier r by m d p cell shifts t e f g =
     let this : p ≡ placed (cell_of (r ∷ earlier)) by (shifts_of earlier r) = g ∙ ap (λ c. placed c by shifts)
-    (ap (λ o. value_or o (Number 0)) e) ∙ ap (λ s. placed (cell_of (r ∷ earlier)) by s) f in
+    (ap (λ o. unwrap_or o (Number 0)) e) ∙ ap (λ s. placed (cell_of (r ∷ earlier)) by s) f in
     ap (λ s. a_kept d.name s (d.placements ++ p ∷ [])) (sym (append-nil d.shapes))
     ∙ ap (λ (q : Placed). a_kept d.name (d.shapes ++ []) (d.placements ++ q ∷ [])) this
     ∙ taken_grown earlier r (Some (Placing by)) m d t

@@ -9,15 +9,11 @@ use Rattle.oasis_records.specs.declared.record.Record.TheVariants.{Start, End}
 use Rattle.oasis_stream.specs.Order.{last_or}
 use Rattle.oasis_library.specs.declared.head.OasisHead.{OasisHead}
 
--- a head
-abbrev pub head_with : Real → ℕ → List ℕ → OasisHead
-head_with unit scheme signature = record { unit = unit; scheme = scheme; signature = signature }
-
 -- the head by the unit and the validation; without a signature its bytes are four zeros
 abbrev pub head : Real → Validation → OasisHead
-head unit Absent = head_with unit 0 (0 ∷ 0 ∷ 0 ∷ 0 ∷ [])
-head unit (Crc32 bytes) = head_with unit 1 bytes
-head unit (Checksum32 bytes) = head_with unit 2 bytes
+head unit Absent = record { unit = unit; scheme = 0; signature = 0 ∷ 0 ∷ 0 ∷ 0 ∷ [] }
+head unit (Crc32 bytes) = record { unit = unit; scheme = 1; signature = bytes }
+head unit (Checksum32 bytes) = record { unit = unit; scheme = 2; signature = bytes }
 
 -- the unit in a START
 abbrev pub unit_in : Record → List Real

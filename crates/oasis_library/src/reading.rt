@@ -3,7 +3,7 @@ ghost use Rattle.std.specs.Prelude.{◌≡◌, [], ◌∷◌, ◌++◌, List, If
 ghost use Rattle.lvl_refusal.specs.Refused.{Says};
 ghost use Rattle.oasis_records.specs.declared.record.Record.{Record as ARecord};
 ghost use Rattle.oasis_stream.specs.Order.{names_in};
-ghost use Rattle.oasis_stream.specs.Rules.{RecordBreaches};
+ghost use Rattle.oasis_stream.specs.Rules.{RecordBreaches, KeepsRules};
 ghost use Rattle.oasis_stream.specs.declared.fault.OasisKind.{OasisKind as Kind};
 ghost use Rattle.oasis_library.specs.Cells.{drawings, with_rings};
 ghost use Rattle.oasis_library.specs.Head.{head_of};
@@ -85,8 +85,7 @@ impl Reading {
             (rs : List ARecord) → Holds self.old rs → RecordBreaches rs next kind)) }
         ensures kept { OnOk result
             ((rs : List ARecord) → Holds self.old rs → Holds self.new (rs ++ next ∷ [])) }
-        ensures none { OnOk result ((rs : List ARecord) → Holds self.old rs
-            → (kind : Kind) → ¬ RecordBreaches rs next kind) }
+        ensures none { OnOk result ((rs : List ARecord) → Holds self.old rs → KeepsRules rs next) }
     {
         self.order.pass(&next);
         self.head.pass(&next);

@@ -11,7 +11,7 @@ use Rattle.lvl_grammar.proofs.Agreeing.{agree_ends}
 use Rattle.lvl_grammar.proofs.Laws.{IsGrammar, AreFaults}
 use Rattle.lvl_profile.specs.declared.ignore.Ignore.{Ignore}
 use Rattle.oasis_values.specs.declared.fault.ValueFault.{ValueFault}
-use Rattle.oasis_stream.specs.Items.{Item}
+use Rattle.oasis_stream.specs.Items.{Item, magic, item, IsEnded}
 use Rattle.oasis_stream.specs.Rules.{Breaches, MayFollow}
 use Rattle.oasis_stream.specs.Front.{IsItem, oasis}
 use Rattle.oasis_stream.specs.Faults.{IsTooLong, BreaksRule, IsWrong, oasis_faults}
@@ -25,6 +25,18 @@ said i = Ok (Ok i)
 
 abbrev Spelled : Ignore → List Item → List ℕ → Item → Type 0
 Spelled ignore before bytes i = IsItem before ignore bytes (Ok (Ok i))
+
+-- before an item that may follow there is no END
+follows_open : (before : List Item) (i : Item) → MayFollow before i → ¬ IsEnded before
+follows_open before magic g = g
+follows_open before (item r) g = g.0
+
+-- and it breaches no rule
+follows_kept : (before : List Item) (i : Item) (k : OasisKind) → MayFollow before i → Breaches before i k → ⊥
+follows_kept before magic k g b = b
+follows_kept before (item r) (Name j) g b = g.1.0 j b
+follows_kept before (item r) (Figure j) g b = g.1.1 j b.broken
+follows_kept before (item r) _ g b = b
 
 same_item : (i j : Item) → said i ≡ said j → i ≡ j
 same_item i j e = cc
@@ -70,7 +82,7 @@ rule_stops ignore before room ys text i k w p g agree = elim w.3 [
   | inr q ↦
       let e : q.0 ≡ i = same_item q.0 i (front_only (IsItem before ignore) ys w.1 (Ok (Ok q.0)) (Ok (Ok i))
       (item_free before ignore) q.1 text p agree) in
-      g.1 k (subst (λ (j : Item). Breaches before j k) e q.2)
+      follows_kept before i k g (subst (λ (j : Item). Breaches before j k) e q.2)
 ]
 
 -- bytes that agree with the input agree with its bytes within the limit
@@ -118,7 +130,7 @@ wrong_stops ignore before room ys text i (Value f) w p g agree fits = elim w [
   | inl q ↦ long_none ignore before room ys text i q.1 p agree fits
   | inr q ↦ breached_none (IsItem before ignore) ys q.2.count f (Ok i) (item_free before ignore) q.2.front text p agree
 ]
-wrong_stops ignore before room ys text i AfterEnd w p g agree fits = g.0 w.0
+wrong_stops ignore before room ys text i AfterEnd w p g agree fits = follows_open before i g w.0
 wrong_stops ignore before room ys text i (Record k) w p g agree fits =
     rule_stops ignore before room ys text i (Record k) w p g agree
 wrong_stops ignore before room ys text i (Unexpected id) w p g agree fits =

@@ -170,7 +170,8 @@ long_refuses ignore xs at had to unended s p =
 
 cut_refuses : {Has : List Item → Type 0} {had : ℕ} {was : Option (List ℕ)} (ignore : Ignore) (xs : List ℕ) (at : ℕ)
     (to : ReadTo (oasis ignore) xs at Has was) → ¬ IsEnded to.records
-    → Fails (IsItem to.records ignore) (file_limit - at) had (drop at xs) Truncated → IsTruncated (oasis_faults ignore) xs at
+    → Fails (IsItem to.records ignore) (file_limit - at) had (drop at xs) Truncated
+    → IsTruncated (oasis_faults ignore) xs at
 cut_refuses ignore xs at to unended p =
     record {
       within = to.within;

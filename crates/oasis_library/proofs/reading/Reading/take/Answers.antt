@@ -1,10 +1,10 @@
-use Rattle.std.proofs.Common.{List}
+use Rattle.std.proofs.Common.{List, sym, subst}
 use Rattle.oasis_records.specs.declared.record.Record.{Record}
 use Rattle.oasis_library.specs.inside.Holds.{Holds}
 use Rattle.oasis_stream.specs.Order.{names_in}
-use Rattle.oasis_stream.specs.Rules.{since_cell}
+use Rattle.oasis_stream.specs.Rules.{since_cell, KeepsRules}
 use Rattle.oasis_library.proofs.Growing.{is_other}
-use Rattle.oasis_library.proofs.Holding.{cell_goes, other_goes, name_ok, figure_ok, none_breached}
+use Rattle.oasis_library.proofs.Holding.{cell_goes, cell_keeps, other_goes, name_ok, figure_ok}
 use Rattle.oasis_library.proofs.reading.Reading.take.Goals as goal
 
 pub returns-in-Cell-clause-kept : goal.returns-in-Cell-clause-kept
@@ -13,6 +13,9 @@ returns-in-Cell-clause-kept c = λ rs h.
     (name_ok c.take.result c.of_name.result c.in_ok-of_name.field-0 c.of_name.ensures c.in_ok-of_name.was
     c.take.ensures.kept (names_in rs) h.names)
     c.new.ensures c.in_ok-begin.ensures c.pass-2.ensures.unit c.pass-2.ensures.validation
+
+pub returns-in-Cell-clause-none : goal.returns-in-Cell-clause-none
+returns-in-Cell-clause-none c = λ rs h. subst (KeepsRules rs) (sym c.in-Cell.is) (cell_keeps rs c.in-Cell.name)
 
 pub add-requires : goal.add-requires
 add-requires c =
@@ -48,7 +51,9 @@ returns c =
           c.take.ensures.kept (names_in rs) h.names)
           (holds rs h).stands (c.in_ok-add.ensures (since_cell rs) c.args.next (holds rs h)) c.pass-2.ensures.unit
           c.pass-2.ensures.validation;
-      none = λ rs h kind b.
-          none_breached rs c.args.next (name_ok c.take.result c.of_name.result c.in_ok-of_name.field-0 c.of_name.ensures
-          c.in_ok-of_name.was c.take.ensures.none (names_in rs) h.names) (holds rs h).none kind b;
+      none = λ rs h. (
+        name_ok c.take.result c.of_name.result c.in_ok-of_name.field-0 c.of_name.ensures c.in_ok-of_name.was
+            c.take.ensures.none (names_in rs) h.names,
+        (holds rs h).none,
+      );
     }
