@@ -12,6 +12,7 @@ use Rattle.lvl_report.specs.declared.status.RunFault.TheVariants.{Output as RunO
 use Rattle.lvl_report.specs.Runs.{Input, input, IsBegun, IsDigestedBy, IsShownBy, IsWritten}
 use Rattle.lvl_report.specs.Texts.{text_of, text_of_digested, text_of_shown}
 use Rattle.lvl_report.specs.Hints.{shown_outcome}
+use Rattle.lvl_report.specs.Writing.{ends_by}
 use Rattle.lvl_report.specs.Writing.{is_output}
 use Rattle.lvl_view.specs.Views.{PlainView}
 use Rattle.lvl_job.specs.declared.fault.JobFault.{JobFault}
@@ -146,7 +147,7 @@ module _ {S : Type 0} (opens : S → List ℕ → Option (Option (List ℕ)) →
   module _ (file : String Global) (top ignored : Option (String Global)) (ignore : Ignore)
       (given : IsIgnoreAsked (option_map string_bytes ignored) ignore) where
     pub shown_answered : (old new : S) (from to : Option (List ℕ)) (r : Result Outcome JobFault)
-        → IfOk r (IsOneAnswered opens IsShownBy text_of_shown (shown_outcome ignore)
+        → IfOk r (IsOneAnswered opens IsShownBy text_of_shown (ends_by (shown_outcome ignore))
         (named ignore file top) old new from to)
         → IfOk r (IsAnswered opens (Show file top ignored) old new from to)
     shown_answered old new from to (Ok status) h = record { ignore = ignore; asked = given; holds = h }
@@ -154,7 +155,7 @@ module _ {S : Type 0} (opens : S → List ℕ → Option (Option (List ℕ)) →
 
     pub digested_answered : (old new : S) (from to : Option (List ℕ)) (r : Result Outcome JobFault)
         → IfOk r
-        (IsOneAnswered opens IsDigestedBy text_of_digested (shown_outcome ignore)
+        (IsOneAnswered opens IsDigestedBy text_of_digested (ends_by (shown_outcome ignore))
         (named ignore file top) old new from to)
         → IfOk r (IsAnswered opens (Digest file top ignored) old new from to)
     digested_answered old new from to (Ok status) h = record { ignore = ignore; asked = given; holds = h }

@@ -1,6 +1,6 @@
 -- How a job ends: its exit status, and what it writes to standard error (own rule).
 use Rattle.std.specs.Prelude.{ℕ, List, [], ◌∷◌, ◌++◌, codes, Option, Some, None, Result, Ok, Err, Bool, true, false}
-use Rattle.std.specs.Prelude.{◌||◌, ◌⊎◌, if◌then◌else◌}
+use Rattle.std.specs.Prelude.{◌||◌, ◌⊎◌, if◌then◌else◌, option_map}
 use Rattle.std.specs.Io.KnownBytes.{Appends}
 use Rattle.lvl_io.specs.Bytes.{CountsFailure}
 use Rattle.std.specs.Prelude.{string_bytes}
@@ -64,14 +64,16 @@ hint_text WithoutBlocks =
 hint_text NameTop = line (codes "lvl: several cells could be the top: name one by " ++ codes "--top")
 hint_text (NameTopOf side) = line (codes "lvl: several cells could be the top: name one by " ++ top_option side)
 
--- what is written for an answer, by its hint
-abbrev pub said_of : Option Hint → List ℕ
-said_of None = []
-said_of (Some hint) = hint_text hint
+-- what is written for an answer: its hint, or the line on grid steps
+abbrev pub said_of : Option Hint → Option (List ℕ) → List ℕ
+said_of (Some hint) steps = hint_text hint
+said_of None (Some text) = text
+said_of None None = []
 
--- what a job writes to standard error: the hint of its answer if it has one, or why there is no answer
+-- what a job writes to standard error: the hint of its answer if it has one, that the grid steps of two files differ, or
+-- why there is no answer
 abbrev pub end_text : Result Outcome JobFault → List ℕ
-end_text (Ok outcome) = said_of outcome.hint
+end_text (Ok outcome) = said_of outcome.hint (option_map (λ text. text.items) outcome.steps)
 end_text (Err fault) = fault_text fault
 
 -- whether the output of a job failed

@@ -13,7 +13,8 @@ use Rattle.lvl_line.specs.declared.job.Job.TheVariants.{Compare, Digest, Show}
 use Rattle.lvl_report.specs.declared.outcome.Outcome.{Outcome}
 use Rattle.lvl_report.specs.Runs.{Input, input, IsComparedBy, IsDigestedBy, IsViewedBy, IsShownBy, IsWritten, IsBegun}
 use Rattle.lvl_report.specs.Texts.{text_of, text_of_digested, text_of_shown}
-use Rattle.lvl_report.specs.Hints.{outcome_of, shown_outcome}
+use Rattle.lvl_report.specs.Hints.{IsOutcomeOf, shown_outcome}
+use Rattle.lvl_report.specs.Writing.{ends_by}
 use Rattle.lvl_view.specs.declared.fault.ViewFault.{ViewFault}
 use Rattle.lvl_view.specs.Views.{PlainView, IsViewOf, IsFaultOf}
 use Rattle.lvl_job.specs.declared.fault.JobFault.{JobFault}
@@ -115,13 +116,13 @@ abbrev pub IsAnswered : {S : Type 0} → (S → List ℕ → Option (Option (Lis
 IsAnswered opens (Compare first second top_a top_b map_text window_text ignored) old new from to outcome =
     UnderView map_text window_text (λ view. WithIgnored ignored (λ ignore.
     OfTwo opens old new (named ignore first top_a) (named ignore second top_b) (λ a b.
-    IsWritten (IsComparedUnder view a b) text_of (outcome_of ignore) from to outcome)))
+    IsWritten (IsComparedUnder view a b) text_of (IsOutcomeOf ignore) from to outcome)))
 IsAnswered opens (Show file top ignored) old new from to outcome =
     WithIgnored ignored (λ ignore. OfOne opens old new (named ignore file top) (λ a.
-    IsWritten (IsShownBy a) text_of_shown (shown_outcome ignore) from to outcome))
+    IsWritten (IsShownBy a) text_of_shown (ends_by (shown_outcome ignore)) from to outcome))
 IsAnswered opens (Digest file top ignored) old new from to outcome =
     WithIgnored ignored (λ ignore. OfOne opens old new (named ignore file top) (λ a.
-    IsWritten (IsDigestedBy a) text_of_digested (shown_outcome ignore) from to outcome))
+    IsWritten (IsDigestedBy a) text_of_digested (ends_by (shown_outcome ignore)) from to outcome))
 
 -- a beginning of the answer to a job was written
 abbrev pub IsCut : {S : Type 0} → (S → List ℕ → Option (Option (List ℕ)) → S → Type 0) → Job → S → S

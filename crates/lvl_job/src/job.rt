@@ -11,12 +11,12 @@ ghost use Rattle.lvl_job.specs.inside.Parts.{IsOneAnswered, IsOneFault, IsPairAn
 ghost use Rattle.lvl_job.specs.inside.Parts.{fault_of_run, IsNoIgnore};
 ghost use Rattle.lvl_report.specs.Runs.{IsBegun, IsDigestedBy, IsShownBy, IsWritten, input};
 ghost use Rattle.lvl_report.specs.Texts.{text_of, text_of_digested, text_of_shown};
-ghost use Rattle.lvl_report.specs.Hints.{outcome_of, shown_outcome};
-ghost use Rattle.lvl_report.specs.Writing.{is_output};
+ghost use Rattle.lvl_report.specs.Hints.{IsOutcomeOf, shown_outcome};
+ghost use Rattle.lvl_report.specs.Writing.{ends_by, is_output};
 
 use crate::fault::JobFault;
 use crate::files::Files;
-use crate::said::{say, say_hint};
+use crate::said::{say, say_outcome};
 use lvl::Tops;
 use lvl_io::{Read, Write};
 use lvl_line::Job;
@@ -108,7 +108,7 @@ fn run_under<A: Read, B: Read, O: Write>(
         (A.read_errors first.old) (A.read_errors first.new) (given_name tops.now.first))
         (input ignore (B.remaining second.old) (B.remaining second.new)
         (B.read_errors second.old) (B.read_errors second.new) (given_name tops.now.second)))
-        text_of (outcome_of ignore) (O.contents out.old) (O.contents out.new)) }
+        text_of (IsOutcomeOf ignore) (O.contents out.old) (O.contents out.new)) }
     ensures begun { OnErr result (IsBegun
         (IsComparedUnder (option_map (λ v. v.now) view.entry)
         (input ignore (A.remaining first.old) (A.remaining first.new)
@@ -162,7 +162,7 @@ fn show<F: Files, O: Write>(
     files: &mut F,
     out: &mut O,
 ) -> Result<Outcome, JobFault>
-    ensures answered { IfOk result (IsOneAnswered F.opens IsShownBy text_of_shown (shown_outcome ignore)
+    ensures answered { IfOk result (IsOneAnswered F.opens IsShownBy text_of_shown (ends_by (shown_outcome ignore))
         (record { ignore = ignore; name = string_bytes name; top = option_copied top.entry })
         files.old files.new (O.contents out.old) (O.contents out.new)) }
     ensures fault { IfErr result (IsOneFault F.opens IsShownBy text_of_shown
@@ -186,7 +186,7 @@ fn digest<F: Files, O: Write>(
     files: &mut F,
     out: &mut O,
 ) -> Result<Outcome, JobFault>
-    ensures answered { IfOk result (IsOneAnswered F.opens IsDigestedBy text_of_digested (shown_outcome ignore)
+    ensures answered { IfOk result (IsOneAnswered F.opens IsDigestedBy text_of_digested (ends_by (shown_outcome ignore))
         (record { ignore = ignore; name = string_bytes name; top = option_copied top.entry })
         files.old files.new (O.contents out.old) (O.contents out.new)) }
     ensures fault { IfErr result (IsOneFault F.opens IsDigestedBy text_of_digested
@@ -255,7 +255,8 @@ fn perform<F: Files, O: Write>(
 
 /// Does a job: reads the texts of its view and of what is ignored, opens its files by `files`, the first
 /// before the second, and writes its answer to `out`. If there is no answer, it writes one line to `err`
-/// that says why; if the answer is a refusal that something would mend, one line that says what.
+/// that says why; if the answer is a refusal that something would mend, one line that says what; and if it
+/// is a verdict on files whose grid steps differ, one line that says so.
 ///
 /// It writes an answer that [`run_by`], [`run_view_by`], [`run_show_by`] or [`run_digest`] may write for
 /// these files.
@@ -276,7 +277,7 @@ pub fn do_job<F: Files, O: Write, E: Write>(
 {
     let ended = perform(alloc, job, files, out);
     match &ended {
-        Ok(outcome) => say_hint(err, outcome.hint),
+        Ok(outcome) => say_outcome(err, outcome),
         Err(fault) => say(err, fault),
     }
     ended

@@ -1,5 +1,5 @@
 //! What a job writes to standard error.
-ghost use Rattle.std.specs.Prelude.{◌≡◌, ◌++◌, OnOk, OnErr};
+ghost use Rattle.std.specs.Prelude.{◌≡◌, ◌++◌, OnOk, OnErr, option_map};
 ghost use Rattle.std.specs.Io.KnownBytes.{Appends};
 ghost use Rattle.lvl_io.specs.Bytes.{CountsFailure, failed};
 ghost use Rattle.lvl_job.specs.Ends.{IsSaid, fault_text, hint_text, ignore_words, said_of, top_option};
@@ -10,7 +10,7 @@ use crate::fault::JobFault;
 use lvl_io::{Failure, Write};
 use lvl_profile::Ignore;
 use lvl_region::Side;
-use lvl_report::Hint;
+use lvl_report::{Hint, Outcome};
 use lvl_text::{ignore_fault, view_fault};
 
 /// Writes the whole text. It fails at the first error of any kind, or if a write takes nothing of
@@ -134,13 +134,25 @@ fn words_of_hint(hint: Hint) -> (&'static str, &'static str)
     }
 }
 
-/// Writes on one line what would mend a refusal, if anything would. If that fails, nothing more is written.
-pub(crate) fn say_hint<E: Write>(err: &mut E, hint: Option<Hint>)
-    ensures { IsSaid (said_of hint) (E.contents err.old) (E.contents err.new)
+/// Writes on one line what would mend a refusal.
+fn say_hint<E: Write>(err: &mut E, hint: Hint)
+    ensures { IsSaid (hint_text hint) (E.contents err.old) (E.contents err.new)
         (E.write_errors err.old) (E.write_errors err.new) }
 {
-    if let Some(hint) = hint {
-        let (why, what) = words_of_hint(hint);
-        let _ = write_line(err, why, what);
+    let (why, what) = words_of_hint(hint);
+    let _ = write_line(err, why, what);
+}
+
+/// Writes on one line what would mend a refusal, if anything would, or that the grid steps of two files differ. If that
+/// fails, nothing more is written.
+pub(crate) fn say_outcome<E: Write>(err: &mut E, outcome: &Outcome)
+    ensures { IsSaid (said_of outcome.now.hint (option_map (λ text. text.items) outcome.now.steps))
+        (E.contents err.old) (E.contents err.new) (E.write_errors err.old) (E.write_errors err.new) }
+{
+    if let Some(hint) = outcome.hint {
+        return say_hint(err, hint);
+    }
+    if let Some(text) = &outcome.steps {
+        let _ = write_all(err, text);
     }
 }

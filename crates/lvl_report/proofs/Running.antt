@@ -11,20 +11,21 @@ use Rattle.lvl.specs.declared.verdict.Comparison.{Comparison}
 use Rattle.lvl.specs.declared.verdict.Refusal.{Refusal}
 use Rattle.lvl.proofs.Viewing.{whole_verdict}
 use Rattle.lvl_report.specs.Runs.{Input, IsComparedBy, IsViewedBy, IsWritten, IsBegun}
-use Rattle.lvl_report.specs.Hints.{outcome_of, shown_outcome}
+use Rattle.lvl_report.specs.declared.outcome.Outcome.{Outcome}
+use Rattle.lvl_report.specs.Hints.{IsOutcomeOf, shown_outcome}
 use Rattle.lvl_report.specs.Writing.{AppendsBeginning, status_of, shown_status}
 
-pub was_written : {X T : Type 0} (Allowed : X → Type 0) (text : X → List ℕ) (end_of : X → T)
+pub was_written : {X T : Type 0} (Allowed : X → Type 0) (text : X → List ℕ) (Ends : X → T → Type 0)
     (old new : Option (List ℕ)) (answer : X) (r : Result T RunFault) → Allowed answer
-    → OnOk r (Appends old new (text answer)) → IfOk r (λ ended. ended ≡ end_of answer)
-    → IfOk r (IsWritten Allowed text end_of old new)
-was_written Allowed text end_of old new answer (Ok ended) allowed whole is = record {
+    → OnOk r (Appends old new (text answer)) → IfOk r (Ends answer)
+    → IfOk r (IsWritten Allowed text Ends old new)
+was_written Allowed text Ends old new answer (Ok ended) allowed whole is = record {
   answer = answer;
   allowed = allowed;
   whole = whole;
   ends = is;
 }
-was_written Allowed text end_of old new answer (Err fault) allowed whole is = tt
+was_written Allowed text Ends old new answer (Err fault) allowed whole is = tt
 
 pub was_begun : {X T : Type 0} (Allowed : X → Type 0) (text : X → List ℕ) (old new : Option (List ℕ)) (answer : X)
     (r : Result T RunFault) → Allowed answer
@@ -37,16 +38,16 @@ was_begun Allowed text old new answer (Err fault) allowed begun = record {
 }
 
 -- what is written of an answer that one set allows is allowed by a larger one
-pub written_as : {X T : Type 0} {Allowed Others : X → Type 0} (text : X → List ℕ) (end_of : X → T)
+pub written_as : {X T : Type 0} {Allowed Others : X → Type 0} (text : X → List ℕ) (Ends : X → T → Type 0)
     (old new : Option (List ℕ)) (r : Result T RunFault) → ((answer : X) → Allowed answer → Others answer)
-    → IfOk r (IsWritten Allowed text end_of old new) → IfOk r (IsWritten Others text end_of old new)
-written_as text end_of old new (Ok ended) also w = record {
+    → IfOk r (IsWritten Allowed text Ends old new) → IfOk r (IsWritten Others text Ends old new)
+written_as text Ends old new (Ok ended) also w = record {
   answer = w.answer;
   allowed = also w.answer w.allowed;
   whole = w.whole;
   ends = w.ends;
 }
-written_as text end_of old new (Err fault) also w = tt
+written_as text Ends old new (Err fault) also w = tt
 
 pub begun_as : {X T : Type 0} {Allowed Others : X → Type 0} (text : X → List ℕ) (old new : Option (List ℕ))
     (r : Result T RunFault) → ((answer : X) → Allowed answer → Others answer)
@@ -59,26 +60,25 @@ begun_as text old new (Err fault) also b = record {
 }
 
 -- a run that returns a part of what another returns
-pub ends_as : {X T U : Type 0} {Allowed : X → Type 0} (text : X → List ℕ) (end_of : X → T) (part : T → U) (then_of : X
-    → U)
-    (old new : Option (List ℕ)) → ((answer : X) → part (end_of answer) ≡ then_of answer) → (ended : T)
-    → IsWritten Allowed text end_of old new ended → IsWritten Allowed text then_of old new (part ended)
-ends_as text end_of part then_of old new is ended w = record {
+pub ends_as : {X T U : Type 0} {Allowed : X → Type 0} (text : X → List ℕ) (Ends : X → T → Type 0) (part : T → U)
+    (Then : X → U → Type 0) (old new : Option (List ℕ)) → ((answer : X) (t : T) → Ends answer t → Then answer (part t))
+    → (ended : T) → IsWritten Allowed text Ends old new ended → IsWritten Allowed text Then old new (part ended)
+ends_as text Ends part Then old new so ended w = record {
   answer = w.answer;
   allowed = w.allowed;
   whole = w.whole;
-  ends = ap part w.ends ∙ is w.answer;
+  ends = so w.answer ended w.ends;
 }
 
-pub status_is : (ignore : Ignore) (answer : Result Comparison Refusal)
-    → (outcome_of ignore answer).status ≡ status_of answer
-status_is ignore (Ok comparison) = refl
-status_is ignore (Err refusal) = refl
+pub status_is : (ignore : Ignore) (answer : Result Comparison Refusal) (o : Outcome) → IsOutcomeOf ignore answer o
+    → o.status ≡ status_of answer
+status_is ignore (Ok comparison) o end = end.status_is
+status_is ignore (Err refusal) o end = end.status_is
 
-pub shown_status_is : {X : Type 0} (ignore : Ignore) (answer : Result X Refusal)
-    → (shown_outcome ignore answer).status ≡ shown_status answer
-shown_status_is ignore (Ok x) = refl
-shown_status_is ignore (Err refusal) = refl
+pub shown_status_is : {X : Type 0} (ignore : Ignore) (answer : Result X Refusal) (o : Outcome)
+    → o ≡ shown_outcome ignore answer → o.status ≡ shown_status answer
+shown_status_is ignore (Ok x) o end = ap (λ (p : Outcome). p.status) end
+shown_status_is ignore (Err refusal) o end = ap (λ (p : Outcome). p.status) end
 
 whole_said : (view : PlainView) → IsWhole view → (a b : File) (answer : Result Comparison Refusal)
     → IfOk answer (IsComparedIn view a b) → IfOk answer (IsCompared a b)

@@ -1,6 +1,6 @@
 -- What would mend a refusal: to ignore more, to give an option, or to use another program (own rule).
 use Rattle.std.specs.Prelude.{ℕ, ◌==◌, ◌&&◌, if◌then◌else◌, Bool, true, false, List, [], ◌∷◌, Option, Some, None}
-use Rattle.std.specs.Prelude.{Result, Ok, Err, is_ok}
+use Rattle.std.specs.Prelude.{◌≡◌, Result, Ok, Err, is_ok, option_map}
 use Rattle.lvl_cells.specs.declared.fault.CellFault.{CellFault}
 use Rattle.lvl_cells.specs.declared.fault.CellFault.TheVariants.{ManyTops}
 use Rattle.lvl_profile.specs.declared.ignore.Ignore.{Ignore}
@@ -23,7 +23,9 @@ use Rattle.lvl.specs.declared.verdict.Refusal.{Refusal}
 use Rattle.lvl.specs.declared.verdict.Refusal.TheVariants.{File, Cells, Flat, OutOfMemory}
 use Rattle.lvl.specs.declared.verdict.Comparison.{Comparison}
 use Rattle.lvl_report.specs.Writing.{verdict_status}
+use Rattle.lvl_report.specs.declared.status.Status.{Status}
 use Rattle.lvl_report.specs.declared.status.Status.TheVariants.{Shown as ShownStatus, Refused}
+use Rattle.lvl_report.specs.Steps.{AreStepsSaid}
 use Rattle.lvl_report.specs.declared.outcome.Outcome.{Outcome}
 use Rattle.lvl_report.specs.declared.hint.Hint.{Hint}
 use Rattle.lvl_report.specs.declared.hint.Hint.TheVariants.{IgnoreMore, Unpack, WithoutBlocks, NameTop, NameTopOf}
@@ -109,11 +111,18 @@ abbrev pub hint_of_two : Ignore → Refusal → Option Hint
 hint_of_two given (Cells side ManyTops) = Some (NameTopOf side)
 hint_of_two given refusal = hint_of_one given refusal
 
--- how a run on two files ends, and one on a single file
-abbrev pub outcome_of : Ignore → Result Comparison Refusal → Outcome
-outcome_of given (Ok comparison) = record { status = verdict_status comparison.verdict; hint = None }
-outcome_of given (Err refusal) = record { status = Refused; hint = hint_of_two given refusal }
+-- how a run on two files ends: of a verdict its status, and whether the grid steps differ; of a refusal its hint
+pub record IsEnd (status : Status) (hint : Option Hint) (Steps : Option (List ℕ) → Type 0) (o : Outcome) : Type 0 where
+  pub status_is : o.status ≡ status
+  pub hint_is : o.hint ≡ hint
+  pub steps : Steps (option_map (λ text. text.items) o.steps)
 
+abbrev pub IsOutcomeOf : Ignore → Result Comparison Refusal → Outcome → Type 0
+IsOutcomeOf given (Ok comparison) =
+    IsEnd (verdict_status comparison.verdict) None (AreStepsSaid comparison.first comparison.second)
+IsOutcomeOf given (Err refusal) = IsEnd Refused (hint_of_two given refusal) (λ text. text ≡ None)
+
+-- how a run on a single file ends
 abbrev pub shown_outcome : {X : Type 0} → Ignore → Result X Refusal → Outcome
-shown_outcome given (Ok x) = record { status = ShownStatus; hint = None }
-shown_outcome given (Err refusal) = record { status = Refused; hint = hint_of_one given refusal }
+shown_outcome given (Ok x) = record { status = ShownStatus; hint = None; steps = None }
+shown_outcome given (Err refusal) = record { status = Refused; hint = hint_of_one given refusal; steps = None }

@@ -1,4 +1,6 @@
 pub mod Texts
 pub mod Writing
 pub mod Hints
+pub mod Steps
+pub mod inside
 pub mod Runs

@@ -72,13 +72,13 @@ IsShownBy = IsFoundBy IsShownFile
 abbrev pub IsDigestedBy : Input → Result Digested Refusal → Type 0
 IsDigestedBy = IsFoundBy IsDigestedFile
 
--- the whole text of an answer that is allowed was written, and the run ends as it does for this answer
-pub record IsWritten {X T : Type 0} (Allowed : X → Type 0) (text : X → List ℕ) (end_of : X → T)
+-- the whole text of an answer that is allowed was written, and the run ends as it may for this answer
+pub record IsWritten {X T : Type 0} (Allowed : X → Type 0) (text : X → List ℕ) (Ends : X → T → Type 0)
     (old new : Option (List ℕ)) (ended : T) : Type 0 where
   pub answer : X
   pub allowed : Allowed answer
   pub whole : Appends old new (text answer)
-  pub ends : ended ≡ end_of answer
+  pub ends : Ends answer ended
 
 -- a beginning of the text of an answer that is allowed was written, perhaps nothing or all of it
 pub record IsBegun {X : Type 0} (Allowed : X → Type 0) (text : X → List ℕ) (old new : Option (List ℕ)) : Type 0 where

@@ -34,6 +34,10 @@ abbrev pub verdict_status : Verdict → Status
 verdict_status SameVerdict = Same
 verdict_status (DifferVerdict layer square side) = Differ
 
+-- a run ends in the one way that its answer gives
+abbrev pub ends_by : {X T : Type 0} → (X → T) → X → T → Type 0
+ends_by end_of answer ended = ended ≡ end_of answer
+
 -- the status of an answer about two files
 abbrev pub status_of : Result Comparison Refusal → Status
 status_of (Ok comparison) = verdict_status comparison.verdict

@@ -33,5 +33,6 @@ mod outcome;
 mod output;
 mod runs;
 mod status;
+mod steps;
 mod tell;
 mod text;

@@ -1,6 +1,7 @@
 //! How a run with an answer ends.
-ghost use Rattle.std.specs.Prelude.{◌≡◌};
-ghost use Rattle.lvl_report.specs.Hints.{outcome_of, shown_outcome};
+ghost use Rattle.std.specs.Prelude.{◌≡◌, option_map};
+ghost use Rattle.lvl_report.specs.Hints.{IsOutcomeOf, shown_outcome};
+ghost use Rattle.lvl_report.specs.inside.Steps.{AreStepsOf};
 ghost use Rattle.lvl_report.specs.Writing.{verdict_status};
 
 use crate::hint::{Hint, hint_of_one, hint_of_two};
@@ -8,11 +9,13 @@ use crate::status::Status;
 use lvl::{Comparison, Refusal, Verdict};
 use lvl_profile::Ignore;
 
-/// Which answer was written, and, if it is a refusal, what would mend it.
-#[derive(Clone, Copy, Debug, PartialEq, Eq)]
+/// Which answer was written; if it is a refusal, what would mend it; and if it is a verdict on files whose grid steps
+/// differ, the line that says so.
+#[derive(Debug, Drop, PartialEq, Eq)]
 pub struct Outcome {
     pub status: Status,
     pub hint: Option<Hint>,
+    pub steps: Option<Vec<u8>>,
 }
 
 fn verdict_status(verdict: &Verdict) -> Status
@@ -24,18 +27,25 @@ fn verdict_status(verdict: &Verdict) -> Status
     }
 }
 
-/// How a run on two files ends. `ignore` is what was ignored.
-pub(crate) fn outcome_of(ignore: Ignore, answer: &Result<Comparison, Refusal>) -> Outcome
-    ensures { result ≡ outcome_of ignore answer.now }
+/// How a run on two files ends. `ignore` is what was ignored, `steps` the line on their grid steps.
+pub(crate) fn outcome_of(
+    ignore: Ignore,
+    answer: &Result<Comparison, Refusal>,
+    steps: Option<Vec<u8>>,
+) -> Outcome
+    requires { AreStepsOf answer.now (option_map (λ text. text.items) steps) }
+    ensures { IsOutcomeOf ignore answer.now result }
 {
     match answer {
         Ok(comparison) => Outcome {
             status: verdict_status(&comparison.verdict),
             hint: None,
+            steps,
         },
         Err(refusal) => Outcome {
             status: Status::Refused,
             hint: hint_of_two(ignore, refusal),
+            steps,
         },
     }
 }
@@ -48,10 +58,12 @@ pub(crate) fn shown_outcome<X>(ignore: Ignore, answer: &Result<X, Refusal>) -> O
         Ok(_) => Outcome {
             status: Status::Shown,
             hint: None,
+            steps: None,
         },
         Err(refusal) => Outcome {
             status: Status::Refused,
             hint: hint_of_one(ignore, refusal),
+            steps: None,
         },
     }
 }

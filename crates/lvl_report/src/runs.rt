@@ -6,8 +6,8 @@ ghost use Rattle.lvl_report.specs.Runs.{IsComparedBy, IsDigestedBy, IsShownBy, I
 ghost use Rattle.lvl.specs.Sides.{given_name};
 ghost use Rattle.lvl_profile.specs.Ignored.{nothing};
 ghost use Rattle.lvl_report.specs.Texts.{text_of, text_of_digested, text_of_shown};
-ghost use Rattle.lvl_report.specs.Hints.{outcome_of, shown_outcome};
-ghost use Rattle.lvl_report.specs.Writing.{status_of, shown_status, is_output};
+ghost use Rattle.lvl_report.specs.Hints.{IsOutcomeOf, shown_outcome};
+ghost use Rattle.lvl_report.specs.Writing.{ends_by, status_of, shown_status, is_output};
 
 use crate::outcome::Outcome;
 use crate::status::{RunFault, Status};
@@ -35,7 +35,7 @@ pub fn run<A: Read, B: Read, W: Write>(
         (A.read_errors first.old) (A.read_errors first.new) (given_name tops.now.first))
         (input nothing (B.remaining second.old) (B.remaining second.new)
         (B.read_errors second.old) (B.read_errors second.new) (given_name tops.now.second)))
-        text_of status_of (W.contents out.old) (W.contents out.new)) }
+        text_of (ends_by status_of) (W.contents out.old) (W.contents out.new)) }
     ensures begun { OnErr result (IsBegun
         (IsComparedBy (input nothing (A.remaining first.old) (A.remaining first.new)
         (A.read_errors first.old) (A.read_errors first.new) (given_name tops.now.first))
@@ -67,7 +67,7 @@ pub fn run_by<A: Read, B: Read, W: Write>(
         (A.read_errors first.old) (A.read_errors first.new) (given_name tops.now.first))
         (input ignore (B.remaining second.old) (B.remaining second.new)
         (B.read_errors second.old) (B.read_errors second.new) (given_name tops.now.second)))
-        text_of (outcome_of ignore) (W.contents out.old) (W.contents out.new)) }
+        text_of (IsOutcomeOf ignore) (W.contents out.old) (W.contents out.new)) }
     ensures begun { OnErr result (IsBegun
         (IsComparedBy (input ignore (A.remaining first.old) (A.remaining first.new)
         (A.read_errors first.old) (A.read_errors first.new) (given_name tops.now.first))
@@ -98,7 +98,7 @@ pub fn run_view<A: Read, B: Read, W: Write>(
         (A.read_errors first.old) (A.read_errors first.new) (given_name tops.now.first))
         (input nothing (B.remaining second.old) (B.remaining second.new)
         (B.read_errors second.old) (B.read_errors second.new) (given_name tops.now.second)))
-        text_of status_of (W.contents out.old) (W.contents out.new)) }
+        text_of (ends_by status_of) (W.contents out.old) (W.contents out.new)) }
     ensures begun { OnErr result (IsBegun
         (IsViewedBy view.now (input nothing (A.remaining first.old) (A.remaining first.new)
         (A.read_errors first.old) (A.read_errors first.new) (given_name tops.now.first))
@@ -130,7 +130,7 @@ pub fn run_view_by<A: Read, B: Read, W: Write>(
         (A.read_errors first.old) (A.read_errors first.new) (given_name tops.now.first))
         (input ignore (B.remaining second.old) (B.remaining second.new)
         (B.read_errors second.old) (B.read_errors second.new) (given_name tops.now.second)))
-        text_of (outcome_of ignore) (W.contents out.old) (W.contents out.new)) }
+        text_of (IsOutcomeOf ignore) (W.contents out.old) (W.contents out.new)) }
     ensures begun { OnErr result (IsBegun
         (IsViewedBy view.now (input ignore (A.remaining first.old) (A.remaining first.new)
         (A.read_errors first.old) (A.read_errors first.new) (given_name tops.now.first))
@@ -159,7 +159,7 @@ pub fn run_show<R: Read, W: Write>(
     ensures written { IfOk result (IsWritten
         (IsShownBy (input nothing (R.remaining reader.old) (R.remaining reader.new)
         (R.read_errors reader.old) (R.read_errors reader.new) (option_copied top.entry)))
-        text_of_shown shown_status (W.contents out.old) (W.contents out.new)) }
+        text_of_shown (ends_by shown_status) (W.contents out.old) (W.contents out.new)) }
     ensures begun { OnErr result (IsBegun
         (IsShownBy (input nothing (R.remaining reader.old) (R.remaining reader.new)
         (R.read_errors reader.old) (R.read_errors reader.new) (option_copied top.entry)))
@@ -185,7 +185,7 @@ pub fn run_show_by<R: Read, W: Write>(
     ensures written { IfOk result (IsWritten
         (IsShownBy (input ignore (R.remaining reader.old) (R.remaining reader.new)
         (R.read_errors reader.old) (R.read_errors reader.new) (option_copied top.entry)))
-        text_of_shown (shown_outcome ignore) (W.contents out.old) (W.contents out.new)) }
+        text_of_shown (ends_by (shown_outcome ignore)) (W.contents out.old) (W.contents out.new)) }
     ensures begun { OnErr result (IsBegun
         (IsShownBy (input ignore (R.remaining reader.old) (R.remaining reader.new)
         (R.read_errors reader.old) (R.read_errors reader.new) (option_copied top.entry)))
@@ -214,7 +214,7 @@ pub fn run_digest<R: Read, W: Write>(
     ensures written { IfOk result (IsWritten
         (IsDigestedBy (input ignore (R.remaining reader.old) (R.remaining reader.new)
         (R.read_errors reader.old) (R.read_errors reader.new) (option_copied top.entry)))
-        text_of_digested (shown_outcome ignore) (W.contents out.old) (W.contents out.new)) }
+        text_of_digested (ends_by (shown_outcome ignore)) (W.contents out.old) (W.contents out.new)) }
     ensures begun { OnErr result (IsBegun
         (IsDigestedBy (input ignore (R.remaining reader.old) (R.remaining reader.new)
         (R.read_errors reader.old) (R.read_errors reader.new) (option_copied top.entry)))

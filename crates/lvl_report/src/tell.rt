@@ -3,13 +3,14 @@ ghost use Rattle.std.specs.Prelude.{◌≡◌, OnOk, OnErr, IfOk, Err};
 ghost use Rattle.std.specs.Io.KnownBytes.{Appends, Keeps};
 ghost use Rattle.lvl_io.specs.Bytes.{CountsFailure};
 ghost use Rattle.lvl_report.specs.Texts.{text_of, text_of_digested, text_of_shown};
-ghost use Rattle.lvl_report.specs.Hints.{outcome_of, shown_outcome};
+ghost use Rattle.lvl_report.specs.Hints.{IsOutcomeOf, shown_outcome};
 ghost use Rattle.lvl_report.specs.Writing.{AppendsBeginning, is_output};
 
 use crate::digest::form_digest;
 use crate::outcome::{Outcome, outcome_of, shown_outcome};
 use crate::output::put;
 use crate::status::RunFault;
+use crate::steps::steps_of;
 use crate::text::{form, form_shown};
 use lvl::{Comparison, Digested, Refusal, Shown};
 use lvl_io::Write;
@@ -25,7 +26,7 @@ pub(crate) fn tell<W: Write>(
     out: &mut W,
 ) -> Result<Outcome, RunFault>
     ensures whole { OnOk result (Appends (W.contents out.old) (W.contents out.new) (text_of answer.now)) }
-    ensures outcome { IfOk result (λ outcome. outcome ≡ outcome_of ignore answer.now) }
+    ensures outcome { IfOk result (IsOutcomeOf ignore answer.now) }
     ensures begun { OnErr result (AppendsBeginning (W.contents out.old) (W.contents out.new) (text_of answer.now)) }
     ensures nothing { result ≡ Err RunFault.OutOfMemory → Keeps (W.contents out.old) (W.contents out.new) }
     ensures errors { CountsFailure (W.write_errors out.old) (W.write_errors out.new) (is_output result) }
@@ -34,8 +35,11 @@ pub(crate) fn tell<W: Write>(
     let Ok(text) = form(alloc, answer) else {
         return Err(RunFault::OutOfMemory);
     };
+    let Ok(steps) = steps_of(alloc, answer) else {
+        return Err(RunFault::OutOfMemory);
+    };
     put(out, &text)?;
-    Ok(outcome_of(ignore, answer))
+    Ok(outcome_of(ignore, answer, steps))
 }
 
 /// Writes the text of what is shown, and returns how the run ends. `ignore` is what was ignored.

@@ -114,6 +114,7 @@ impl GridStep {
     /// zero, negative or out of range.
     pub fn of_gds(real: [u8; 8]) -> Option<GridStep>
         ensures value { IfSome result (IsGdsStep (from_be_bytes w64 real)) }
+        ensures readable { IfSome result IsReadable }
         ensures none { IsNone result → (f : Fraction) → IsGdsStep (from_be_bytes w64 real) f → ¬ IsReadable f }
     {
         of_excess_64(u64::from_be_bytes(real))
@@ -123,6 +124,7 @@ impl GridStep {
     /// number or out of range.
     pub fn of_oasis(unit: &Real) -> Option<GridStep>
         ensures value { IfSome result (IsOasisStep unit.now) }
+        ensures readable { IfSome result IsReadable }
         ensures none { IsNone result → (f : Fraction) → IsOasisStep unit.now f → ¬ IsReadable f }
     {
         match *unit {

@@ -7,7 +7,7 @@ use Rattle.lvl_report.specs.declared.status.RunFault.{RunFault}
 use Rattle.lvl_report.specs.declared.status.RunFault.TheVariants.{Output as RunOutput, OutOfMemory as RunOutOfMemory}
 use Rattle.lvl_report.specs.Runs.{Input, IsWritten, IsBegun}
 use Rattle.lvl_report.specs.Texts.{text_of}
-use Rattle.lvl_report.specs.Hints.{outcome_of}
+use Rattle.lvl_report.specs.Hints.{IsOutcomeOf}
 use Rattle.lvl_view.specs.Views.{PlainView, IsFaultOf}
 use Rattle.lvl_job.specs.declared.fault.JobFault.{JobFault}
 use Rattle.lvl_job.specs.declared.fault.JobFault.TheVariants.{BadView, BadIgnore, NotOpened, OutOfMemory, Output}
@@ -39,7 +39,7 @@ abbrev pub IsPairAnswered : {S : Type 0} → (S → List ℕ → Option (Option 
     → Named → Named → S → S → Option (List ℕ) → Option (List ℕ) → Outcome → Type 0
 IsPairAnswered opens view a b old new from to outcome =
     OfTwo opens old new a b
-    (λ x y. IsWritten (IsComparedUnder view x y) text_of (outcome_of a.ignore) from to outcome)
+    (λ x y. IsWritten (IsComparedUnder view x y) text_of (IsOutcomeOf a.ignore) from to outcome)
 
 -- why a comparison under a view has no answer
 abbrev pub IsPairFault : {S : Type 0} → (S → List ℕ → Option (Option (List ℕ)) → S → Type 0) → Option PlainView
@@ -54,10 +54,10 @@ IsPairFault opens view a b old new from to Output =
 
 -- the answer of a run on one file was written
 abbrev pub IsOneAnswered : {S X : Type 0} → (S → List ℕ → Option (Option (List ℕ)) → S → Type 0)
-    → (Input → X → Type 0) → (X → List ℕ) → (X → Outcome)
+    → (Input → X → Type 0) → (X → List ℕ) → (X → Outcome → Type 0)
     → Named → S → S → Option (List ℕ) → Option (List ℕ) → Outcome → Type 0
-IsOneAnswered opens IsAnswerOf text end_of a old new from to outcome =
-    OfOne opens old new a (λ x. IsWritten (IsAnswerOf x) text end_of from to outcome)
+IsOneAnswered opens IsAnswerOf text Ends a old new from to outcome =
+    OfOne opens old new a (λ x. IsWritten (IsAnswerOf x) text Ends from to outcome)
 
 -- why a run on one file has no answer
 abbrev pub IsOneFault : {S X : Type 0} → (S → List ℕ → Option (Option (List ℕ)) → S → Type 0)

@@ -1,11 +1,11 @@
 use Rattle.lvl_report.specs.Texts.{text_of}
-use Rattle.lvl_report.specs.Hints.{outcome_of}
+use Rattle.lvl_report.specs.Hints.{IsOutcomeOf}
 use Rattle.lvl_report.proofs.Running.{written_as, begun_as, whole_answer}
 use Rattle.lvl_report.proofs.runs.run_by.Goals as goal
 
 pub returns-clause-written : goal.returns-clause-written
 returns-clause-written g c =
-    written_as text_of (outcome_of c.args.ignore) _ _ c.run_view_by-2.result
+    written_as text_of (IsOutcomeOf c.args.ignore) _ _ c.run_view_by-2.result
     (λ answer. whole_answer _ c.whole.ensures _ _ answer)
     c.run_view_by-2.ensures.written
 
