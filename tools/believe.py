@@ -89,6 +89,11 @@ class Module:
                 self.parts[variant] = definition
 
 
+def name_of(file):
+    """The name of the module that a file of `specs/` is."""
+    return ".".join(file.relative_to(CRATES).with_suffix("").parts)
+
+
 def comment_of(text):
     """The comment lines at the front of the text, as one line."""
     rows = []
@@ -115,7 +120,8 @@ def words_of(text):
     text = re.sub(r"--[^\n]*", "", text)
     text = re.sub(r"(?<=[\w')])\.[\w-]+", "", text)
     text = re.sub(r"([{;]|^ +)\s*[\w-]+ = ", r"\1 ", text, flags=re.M)
-    bound = set(re.findall(r"^  (?:  )?(?:pub )?([\w'-]+) : ", text, re.M))
+    text = re.sub(r"^  (?:  )?(?:pub )?[\w'-]+ : ", "", text, flags=re.M)
+    bound = set()
     for names in re.findall(r"[({]([\w' -]+) : ", text) + re.findall(r"λ ([\w' -]+)\.", text):
         bound.update(names.split())
     words = re.findall(r"[^\s(){}\[\],;]+", text)
@@ -130,8 +136,7 @@ class Book:
         self.types = {}
         self.words = {}
         for file in sorted(CRATES.glob("*/specs/**/*.antt")):
-            name = ".".join(file.relative_to(CRATES).with_suffix("").parts)
-            self.modules[name] = Module(file)
+            self.modules[name_of(file)] = Module(file)
 
     def type_of(self, path):
         """The type of the code that a module `CRATE.specs.declared.FILE.NAME` stands for."""
@@ -186,7 +191,7 @@ class Book:
                 continue
             found[key] = definition
             if not definition.is_type:
-                module = ".".join(definition.file.relative_to(CRATES).with_suffix("").parts)
+                module = name_of(definition.file)
                 words = words_of(definition.text)
                 stack.extend(reversed(self.named_in(words, module, self.modules[module].imports)))
         return found
@@ -248,7 +253,7 @@ def tally(definitions):
     return f"{len(made)}, {sum(d.lines for d in made):,} lines" if made else ""
 
 
-def listed(found):
+def listed(book, found):
     """The definitions of a part, by subject and file; in a file in its order, in which each follows those it names."""
     rows = []
     for subject, definitions in by_subject(found).items():
@@ -260,7 +265,9 @@ def listed(found):
         order = sorted(files, key=lambda file: file.suffix == ".rt")
         for file in order:
             path = file.relative_to(ROOT)
-            rows.append(f"[`{path.relative_to('crates')}`](../{path})\n")
+            module = book.modules.get(name_of(file))
+            head = f": {module.head}" if module and module.head else ""
+            rows.append(f"[`{path.relative_to('crates')}`](../{path}){head}\n")
             for d in sorted(files[file], key=lambda d: d.line):
                 kind = ", a type" if d.is_type else ""
                 rows.append(f"- `{d.name}` ({d.line}{kind}): {d.comment}")
@@ -286,9 +293,9 @@ code with them, and a checker reads the proofs; the definitions themselves only 
 `tools/believe.py` writes the page, and `.ci/run` refuses another one. It begins with the names in the contracts of
 `compare_layouts`, and then of `compare_view`, `compare_files`, `digest_file` and `digests_decide`, and goes from each
 definition to all those that it names; each is listed once, in the first part that needs it. A number is the line in
-the file, and what follows it is the comment that stands there. Lines are counted without comments, and types of the
-code aren't counted. What the program prints (`lvl_text`, `lvl_report`, `lvl_job`, `lvl_line`) has definitions of its
-own, which the verdict doesn't need.
+the file, and what follows it is the comment that stands there; a file is followed by its first comment. Lines are
+counted without comments, and types of the code aren't counted. What the program prints (`lvl_text`, `lvl_report`,
+`lvl_job`, `lvl_line`) has definitions of its own, which the verdict doesn't need.
 """
 
 
@@ -303,7 +310,7 @@ def page(book):
     head = re.sub(r"(?<!\n)\n(?!\n)", " ", HEAD.strip())
     text = head + "\n\n" + counts(parts) + "\n"
     for title, found in parts:
-        text += f"\n## {title}\n\n{listed(found)}"
+        text += f"\n## {title}\n\n{listed(book, found)}"
     text += "\n## Words of Rattle's library\n\nThese are explained in the library itself.\n\n"
     return text + standard_words(book.words) + "\n", known
 
@@ -316,7 +323,7 @@ def faults(book, known):
             yield f"{place} has no comment"
         if d.is_type or subject_of(d) not in SECTIONS:
             continue
-        module = book.modules[".".join(d.file.relative_to(CRATES).with_suffix("").parts)]
+        module = book.modules[name_of(d.file)]
         said = module.head + " " + d.comment
         if not SECTIONS[subject_of(d)].search(said) and not OWN.search(said):
             yield f"{place} names no section of its standard"

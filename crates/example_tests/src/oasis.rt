@@ -2,6 +2,7 @@
 
 use lvl_io::fake::Pieces;
 use lvl_profile::Ignore;
+use lvl_units::GridStep;
 use oasis_figures::{Drawn, Modal};
 use oasis_library::read_oasis;
 use oasis_records::{Record, RecordType, read_fields, read_id};
@@ -84,5 +85,17 @@ fn libraries(rt: HostRuntime) -> Result<(), Fail> {
     let (library, head) = read_oasis(alloc, &mut Pieces::new(&bytes, usize::MAX))?;
     assert_eq!(rt; library.cells.len(), 1);
     assert_eq!(rt; head.unit, Real::Whole(1000));
+    Ok(())
+}
+
+#[test]
+fn grid_steps(rt: HostRuntime) -> Result<(), Fail> {
+    let nanometre = [0x39, 0x44, 0xb8, 0x2f, 0xa0, 0x9b, 0x5a, 0x54];
+    let first = GridStep::of_gds(nanometre).ok_or("a length")?;
+    let second = GridStep::of_oasis(&Real::Whole(1000)).ok_or("a length")?;
+    assert!(rt; !first.is_apart(second));
+    assert_eq!(rt; first.millionths(), 1_000_000);
+    let twice = GridStep::of_oasis(&Real::Whole(500)).ok_or("a length")?;
+    assert!(rt; first.is_apart(twice));
     Ok(())
 }

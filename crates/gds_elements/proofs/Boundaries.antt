@@ -5,7 +5,8 @@ use Rattle.gds_elements.specs.Types.{boundary, layer, datatype, xy, endel}
 use Rattle.lvl_grammar.specs.Order.{one}
 use Rattle.gds_elements.specs.Rec.{Rec, opener, field}
 use Rattle.gds_elements.specs.Values.{short, magnitude, points, but_last}
-use Rattle.gds_elements.specs.Meaning.{layer_of, shapes_by, references_by, in_rings, one_place}
+use Rattle.gds_elements.specs.Meaning.{layer_of, shapes_by, references_by, in_rings}
+use Rattle.lvl_names.specs.Shifts.{one_place}
 use Rattle.gds_elements.specs.inside.Boundary.{left, IsBoundary}
 use Rattle.gds_elements.specs.inside.Reading.{IsAtEnd}
 use Rattle.gds_elements.specs.declared.boundary.Boundary.{Boundary}

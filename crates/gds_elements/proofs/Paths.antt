@@ -13,7 +13,7 @@ use Rattle.lvl_grammar.specs.Order.{one}
 use Rattle.gds_elements.specs.Rec.{Rec, opener, field, last_of, payload_of}
 use Rattle.gds_elements.specs.Values.{short, magnitude, points}
 use Rattle.gds_elements.specs.Meaning.{layer_of, half, half_of, end_of, end_reach, shapes_by, references_by, in_rings}
-use Rattle.gds_elements.specs.Meaning.{one_place}
+use Rattle.lvl_names.specs.Shifts.{one_place}
 use Rattle.gds_elements.specs.inside.Path.{left, half_in, IsPathRead, reach_at, IsBandsFault}
 use Rattle.gds_elements.specs.Rules.{ValueBreaches}
 use Rattle.gds_elements.specs.declared.fault.ElementRule.{ElementRule}

@@ -5,7 +5,8 @@ use Rattle.gds_elements.specs.Types.{sref, sname, strans, angle, xy, endel}
 use Rattle.lvl_grammar.specs.Order.{one}
 use Rattle.gds_elements.specs.Rec.{Rec, opener}
 use Rattle.gds_elements.specs.Values.{name, flips, turn, points, nth}
-use Rattle.gds_elements.specs.Meaning.{shapes_by, references_by, in_rings, one_place}
+use Rattle.gds_elements.specs.Meaning.{shapes_by, references_by, in_rings}
+use Rattle.lvl_names.specs.Shifts.{one_place}
 use Rattle.gds_elements.specs.inside.Sref.{left, IsSrefRead}
 use Rattle.gds_elements.specs.inside.Reading.{IsAtEnd}
 use Rattle.gds_elements.specs.declared.sref.Sref.{Sref}

@@ -7,15 +7,11 @@ use Rattle.lvl_grid.specs.declared.point.Point.{Point}
 use Rattle.lvl_path.specs.Figure.{Figure, rings, path as path_along, figure_rings}
 use Rattle.lvl_names.specs.declared.layer.Layer.{Layer}
 use Rattle.lvl_cells.specs.Cells.{PlainShape, PlainReference, Rings}
-use Rattle.lvl_names.specs.Shifts.{lattice}
+use Rattle.lvl_names.specs.Shifts.{lattice, one_place}
 use Rattle.gds_elements.specs.Types.{boundary, path, sref, aref, layer, datatype, width, xy, sname, colrow, strans}
 use Rattle.gds_elements.specs.Types.{angle, pathtype}
 use Rattle.gds_elements.specs.Rec.{Rec, opener, field, last_of}
 use Rattle.gds_elements.specs.Values.{short, long, points, nth, name, magnitude, but_last, flips, turn, columns, rows}
-
--- the zero shift alone
-abbrev pub one_place : List Point
-one_place = record { x = pos 0; y = pos 0 } ∷ []
 
 -- the layer and datatype of a shape
 abbrev pub layer_of : List Rec → Layer

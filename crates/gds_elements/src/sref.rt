@@ -4,7 +4,7 @@ ghost use Rattle.lvl_cells.specs.Cells.{PlainReference};
 ghost use Rattle.gds_elements.specs.Types.{sref, xy};
 ghost use Rattle.gds_elements.specs.Values.{points, nth};
 ghost use Rattle.gds_elements.specs.Rec.{Rec};
-ghost use Rattle.gds_elements.specs.Meaning.{one_place};
+ghost use Rattle.lvl_names.specs.Shifts.{one_place};
 ghost use Rattle.lvl_grammar.specs.inside.After.{after_first};
 ghost use Rattle.gds_elements.specs.inside.Left.{left_after, EndsBy};
 ghost use Rattle.gds_elements.specs.inside.Formed.{IsFormed};

@@ -12,7 +12,6 @@ use Rattle.gds_records.specs.Spelled.{IsOfForm}
 use Rattle.gds_records.specs.declared.form.Form.{Form}
 use Rattle.gds_elements.specs.Rec.{Rec, an_end}
 use Rattle.gds_elements.specs.Rules.{IsKnown}
-use Rattle.gds_elements.specs.declared.fault.Misplaced.TheVariants.{Unsupported}
 use Rattle.gds_library.specs.Types.{reflibs, fonts, generations, attrtable, elflags, propattr, propvalue, plex}
 use Rattle.gds_library.specs.Types.{strclass, format, libdirsize, srfname, libsecur}
 use Rattle.gds_library.specs.Rec.{Spells}
@@ -22,10 +21,10 @@ use Rattle.gds_library.specs.Front.{gds, SpellsLibrary}
 use Rattle.gds_library.specs.Values.{drawings, head}
 use Rattle.gds_library.specs.Drawn.{Drawing}
 use Rattle.gds_library.specs.declared.head.GdsHead.{GdsHead}
-use Rattle.gds_library.specs.declared.fault.GdsKind.TheVariants.{Misplaced}
 use Rattle.gds_library.proofs.Spellings.{a_fill}
 use Rattle.gds_library.proofs.Passing.{essential_kept, essential_passed, fill_unpassed, follows_passed}
-use Rattle.gds_library.proofs.Passing.{follows_essential, breach_by}
+use Rattle.gds_library.proofs.Passing.{follows_essential}
+use Rattle.gds_library.proofs.Known.{ordered_known}
 
 -- the form of a type among two lists of rows
 form_left : (xs ys : List Row) (k : ℕ) (f : Form) → form_among xs k ≡ Some f → form_among (xs ++ ys) k ≡ Some f
@@ -137,23 +136,12 @@ IsSorted less r = (is_passed less r ≡ true) ⊎ (IsKnown r.kind ⊎ (r ≡ a_f
 sorted : (less : Ignore) (before : List Rec) (r : Rec) (bytes : List ℕ) → Spells less bytes r
     → MayFollowBy less before r → IsSorted less r
 sorted less before r bytes s f = elim s [
-  | inl i ↦ go (is_passed less r) refl (is_some (form_among table r.kind)) refl
-      (λ n m. f.1 (Misplaced (Unsupported r.kind)) (
-        refl,
-        i.0.known,
-        λ k. elim k [
-          | inl p ↦ (let z : true ≡ false = sym p ∙ n in cc)
-          | inr q ↦ (let z : true ≡ false = sym q ∙ m in cc)
-        ],
-      ))
+  | inl i ↦ elim f.0 [
+    | inl p ↦ inl p.0
+    | inr e ↦ inr (inl (ordered_known (essential less before) r e.ordered i.0.known))
+  ]
   | inr j ↦ inr (inr j.0)
 ]
-  where
-    go : (b : Bool) → is_passed less r ≡ b → (c : Bool) → is_some (form_among table r.kind) ≡ c
-        → (is_passed less r ≡ false → is_some (form_among table r.kind) ≡ false → ⊥) → IsSorted less r
-    go true e c g none = inl e
-    go false e true g none = inr (inl g)
-    go false e false g none = absurd (none e g)
 
 -- and stays so when more is ignored
 same_passed : (less more : Ignore) → IsSubsetOf less more → (r : Rec) → IsSorted less r
@@ -219,7 +207,7 @@ follows_grows less more w before r same s f = elim f.0 [
   })
   | inr e ↦ follows_essential more before r (same_passed less more w r s ∙ e.unpassed) e.complete
       (subst (λ l. MayFollow l r) (sym same)
-      (e.ordered, λ k b. f.1 k (breach_by less before r k e.unpassed e.complete b)))
+      (e.ordered, f.1 e.unpassed))
 ]
 
 -- one more record is ignored in both cases, or in neither

@@ -20,7 +20,7 @@ use Rattle.gds_library.specs.Order.{a_library, a_structure}
 use Rattle.gds_library.specs.Rec.{Spells}
 use Rattle.gds_library.specs.Rules.{IsWhole, InOrder}
 use Rattle.gds_library.specs.Ignoring.{essential, IsWholeBy, InOrderBy, BreachesBy, MayFollowBy}
-use Rattle.gds_library.proofs.Passing.{fill_unpassed}
+use Rattle.gds_library.proofs.Passing.{fill_unpassed, follows_kept}
 use Rattle.gds_library.specs.Front.{gds}
 use Rattle.gds_library.specs.Faults.{StartsWith, IsWrong, gds_faults}
 use Rattle.gds_library.specs.declared.fault.GdsKind.{GdsKind}
@@ -110,7 +110,7 @@ stops_record : (ignore : Ignore) (before : List Rec) (room : ℕ) (ys text : Lis
     → (r : Rec) × StartsWith ignore room ys r × BreachesBy ignore before r k
     → Spells ignore text s → MayFollowBy ignore before s → Agree text ys → ⊥
 stops_record ignore before room ys text s k n w p f agree = elim p [
-  | inl i ↦ f.1 k (subst (λ (x : Rec). BreachesBy ignore before x k)
+  | inl i ↦ follows_kept ignore before s k f (subst (λ (x : Rec). BreachesBy ignore before x k)
       (sym (starts_same ignore room ys text w.0 s w.1 i.1 agree)) w.2)
   | inr i ↦ n (fill_whole ignore before (subst (InOrderBy ignore before) i.0 f.0))
 ]

@@ -18,8 +18,10 @@ use Rattle.gds_library.specs.Rules.{Breaches, BreachesOnly, MayFollow}
 use Rattle.gds_library.specs.Ignoring.{is_passed, essential, last_type, AwaitsValue, MayPass, MayCome, InOrderBy}
 use Rattle.gds_library.specs.Ignoring.{IsKnownBy, IsMisplacedBy, BreachesBy, BreachesOnlyBy, MayFollowBy}
 use Rattle.gds_library.specs.declared.fault.GdsKind.{GdsKind}
-use Rattle.gds_library.specs.declared.fault.GdsKind.TheVariants.{Misplaced}
+use Rattle.gds_library.specs.declared.fault.GdsKind.TheVariants.{Record, Misplaced, Element, Name, AfterEnd}
+use Rattle.gds_library.specs.declared.fault.GdsKind.TheVariants.{TooManyCells}
 use Rattle.gds_library.proofs.Spellings.{a_fill}
+use Rattle.gds_library.proofs.Known.{ordered_known}
 
 -- one more ignored record doesn't change the others
 pub essential_passed : (ignore : Ignore) (rs : List Rec) (r : Rec) → is_passed ignore r ≡ true
@@ -71,19 +73,10 @@ passed_only : (ignore : Ignore) (before : List Rec) (r : Rec) (k : GdsKind) → 
 passed_only ignore before r (Misplaced m) e b = (m, refl, b)
 passed_only ignore before r other e b = absurd (let z : true ≡ false = sym e ∙ b.0 in cc)
 
-misplaced_not : (ignore : Ignore) (before : List Rec) (r : Rec) (m : Misplacement) → InOrderBy ignore before r
-    → IsKnownBy ignore r → IsMisplacedBy ignore before r m → ⊥
-misplaced_not ignore before r (Unexpected j) o k x = x.2 o
-misplaced_not ignore before r (Unsupported j) o k x = x.2 k
-
 -- it may follow if it is in order
 pub follows_passed : (ignore : Ignore) (before : List Rec) (r : Rec) → is_passed ignore r ≡ true
     → MayPass ignore before r → MayFollowBy ignore before r
-follows_passed ignore before r e p =
-    let o : InOrderBy ignore before r = inl (e, p) in (
-      o,
-      λ k b. let x = passed_only ignore before r k e b in misplaced_not ignore before r x.0 o (inl e) x.2,
-    )
+follows_passed ignore before r e p = (inl (e, p), λ n. (let z : true ≡ false = sym e ∙ n in cc))
 
 unexpected : (ignore : Ignore) (before : List Rec) (r : Rec) (m : Misplacement) → IsKnownBy ignore r
     → IsMisplacedBy ignore before r m → m ≡ Unexpected r.kind
@@ -147,7 +140,7 @@ pub follows_essential : (ignore : Ignore) (before : List Rec) (r : Rec) → is_p
     → (AwaitsValue before → ⊥) → MayFollow (essential ignore before) r → MayFollowBy ignore before r
 follows_essential ignore before r e c f = (
   inr (record { unpassed = e; complete = c; ordered = f.0 }),
-  λ k b. f.1 k (breach_back ignore before r k e c b),
+  λ _. f.1,
 )
 
 -- and is refused by the same rule
@@ -208,4 +201,24 @@ refuses_waiting ignore before r m e w x l = (
 -- a PROPATTR that isn't ignored is never in order
 pub never_waits : (es : List Rec) (r : Rec) → MayFollow es r → r.kind ≡ propattr → ⊥
 never_waits es r f e =
-    f.1 (Misplaced (Unsupported propattr)) (e, omega arith, λ k. (let z : false ≡ true = k in cc))
+    (let z : false ≡ true = subst IsKnown e (ordered_known es r f.0 (omega (arith, e))) in cc)
+
+-- a record that may come next is one that is read or ignored
+ordered_by : (ignore : Ignore) (before : List Rec) (r : Rec) → InOrderBy ignore before r → r.kind < 60
+    → IsKnownBy ignore r
+ordered_by ignore before r o l = elim o [
+  | inl p ↦ inl p.0
+  | inr e ↦ inr (ordered_known (essential ignore before) r e.ordered l)
+]
+
+-- a record that may follow breaches no rule
+pub follows_kept : (ignore : Ignore) (before : List Rec) (r : Rec) (k : GdsKind) → MayFollowBy ignore before r
+    → BreachesBy ignore before r k → ⊥
+follows_kept ignore before r (Record f) g b = b.2
+follows_kept ignore before r (Misplaced (Unexpected j)) g b = b.2 g.0
+follows_kept ignore before r (Misplaced (Unsupported j)) g b =
+    b.2 (ordered_by ignore before r g.0 (omega (arith, b.0, b.1)))
+follows_kept ignore before r (Element k) g b = (g.1 b.0).element k b.2.1
+follows_kept ignore before r Name g b = b.2.2 ((g.1 b.0).name b.2.1)
+follows_kept ignore before r AfterEnd g b = b.2
+follows_kept ignore before r TooManyCells g b = omega (arith, b.2.2, (g.1 b.0).cells b.2.1)

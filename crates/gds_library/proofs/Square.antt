@@ -19,7 +19,7 @@ use Rattle.gds_elements.specs.Types.{boundary, strname, bgnstr, layer, datatype,
 use Rattle.gds_elements.specs.Order.{an_element}
 use Rattle.gds_elements.specs.Rec.{Rec, kinds, opener, is_opener}
 use Rattle.gds_elements.specs.Values.{points}
-use Rattle.gds_elements.specs.Rules.{IsKnown, steps, ValueBreaches}
+use Rattle.gds_elements.specs.Rules.{steps, ValueBreaches}
 use Rattle.gds_elements.specs.declared.fault.ElementRule.{ElementRule}
 use Rattle.gds_elements.proofs.Allowed.{allowed, law_boundary}
 use Rattle.gds_elements.proofs.OneRule.{is_value}
@@ -162,11 +162,11 @@ word : IsWord a_library (kinds square)
 word = elim (accepted (a_library ∷ []) (kinds square) refl) [ inl x ↦ x | inr y ↦ absurd y ]
 
 -- a record whose value no rule of an element tests, and which neither begins nor names a structure
-plain : (n : ℕ) (before : List Rec) (r : Rec) → is_value r.kind ≡ false → IsKnown r.kind → r.kind == strname ≡ false
+plain : (n : ℕ) (before : List Rec) (r : Rec) → is_value r.kind ≡ false → r.kind == strname ≡ false
     → r.kind == bgnstr ≡ false → IsWord a_library (kinds (before ++ r ∷ []) ++ kinds (drop n square))
     → MayFollow before r
-plain n before r v k s b w =
-    may_follow before r v (kinds (drop n square), w) (λ _. k) (λ e. absurd (is_not r.kind strname s e))
+plain n before r v s b w =
+    may_follow before r v (kinds (drop n square), w) (λ e. absurd (is_not r.kind strname s e))
     (λ e. absurd (is_not r.kind bgnstr b e))
 
 -- a record of the boundary
@@ -237,13 +237,13 @@ points_follow =
 
 ends_follow : FollowAll (gds nothing) (take 10 square) (drop 10 square)
 ends_follow = (
-  follows (take 10 square) (rec 0x11 0 []) (plain 11 (take 10 square) (rec 0x11 0 []) refl refl refl refl word)
+  follows (take 10 square) (rec 0x11 0 []) (plain 11 (take 10 square) (rec 0x11 0 []) refl refl refl word)
       (λ w. cc),
   (
-    follows (take 11 square) (rec 0x07 0 []) (plain 12 (take 11 square) (rec 0x07 0 []) refl refl refl refl word)
+    follows (take 11 square) (rec 0x07 0 []) (plain 12 (take 11 square) (rec 0x07 0 []) refl refl refl word)
         (λ w. cc),
     (
-      follows (take 12 square) (rec 0x04 0 []) (plain 13 (take 12 square) (rec 0x04 0 []) refl refl refl refl word)
+      follows (take 12 square) (rec 0x04 0 []) (plain 13 (take 12 square) (rec 0x04 0 []) refl refl refl word)
           (λ w. cc),
       tt,
     ),
@@ -252,7 +252,7 @@ ends_follow = (
 
 element_follows : FollowAll (gds nothing) (take 6 square) (drop 6 square)
 element_follows = (
-  follows (take 6 square) (rec 0x08 0 []) (plain 7 (take 6 square) (rec 0x08 0 []) refl refl refl refl word) (λ w. cc),
+  follows (take 6 square) (rec 0x08 0 []) (plain 7 (take 6 square) (rec 0x08 0 []) refl refl refl word) (λ w. cc),
   (
     follows (take 7 square) (rec 0x0D 2 (0 ∷ 1 ∷ [])) layer_follows (λ w. cc),
     (
@@ -264,26 +264,26 @@ element_follows = (
 
 structure_follows : MayFollow (take 4 square) (rec 0x05 2 dates)
 structure_follows =
-    may_follow (take 4 square) (rec 0x05 2 dates) refl (kinds (drop 5 square), word) (λ _. refl)
+    may_follow (take 4 square) (rec 0x05 2 dates) refl (kinds (drop 5 square), word)
     (λ e. absurd (is_not 0x05 strname refl e)) (λ _. ltb-true 0 cell_limit refl)
 
 name_follows : MayFollow (take 5 square) (rec 0x06 6 (0x54 ∷ 0x4F ∷ 0x50 ∷ 0 ∷ []))
 name_follows =
-    may_follow (take 5 square) (rec 0x06 6 (0x54 ∷ 0x4F ∷ 0x50 ∷ 0 ∷ [])) refl (kinds (drop 6 square), word) (λ _. refl)
+    may_follow (take 5 square) (rec 0x06 6 (0x54 ∷ 0x4F ∷ 0x50 ∷ 0 ∷ [])) refl (kinds (drop 6 square), word)
     (λ _. top_name) (λ e. absurd (is_not 0x06 bgnstr refl e))
 
 followed : FollowAll (gds nothing) [] square
 followed = (
   follows (take 0 square) (rec 0x00 2 (2 ∷ 0x58 ∷ []))
-      (plain 1 (take 0 square) (rec 0x00 2 (2 ∷ 0x58 ∷ [])) refl refl refl refl word) (λ w. cc),
+      (plain 1 (take 0 square) (rec 0x00 2 (2 ∷ 0x58 ∷ [])) refl refl refl word) (λ w. cc),
   (
-    follows (take 1 square) (rec 0x01 2 dates) (plain 2 (take 1 square) (rec 0x01 2 dates) refl refl refl refl word)
+    follows (take 1 square) (rec 0x01 2 dates) (plain 2 (take 1 square) (rec 0x01 2 dates) refl refl refl word)
         (λ w. cc),
     (
       follows (take 2 square) (rec 0x02 6 (0x4C ∷ 0x42 ∷ []))
-          (plain 3 (take 2 square) (rec 0x02 6 (0x4C ∷ 0x42 ∷ [])) refl refl refl refl word) (λ w. cc),
+          (plain 3 (take 2 square) (rec 0x02 6 (0x4C ∷ 0x42 ∷ [])) refl refl refl word) (λ w. cc),
       (
-        follows (take 3 square) (rec 0x03 5 ones) (plain 4 (take 3 square) (rec 0x03 5 ones) refl refl refl refl word)
+        follows (take 3 square) (rec 0x03 5 ones) (plain 4 (take 3 square) (rec 0x03 5 ones) refl refl refl word)
             (λ w. cc),
         (
           follows (take 4 square) (rec 0x05 2 dates) structure_follows (λ w. cc),

@@ -11,7 +11,7 @@ use Rattle.lvl_grammar.specs.Order.{IsWord, Begins, has}
 use Rattle.gds_elements.specs.Order.{an_element, opens}
 use Rattle.gds_elements.specs.Rec.{Rec, kinds, is_type, is_opener, field, an_end}
 use Rattle.gds_elements.specs.Values.{short, name}
-use Rattle.gds_elements.specs.Rules.{IsKnown, ElementBreaches, ValueBreaches as BreachesInElement}
+use Rattle.gds_elements.specs.Rules.{ElementBreaches, ValueBreaches as BreachesInElement}
 use Rattle.lvl_names.specs.Names.{IsName}
 use Rattle.gds_elements.specs.Rules.{InOrder as InOrderInElement, BreachesNone as KeepsElement}
 use Rattle.gds_elements.specs.Rules.{BreachesOnly as OnlyInElement}
@@ -33,7 +33,6 @@ use Rattle.gds_library.specs.inside.Faults.{IsAllowed, lifted, lifted_refusal}
 use Rattle.lvl_refusal.specs.Refused.{Says}
 use Rattle.lvl_refusal.specs.declared.Cause.{Cause}
 use Rattle.lvl_refusal.specs.declared.Cause.TheVariants.{Breach, OutOfMemory}
-use Rattle.gds_elements.specs.declared.fault.Misplaced.TheVariants.{Unexpected, Unsupported}
 use Rattle.gds_elements.specs.declared.fault.ElementFault.{ElementFault}
 use Rattle.gds_elements.specs.declared.fault.ElementFault.TheVariants.{Misplaced as MisplacedInElement, Rule}
 use Rattle.gds_elements.proofs.Leads.{misplaced_carried}
@@ -51,40 +50,29 @@ use Rattle.gds_library.specs.declared.reading.Reading.{Reading}
 use Rattle.gds_library.proofs.Places.{leads_on, leads_begins, leads_nowhere}
 use Rattle.gds_library.proofs.Elements.{IsOpen, begins_open, reading_open, leads_element, begins_inside, open_goes}
 use Rattle.gds_library.proofs.Pieces.{IsPiece, if_ap, reading_piece, word_piece, last_opened, piece_lacks, field_past}
-use Rattle.gds_library.proofs.Outside.{outside_after, known_after, opener_is}
+use Rattle.gds_library.proofs.Outside.{outside_after, opener_is}
 use Rattle.gds_library.proofs.Drawn.{drawings-snoc, drawings_element}
 use Rattle.gds_library.proofs.Grown.{same_place, none_some}
 use Rattle.gds_library.proofs.Spellings.{a_fill, map-append}
 use Rattle.gds_library.proofs.Refusing.{kept_many, cells_shown, is_not, no_rule}
 
 -- a record whose value no rule of an element tests may follow if the order, its name and the number of cells allow it
-pub may_follow : (rs : List Rec) (r : Rec) → is_value r.kind ≡ false → InOrder rs r → (r.kind < 60 → IsKnown r.kind)
+pub may_follow : (rs : List Rec) (r : Rec) → is_value r.kind ≡ false → InOrder rs r
     → (r.kind ≡ strname → IsName (name r.payload))
     → (r.kind ≡ bgnstr → length (pieces (is_type bgnstr) rs) < cell_limit) → MayFollow rs r
-may_follow rs r v g i m c = (g, none)
-  where
-    none : (k : GdsKind) → Breaches rs r k → ⊥
-    none (Record f) x = x
-    none (Misplaced (Unexpected j)) x = x.2 g
-    none (Misplaced (Unsupported j)) x = x.2 (subst IsKnown x.0 (i (omega (arith, x.0, x.1))))
-    none (Element k) x = no_rule _ r k v x.1
-    none Name x = x.2 (m x.1)
-    none AfterEnd x = x
-    none TooManyCells x = omega (arith, x.2, c x.1)
+may_follow rs r v g m c = (g, record { element = λ k x. no_rule _ r k v x; name = m; cells = c })
 
 -- a record of an element may follow if it breaches no rule of the element
 pub may_follow_inside : (rs piece : List Rec) (r : Rec) → last_piece is_opener rs ≡ piece → KeepsElement piece r
     → InOrderInElement piece r → InOrder rs r → r.kind == strname ≡ false → r.kind == bgnstr ≡ false → MayFollow rs r
-may_follow_inside rs piece r e n o g s b = (g, none)
-  where
-    none : (k : GdsKind) → Breaches rs r k → ⊥
-    none (Record f) x = x
-    none (Misplaced m) x = n (MisplacedInElement m) (misplaced_carried (InOrder rs r) (InOrderInElement piece r) r m
-        (λ _. g) x)
-    none (Element k) x = n (Rule k) (o, subst (λ p. BreachesInElement p r k) e x.1)
-    none Name x = is_not r.kind strname s x.1
-    none AfterEnd x = x
-    none TooManyCells x = is_not r.kind bgnstr b x.1
+may_follow_inside rs piece r e n o g s b = (
+  g,
+  record {
+    element = λ k x. n (Rule k) (o, subst (λ p. BreachesInElement p r k) e x);
+    name = λ h. absurd (is_not r.kind strname s h);
+    cells = λ h. absurd (is_not r.kind bgnstr b h);
+  },
+)
 
 -- a record may come next in an open element exactly if it may come next in the library
 order_inside : (before piece : List Rec) (r : Rec) → LeadsTo a_library (kinds before) (left Elements)
@@ -235,15 +223,15 @@ pub law_allowed : (b b' : Builder) (rs : List Rec) (r : Rec) → Holds b rs → 
     → after b.stage r.kind ≡ Some b'.stage → IsAllowed (length b.cells.cells) r.kind r.payload → MayFollow rs r
 law_allowed b b' rs r h h' l e a =
     may_follow rs r (outside_after b.stage b'.stage r.kind e).value (leads_begins (kinds (rs ++ r ∷ [])) b'.stage
-    h'.leads) (λ l. known_after b.stage b'.stage r.kind l e) a.name
+    h'.leads) a.name
     (λ k. (let n = cells_shown b.stage b'.stage b (subst (λ i. after b.stage i ≡ Some b'.stage) k e) in
     omega (arith, a.cells k, n, ap (λ ds. length ds) h.shown, kept_many rs)))
 
 -- a zero byte after ENDLIB breaches no rule
 pub law_fill : (rs : List Rec) → Begins a_library (kinds (rs ++ a_fill ∷ [])) → MayFollow rs a_fill
 law_fill rs g =
-    may_follow rs a_fill (outside_after Fill Fill fill refl).value g (λ l. absurd (omega (arith, l)))
-    (λ e. absurd (omega (arith, e))) (λ e. absurd (omega (arith, e)))
+    may_follow rs a_fill (outside_after Fill Fill fill refl).value g (λ e. absurd (omega (arith, e)))
+    (λ e. absurd (omega (arith, e)))
 
 -- a builder after the records of one more complete element
 law_element : (b b' : Builder) (before piece : List Rec) (d : Drawn) → Holds b before → b.stage ≡ Elements
@@ -331,7 +319,7 @@ law_opens b e rs r h at re =
     } in
     let o = opener_is r.kind (begins_open r.kind [] (reading_begins e (r ∷ []) re)) in (
       next,
-      may_follow rs r o.value (inside_begins b e (rs ++ r ∷ []) next) (λ _. o.known)
+      may_follow rs r o.value (inside_begins b e (rs ++ r ∷ []) next)
           (λ z. absurd (is_not r.kind strname o.strname z)) (λ z. absurd (is_not r.kind bgnstr o.bgnstr z)),
     )
 

@@ -14,7 +14,7 @@ use Rattle.gds_elements.specs.declared.fault.Misplaced.{Misplaced as Misplacemen
 use Rattle.gds_elements.specs.declared.fault.Misplaced.TheVariants.{Unexpected, Unsupported}
 use Rattle.gds_library.specs.Types.{reflibs, fonts, generations, attrtable, elflags, propattr, propvalue, plex}
 use Rattle.gds_library.specs.Types.{strclass, format, libdirsize, srfname, libsecur}
-use Rattle.gds_library.specs.Rules.{IsWhole, InOrder, Breaches}
+use Rattle.gds_library.specs.Rules.{IsWhole, InOrder, Breaches, KeepsRules}
 use Rattle.gds_library.specs.declared.fault.GdsKind.{GdsKind}
 use Rattle.gds_library.specs.declared.fault.GdsKind.TheVariants.{Misplaced}
 
@@ -92,9 +92,10 @@ BreachesBy ignore before r k =
 abbrev pub BreachesOnlyBy : Ignore → List Rec → Rec → GdsKind → Type 0
 BreachesOnlyBy ignore before r k = (j : GdsKind) → BreachesBy ignore before r j → j ≡ k
 
--- the record may follow the others: it may come next, and breaches no rule
+-- the record may follow the others: it may come next, and breaches no rule unless it is ignored
 abbrev pub MayFollowBy : Ignore → List Rec → Rec → Type 0
-MayFollowBy ignore before r = InOrderBy ignore before r × ((k : GdsKind) → BreachesBy ignore before r k → ⊥)
+MayFollowBy ignore before r =
+    InOrderBy ignore before r × (is_passed ignore r ≡ false → KeepsRules (essential ignore before) r)
 
 -- the records are a whole library, apart from those that are ignored
 abbrev pub IsWholeBy : Ignore → List Rec → Type 0

@@ -1,11 +1,12 @@
 -- The rules that a record may breach, if no record is ignored (GDSII Stream Format Manual, Release 6, "Stream syntax";
 -- own rules: the name in a STRNAME, and how many cells a library may have).
-use Rattle.std.specs.Prelude.{◌≡◌, ◌≤◌, List, [], ◌∷◌, ◌++◌, length}
+use Rattle.std.specs.Prelude.{◌≡◌, ◌<◌, ◌≤◌, List, [], ◌∷◌, ◌++◌, length}
 use Rattle.lvl_grammar.specs.Order.{IsWord, Begins}
 use Rattle.gds_elements.specs.Types.{bgnstr, strname}
 use Rattle.gds_elements.specs.Rec.{Rec, kinds, is_type, is_opener}
 use Rattle.gds_elements.specs.Values.{name}
 use Rattle.gds_elements.specs.Rules.{IsMisplacedAs, ValueBreaches}
+use Rattle.gds_elements.specs.declared.fault.ElementRule.{ElementRule}
 use Rattle.lvl_names.specs.Names.{IsName}
 use Rattle.lvl_cells.specs.Building.{cell_limit}
 use Rattle.gds_library.specs.Order.{a_library}
@@ -37,6 +38,13 @@ Breaches before r TooManyCells =
 abbrev pub BreachesOnly : List Rec → Rec → GdsKind → Type 0
 BreachesOnly before r k = (j : GdsKind) → Breaches before r j → j ≡ k
 
+-- the record breaches no rule by its payload: after the records of its element, by its name, or after the structures
+-- before it
+pub record KeepsRules (before : List Rec) (r : Rec) : Type 0 where
+  pub element : (k : ElementRule) → ValueBreaches (last_piece is_opener before) r k → ⊥
+  pub name : r.kind ≡ strname → IsName (name r.payload)
+  pub cells : r.kind ≡ bgnstr → length (pieces (is_type bgnstr) before) < cell_limit
+
 -- the record may follow the others: it may come next, and breaches no rule
 abbrev pub MayFollow : List Rec → Rec → Type 0
-MayFollow before r = InOrder before r × ((k : GdsKind) → Breaches before r k → ⊥)
+MayFollow before r = InOrder before r × KeepsRules before r

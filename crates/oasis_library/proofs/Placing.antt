@@ -1,5 +1,5 @@
 -- The placements of a cell stay the same after more targets are kept, and one more.
-use Rattle.std.proofs.Common.{◌≡◌, ◌<◌, ℕ, get_or, List, [], ◌∷◌, ◌++◌, map, length, All, refl, sym, ap}
+use Rattle.std.proofs.Common.{◌≡◌, ◌<◌, get_or, List, [], ◌∷◌, ◌++◌, map, length, All, refl, sym, ap}
 use Rattle.std.proofs.Common.{arith, ◌∙◌}
 use Rattle.std.proofs.lemmas.List.{get_or-take, map-append}
 use Rattle.std.proofs.lemmas.List.Elements.{All-head, All-tail, All-weaker}

@@ -1,8 +1,8 @@
 -- Placements whose targets have names are references to these names.
 use Rattle.std.proofs.Common.{◌≡◌, ◌<◌, ◌+◌, ℕ, zero, suc, get_or, List, [], ◌∷◌, ◌++◌, map, length, take, drop}
 use Rattle.std.proofs.Common.{All, refl}
-use Rattle.std.proofs.Common.{Bool, true, false, Option, Some, None, sym, ap, subst, arith, ◌∙◌, pos}
-use Rattle.std.specs.Prelude.{flat_map, is_some, IfSome, IsSome}
+use Rattle.std.proofs.Common.{true, false, Option, Some, None, sym, ap, subst, arith, ◌∙◌, pos}
+use Rattle.std.specs.Prelude.{flat_map, IfSome, IsSome}
 use Rattle.std.specs.List.{slice_get, AllZip}
 use Rattle.std.proofs.Math.Seq.{drop-cons}
 use Rattle.std.proofs.lemmas.Grind.{flat_map-append}

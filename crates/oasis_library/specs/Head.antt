@@ -1,5 +1,5 @@
 -- The head of a file (SEMI P39 OASIS 1.0, "START record", "END record").
-use Rattle.std.specs.Prelude.{ℕ, List, [], ◌∷◌, flat_map}
+use Rattle.std.specs.Prelude.{List, [], ◌∷◌, flat_map}
 use Rattle.oasis_values.specs.declared.number.Real.{Real}
 use Rattle.oasis_values.specs.declared.number.Real.TheVariants.{Whole}
 use Rattle.oasis_records.specs.declared.end.Validation.{Validation}

@@ -4,7 +4,6 @@ ghost use Rattle.lvl_refusal.specs.Refused.{Says};
 ghost use Rattle.oasis_records.specs.declared.record.Record.{Record as ARecord};
 ghost use Rattle.oasis_stream.specs.Order.{names_in};
 ghost use Rattle.oasis_stream.specs.Rules.{RecordBreaches, KeepsRules};
-ghost use Rattle.oasis_stream.specs.declared.fault.OasisKind.{OasisKind as Kind};
 ghost use Rattle.oasis_library.specs.Cells.{drawings, with_rings};
 ghost use Rattle.oasis_library.specs.Head.{head_of};
 ghost use Rattle.oasis_library.specs.Names.{AreCells, numbers_used, IsUnnamed};

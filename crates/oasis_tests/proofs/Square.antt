@@ -54,11 +54,8 @@ use Rattle.oasis_figures.specs.declared.rule.FigureRule.TheVariants.{Magnificati
 use Rattle.oasis_stream.specs.Items.{Item, magic, item, records, IsEnded}
 use Rattle.oasis_stream.specs.Front.{of_magic, of_record, IsTyped, IsTypedAfter, IsNext, oasis}
 use Rattle.oasis_stream.specs.Order.{at_end, type_after, names_in, last_or}
-use Rattle.oasis_stream.specs.Rules.{since_cell, NamingBreaches, RecordBreaches, MayFollow}
+use Rattle.oasis_stream.specs.Rules.{since_cell, NamingBreaches, MayFollow}
 use Rattle.oasis_stream.specs.declared.fault.NameRule.{NameRule}
-use Rattle.oasis_stream.specs.declared.fault.OasisKind.{OasisKind}
-use Rattle.oasis_stream.specs.declared.fault.OasisKind.TheVariants.{Value, Record as OfRule, Unexpected, Name as OfName}
-use Rattle.oasis_stream.specs.declared.fault.OasisKind.TheVariants.{Figure as OfFigure, AfterEnd, TooManyCells}
 use Rattle.oasis_stream.proofs.Instance.{is_grammar}
 use Rattle.oasis_library.specs.Cells.{drawings}
 use Rattle.oasis_library.specs.Head.{head_of}
@@ -318,21 +315,11 @@ unended is e h =
 none_some : {A : Type 0} {x : A} → None ≡ Some x → ⊥
 none_some h = cc
 
-breached : (before : List Item) (r : Record) → ((k : NameRule) → NamingBreaches (names_in (records before)) r k → ⊥)
-    → BreachesNone (since_cell (records before)) r → (k : OasisKind) → RecordBreaches (records before) r k → ⊥
-breached before r n f (OfName k) b = n k b
-breached before r n f (OfFigure k) b = f k b.broken
-breached before r n f (Value e) b = b
-breached before r n f (OfRule k) b = b
-breached before r n f (Unexpected k) b = b
-breached before r n f AfterEnd b = b
-breached before r n f TooManyCells b = b
-
 follows : (before : List Item) (r : Record) → last_or false (map is_end before) ≡ false
     → ((k : NameRule) → NamingBreaches (names_in (records before)) r k → ⊥)
     → BreachesNone (since_cell (records before)) r
     → MayFollow before (item r)
-follows before r e n f = (unended before e, breached before r n f)
+follows before r e n f = (unended before e, (n, f))
 
 none_of_start : (earlier : List Record) → BreachesNone earlier starting
 none_of_start earlier (Undefined v) b = none_some b
@@ -392,7 +379,7 @@ none_of_rectangle (Path f) b = b
 
 followed : (ignore : Ignore) → FollowAll (oasis ignore) [] square
 followed ignore = (
-  (unended [] refl, (λ k b. b)),
+  unended [] refl,
   (
     follows (magic ∷ []) starting refl (λ k b. b) (none_of_start []),
     (

@@ -5,7 +5,8 @@ use Rattle.gds_elements.specs.Types.{endel}
 use Rattle.lvl_grammar.specs.Order.{one, IsWord}
 use Rattle.gds_elements.specs.Order.{an_element}
 use Rattle.gds_elements.specs.Rec.{Rec, kinds, opener}
-use Rattle.gds_elements.specs.Meaning.{one_place, shapes_of, references_of, in_rings}
+use Rattle.gds_elements.specs.Meaning.{shapes_of, references_of, in_rings}
+use Rattle.lvl_names.specs.Shifts.{one_place}
 use Rattle.gds_elements.specs.Rules.{ElementBreaches, BreachesNone}
 use Rattle.lvl_refusal.specs.Refused.{Says}
 use Rattle.lvl_grammar.specs.inside.After.{LeadsTo}

@@ -1,8 +1,8 @@
-use Rattle.std.proofs.Common.{◌≡◌, ◌++◌, ◌∷◌, List, [], sym, ap, subst, ◌∙◌}
+use Rattle.std.proofs.Common.{◌++◌, ◌∷◌, List, [], sym, ap, subst, ◌∙◌}
 use Rattle.std.specs.Global.{Vec}
 use Rattle.std.specs.Prelude.{flat_map}
 use Rattle.std.proofs.lemmas.List.{nil_from_length}
-use Rattle.lvl_cells.specs.Cells.{PlainCell, Rings}
+use Rattle.lvl_cells.specs.Cells.{Rings}
 use Rattle.oasis_library.specs.Cells.{PlainDrawing}
 use Rattle.oasis_library.specs.Names.{AreCells}
 use Rattle.oasis_library.proofs.Pieces.{piece_added, piece_goes, pieces_end, unnamed_in_piece}

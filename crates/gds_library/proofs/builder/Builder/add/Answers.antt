@@ -2,7 +2,7 @@ use Rattle.std.proofs.Common.{List, ap, ◌∙◌, ◌∷◌, []}
 use Rattle.lvl_grid.specs.declared.point.Point.{Point}
 use Rattle.lvl_cells.specs.Building.{Built, with_shape}
 use Rattle.lvl_cells.specs.Cells.{Rings}
-use Rattle.gds_elements.specs.Meaning.{one_place}
+use Rattle.lvl_names.specs.Shifts.{one_place}
 use Rattle.gds_library.specs.Drawn.{KeptShape, KeptCell}
 use Rattle.gds_library.proofs.Grown.{shown_drawn, one_shape, one_reference, no_drawing}
 use Rattle.gds_library.proofs.builder.Builder.add.Goals as goal
