@@ -11,8 +11,10 @@ from assembler import oas_path, placement, polygon, rectangle
 
 MEASURE = os.path.join(os.path.dirname(os.path.abspath(__file__)), "measure.py")
 Run = namedtuple("Run", "status output errors seconds megabytes")
-GDS_HEAD, GDS_END = stream_head(), STREAM_END
-GDS_TEXT = "GDSII version 600 units 0000000000000000 0000000000000000"
+# A grid step is a micrometre in both formats.
+UNITS = bytes.fromhex("4110000000000000 3c10c6f7a0b5ed8d")
+GDS_HEAD, GDS_END = stream_head(units=UNITS), STREAM_END
+GDS_TEXT = "GDSII version 600 units 4110000000000000 3c10c6f7a0b5ed8d"
 OAS_HEAD, OAS_END = MAGIC + start(), OASIS_END
 OAS_TEXT = "OASIS 1.0 unit 1 scheme 0"
 

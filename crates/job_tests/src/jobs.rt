@@ -199,8 +199,20 @@ static ROWS: [(&str, u8, &str, &str, u8); 33] = [
         "lvl: bad view 1 MapText\n",
         3,
     ),
-    ("square tagged - - - - properties", 2, "same\n", "", 0),
-    ("tagged square - - - - all", 2, "same\n", "", 0),
+    (
+        "square tagged - - - - properties",
+        2,
+        "same\n",
+        "lvl: the grid steps differ: 1 nm in the first file, 2 nm in the second\n",
+        0,
+    ),
+    (
+        "tagged square - - - - all",
+        2,
+        "same\n",
+        "lvl: the grid steps differ: 2 nm in the first file, 1 nm in the second\n",
+        0,
+    ),
     (
         "square tagged - - - - -",
         2,
@@ -219,7 +231,7 @@ static ROWS: [(&str, u8, &str, &str, u8); 33] = [
         "two tagged B - - x=0..10,y=0..10 names,properties",
         2,
         "differ: layer 1 datatype 0 square 0 0 only in second\n",
-        "",
+        "lvl: the grid steps differ: 1 nm in the first file, 2 nm in the second\n",
         1,
     ),
     (
@@ -286,7 +298,7 @@ fn growths_of_a_job(rt: HostRuntime) -> Result<(), Fail> {
     let mut out = Sink::new(rt.alloc(), usize::MAX);
     out.taken.reserve(1024)?;
     let mut err = Sink::new(rt.alloc(), usize::MAX);
-    err.taken.reserve(64)?;
+    err.taken.reserve(128)?;
     let job = job_of(
         rt.alloc(),
         "tagged two - B 2/0=1/0 x=0..10,y=0..10 names,properties",
