@@ -1,2 +1,5 @@
 pub mod Running
 pub mod Hinting
+pub mod Decimals
+pub mod Ending
+pub mod Lining

@@ -1,5 +1,5 @@
 //! Whether the grid steps of two files differ, and the line that says so.
-ghost use Rattle.std.specs.Prelude.{◌≡◌, ◌≤◌, ◌<◌, ◌++◌, ◌^◌, IsTrue, IsNone, IfOk, IfSome, OnOk, option_map};
+ghost use Rattle.std.specs.Prelude.{◌≡◌, ◌≤◌, ◌<◌, ◌++◌, ◌^◌, false, IsTrue, IsNone, IfOk, IfSome, OnOk, option_map};
 ghost use Rattle.lvl_report.specs.Steps.{AreStepsSaid, HasNoStep, IsReadStep, IsRounded, decimals, length_text};
 ghost use Rattle.lvl_report.specs.Steps.{fraction_text, steps_text};
 ghost use Rattle.lvl_report.specs.inside.Steps.{AreFar, AreNear, AreStepsOf, IsRoundedTo};
@@ -24,7 +24,7 @@ fn step_of(head: &Head) -> Option<GridStep>
 /// Whether both lengths are readable and near each other.
 fn are_near(first: Option<GridStep>, second: Option<GridStep>) -> bool
     ensures near { IsTrue result → AreNear first second }
-    ensures far { (¬ IsTrue result) → AreFar first second }
+    ensures far { result ≡ false → AreFar first second }
 {
     match (first, second) {
         (Some(first), Some(second)) => !first.is_apart(second),

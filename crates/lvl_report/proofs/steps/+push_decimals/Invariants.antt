@@ -1,0 +1,5 @@
+use Rattle.std.proofs.Common.{ℕ}
+use Rattle.lvl_report.proofs.steps.+push_decimals.Given as goal
+
+abbrev pub decreases-push_decimals : goal.decreases-push_decimals
+decreases-push_decimals l = l.places
