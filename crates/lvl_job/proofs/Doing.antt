@@ -9,7 +9,7 @@ use Rattle.lvl_line.specs.declared.job.Job.TheVariants.{Compare, Digest, Show}
 use Rattle.lvl_report.specs.declared.outcome.Outcome.{Outcome}
 use Rattle.lvl_report.specs.declared.status.RunFault.{RunFault}
 use Rattle.lvl_report.specs.declared.status.RunFault.TheVariants.{Output as RunOutput, OutOfMemory as RunOutOfMemory}
-use Rattle.lvl_report.specs.Runs.{Input, input, IsBegun, IsDigestedBy, IsShownBy, IsWritten}
+use Rattle.lvl_report.specs.Runs.{Input, input, IsBegun, IsDigestedBy, IsShownBy}
 use Rattle.lvl_report.specs.Texts.{text_of, text_of_digested, text_of_shown}
 use Rattle.lvl_report.specs.Hints.{shown_outcome}
 use Rattle.lvl_report.specs.Writing.{ends_by}

@@ -1,5 +1,5 @@
 -- What a run wrote, by its answer.
-use Rattle.std.proofs.Common.{◌≡◌, ◌∙◌, ℕ, List, Option, Result, Ok, Err, IfOk, OnOk, OnErr, refl, ap}
+use Rattle.std.proofs.Common.{◌≡◌, ℕ, List, Option, Result, Ok, Err, IfOk, OnOk, OnErr, ap}
 use Rattle.std.specs.Io.KnownBytes.{Appends}
 use Rattle.lvl_profile.specs.declared.ignore.Ignore.{Ignore}
 use Rattle.lvl_report.specs.declared.status.RunFault.{RunFault}

@@ -1,10 +1,8 @@
 -- What would mend a refusal: to ignore more, to give an option, or to use another program (own rule).
 use Rattle.std.specs.Prelude.{ℕ, ◌==◌, ◌&&◌, if◌then◌else◌, Bool, true, false, List, [], ◌∷◌, Option, Some, None}
 use Rattle.std.specs.Prelude.{◌≡◌, Result, Ok, Err, is_ok, option_map}
-use Rattle.lvl_cells.specs.declared.fault.CellFault.{CellFault}
 use Rattle.lvl_cells.specs.declared.fault.CellFault.TheVariants.{ManyTops}
 use Rattle.lvl_profile.specs.declared.ignore.Ignore.{Ignore}
-use Rattle.lvl_region.specs.declared.region.Side.{Side}
 use Rattle.gds_records.specs.Table.{is_ignored}
 use Rattle.gds_records.specs.declared.fault.RecordFault.{RecordFault}
 use Rattle.gds_records.specs.declared.fault.RecordFault.TheVariants.{BadLength, BadDataType, UnknownRecord}
@@ -20,7 +18,7 @@ use Rattle.oasis_library.specs.declared.fault.OasisFault.TheVariants.{At, Unreso
 use Rattle.lvl.specs.declared.layout.FileFault.{FileFault}
 use Rattle.lvl.specs.declared.layout.FileFault.TheVariants.{Gds, Oasis}
 use Rattle.lvl.specs.declared.verdict.Refusal.{Refusal}
-use Rattle.lvl.specs.declared.verdict.Refusal.TheVariants.{File, Cells, Flat, OutOfMemory}
+use Rattle.lvl.specs.declared.verdict.Refusal.TheVariants.{File, Cells}
 use Rattle.lvl.specs.declared.verdict.Comparison.{Comparison}
 use Rattle.lvl_report.specs.Writing.{verdict_status}
 use Rattle.lvl_report.specs.declared.status.Status.{Status}

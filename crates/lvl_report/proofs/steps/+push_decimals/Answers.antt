@@ -1,4 +1,4 @@
-use Rattle.std.proofs.Common.{arith, rules, ◌∙◌}
+use Rattle.std.proofs.Common.{arith, ◌∙◌}
 use Rattle.std.proofs.lemmas.Result.{on_ok_weaker}
 use Rattle.lvl_report.proofs.Decimals.{parts, next_digit}
 use Rattle.lvl_report.proofs.steps.+push_decimals.Goals as goal

@@ -1,4 +1,3 @@
-use Rattle.std.proofs.Common.{ℕ}
 use Rattle.lvl_report.proofs.steps.+push_decimals.Given as goal
 
 abbrev pub decreases-push_decimals : goal.decreases-push_decimals

@@ -11,6 +11,6 @@ returns c =
       first_is = rounded_is c.args.first.now c.step_of-ours.result _ ours.value ours.none c.rounded.ensures;
       second_is = rounded_is c.args.second.now c.step_of-theirs.result _ theirs.value theirs.none c.rounded-2.ensures;
       differ = differ_in c.args.first.now c.args.second.now c.step_of-ours.result c.step_of-theirs.result ours.value
-        ours.none theirs.value theirs.none (c.are_near.ensures.far c.if-are_near.false);
+          ours.none theirs.value theirs.none (c.are_near.ensures.far c.if-are_near.false);
       text_is = c.in_ok-line_of.ensures;
     }
