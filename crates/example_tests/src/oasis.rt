@@ -1,5 +1,7 @@
 //! What the documentation of the crates shows, line by line.
 
+use lvl_inflate::Inflate;
+use lvl_io::Counted;
 use lvl_io::fake::Pieces;
 use lvl_profile::Ignore;
 use lvl_units::GridStep;
@@ -97,5 +99,16 @@ fn grid_steps(rt: HostRuntime) -> Result<(), Fail> {
     assert_eq!(rt; first.millionths(), 1_000_000);
     let twice = GridStep::of_oasis(&Real::Whole(500)).ok_or("a length")?;
     assert!(rt; first.is_apart(twice));
+    Ok(())
+}
+
+#[test]
+fn unpacked_bytes(rt: HostRuntime) -> Result<(), Fail> {
+    let packed: &[u8] = b"\x4b\x04\x00";
+    let mut inflate = Inflate::new(rt.alloc(), Counted::new(packed), 3)?;
+    let mut buf = [0; 8];
+    assert_eq!(rt; inflate.read(&mut buf), Ok(1));
+    assert_eq!(rt; buf[0], b'a');
+    assert_eq!(rt; inflate.read(&mut buf), Ok(0));
     Ok(())
 }
