@@ -8,6 +8,7 @@ from collections import namedtuple
 
 import digest as sha
 import hints
+import steps
 import layout
 from hints import WORDS
 
@@ -22,7 +23,7 @@ Reference = namedtuple("Reference", "cell flip quarters at shifts")
 Cell = namedtuple("Cell", "name shapes references")
 Library = namedtuple("Library", "head cells")
 # If `allows` is None, the text is the whole answer; else `allows` says whether the words after the text are right.
-# The hint is the text on standard error.
+# The hint is the text on standard error: what would mend a refusal, or that the grid steps of two files differ.
 Answer = namedtuple("Answer", "statuses text allows hint")
 
 NOTHING, EVERYTHING = frozenset(), frozenset(WORDS)
@@ -337,10 +338,11 @@ def compare(read, first, second, tops, ignore=NOTHING):
     if refused:
         return refused
     heads = "".join("%s: %s\n" % (side, library.head) for side, (library, _, _) in sides)
+    said = steps.line(*[library.head for _, (library, _, _) in sides])
     if any(sum(rings.values()) > MOST_RINGS for _, (_, _, rings) in sides):
-        return Answer({0, 1}, heads.rstrip("\n"), lambda words: True, "")
+        return Answer({0, 1}, heads.rstrip("\n"), lambda words: True, said)
     text = verdict(*[placed_rings(library.cells, top, {}) for _, (library, top, _) in sides])
-    return Answer({0 if text == "same" else 1}, heads + text, None, "")
+    return Answer({0 if text == "same" else 1}, heads + text, None, said)
 
 
 def show(read, data, top, ignore=NOTHING):

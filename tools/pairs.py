@@ -105,10 +105,11 @@ def words_of(lvl, files):
 def timed(lvl, files, most):
     """The last line of the answer, or why there is none, and the seconds of processor time."""
     before = resource.getrusage(resource.RUSAGE_CHILDREN)
-    run = subprocess.Popen(words_of(lvl, files), stdout=subprocess.PIPE, stderr=subprocess.STDOUT, text=True)
+    run = subprocess.Popen(words_of(lvl, files), stdout=subprocess.PIPE, stderr=subprocess.PIPE, text=True)
     resource.prlimit(run.pid, resource.RLIMIT_CPU, (most, most))
     resource.prlimit(run.pid, resource.RLIMIT_AS, (MOST_BYTES, MOST_BYTES))
-    answer = run.communicate()[0].strip().split("\n")[-1]
+    output, errors = run.communicate()
+    answer = (output or errors).strip().split("\n")[-1]
     after = resource.getrusage(resource.RUSAGE_CHILDREN)
     seconds = after.ru_utime + after.ru_stime - before.ru_utime - before.ru_stime
     if run.returncode < 0:
