@@ -33,8 +33,8 @@ def oasis_length(text):
 
 
 def length(head):
-    words = head.split(" ")
-    given = gds_length(words[-1]) if words[0] == "GDSII" else oasis_length(" ".join(words[3:-2]))
+    _, _, unit = head.partition(" unit ")
+    given = oasis_length(unit.partition(" scheme ")[0]) if unit else gds_length(head.split(" ")[-1])
     return given if given is not None and LEAST <= given <= MOST else None
 
 
