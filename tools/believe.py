@@ -290,8 +290,8 @@ What `same` and `differ` mean, and when a refusal is true, is said by the defini
 code with them, and a checker reads the proofs; the definitions themselves only a reader can judge.
 [PROOF.md](PROOF.md) has the clauses that name them.
 
-`tools/believe.py` writes the page, and `.ci/run` refuses another one. It begins with the names in the contracts of
-`compare_layouts`, and then of `compare_view`, `compare_files`, `digest_file` and `digests_decide`, and goes from each
+`tools/believe.py` writes this page, and `make check` fails if it is out of date. It begins with the names in the
+contracts of `compare_layouts`, and then of `compare_view`, `compare_files`, `digest_file` and `digests_decide`, and goes from each
 definition to all those that it names; each is listed once, in the first part that needs it. A number is the line in
 the file, and what follows it is the comment that stands there; a file is followed by its first comment. Lines are
 counted without comments, and types of the code aren't counted. What the program prints (`lvl_text`, `lvl_report`,
