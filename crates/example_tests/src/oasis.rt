@@ -3,7 +3,7 @@
 use lvl_inflate::Inflate;
 use lvl_io::Counted;
 use lvl_io::fake::Pieces;
-use lvl_profile::Ignore;
+use lvl_profile::Profile;
 use lvl_units::GridStep;
 use oasis_figures::{Drawn, Modal};
 use oasis_library::read_oasis;
@@ -31,7 +31,7 @@ fn square(alloc: Global) -> Result<Vec<u8>, AllocError> {
 
 #[test]
 fn values(rt: HostRuntime) {
-    let mut input = Input::new(Pieces::new(b"\xE8\x07\x0B", usize::MAX), Ignore::NOTHING);
+    let mut input = Input::new(Pieces::new(b"\xE8\x07\x0B", usize::MAX), Profile::STANDARD);
     assert_eq!(rt; input.unsigned(), Ok(1000));
     assert_eq!(rt; input.signed(), Ok(-5));
     assert_eq!(rt; input.offset(), 3);
@@ -40,9 +40,9 @@ fn values(rt: HostRuntime) {
 #[test]
 fn records(rt: HostRuntime) -> Result<(), Fail> {
     let alloc = rt.alloc();
-    let mut input = Input::new(Pieces::new(RECTANGLE, usize::MAX), Ignore::NOTHING);
+    let mut input = Input::new(Pieces::new(RECTANGLE, usize::MAX), Profile::STANDARD);
     let id = read_id(&mut input)?;
-    let kind = RecordType::of(id.value, input.ignore())?;
+    let kind = RecordType::of(id.value, input.profile())?;
     let record = read_fields(&mut input, alloc, kind, id.len, false)?;
     assert!(rt; matches!(record, Record::Rectangle(_)));
     Ok(())
@@ -50,9 +50,9 @@ fn records(rt: HostRuntime) -> Result<(), Fail> {
 
 /// The record of the rectangle.
 fn rectangle(alloc: Global) -> Result<Record, Fail> {
-    let mut input = Input::new(Pieces::new(RECTANGLE, usize::MAX), Ignore::NOTHING);
+    let mut input = Input::new(Pieces::new(RECTANGLE, usize::MAX), Profile::STANDARD);
     let id = read_id(&mut input)?;
-    let kind = RecordType::of(id.value, input.ignore())?;
+    let kind = RecordType::of(id.value, input.profile())?;
     Ok(read_fields(&mut input, alloc, kind, id.len, false)?)
 }
 
@@ -70,7 +70,7 @@ fn figures(rt: HostRuntime) -> Result<(), Fail> {
 fn streams(rt: HostRuntime) -> Result<(), Fail> {
     let alloc = rt.alloc();
     let bytes = TO_CELL;
-    let mut input = Input::new(Pieces::new(&bytes, usize::MAX), Ignore::NOTHING);
+    let mut input = Input::new(Pieces::new(&bytes, usize::MAX), Profile::STANDARD);
     let mut order = Order::new();
     read_first(&mut input)?;
     let start = read_next(&mut input, alloc, &order)?;

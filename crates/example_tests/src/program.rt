@@ -3,7 +3,7 @@
 use gds_records::fake::{SQUARE, Stream};
 use lvl::{Tops, Verdict, compare_layouts, digest_file, read_layout, show_file};
 use lvl_io::fake::{Pieces, Sink};
-use lvl_profile::Ignore;
+use lvl_profile::Profile;
 use lvl_report::{Status, run_show};
 use std::alloc::{AllocError, Global};
 use std::test::Fail;
@@ -55,7 +55,7 @@ fn shown(rt: HostRuntime) -> Result<(), Fail> {
     let alloc = rt.alloc();
     let bytes = square(alloc, b"TOP\0")?;
     let mut reader = Pieces::new(&bytes, usize::MAX);
-    let shown = show_file(alloc, &mut reader, None, Ignore::NOTHING)?;
+    let shown = show_file(alloc, &mut reader, None, Profile::STANDARD)?;
     assert_eq!(rt; shown.layers.first().map(|layer| layer.rings), Some(1));
     Ok(())
 }
@@ -65,7 +65,7 @@ fn digested(rt: HostRuntime) -> Result<(), Fail> {
     let alloc = rt.alloc();
     let bytes = square(alloc, b"TOP\0")?;
     let mut reader = Pieces::new(&bytes, usize::MAX);
-    let digested = digest_file(alloc, &mut reader, None, Ignore::NOTHING)?;
+    let digested = digest_file(alloc, &mut reader, None, Profile::STANDARD)?;
     assert_eq!(rt; digested.mask.layers.len(), 1);
     Ok(())
 }

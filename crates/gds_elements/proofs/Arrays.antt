@@ -69,10 +69,14 @@ stays a y b z i m j n hi hj e f s t =
 -- an array, by its first place and the points to which its columns and rows lead
 module _ (o p q : Point) (m n : ℕ) (no : IsNarrow o) (np : IsNarrow p) (nq : IsNarrow q) (dp : IsDivided o p m)
     (dq : IsDivided o q n)
-    (some_columns : 0 < m) (some_rows : 0 < n) (few : m * n ≤ 1048576) where
+    (some_columns : 0 < m) (some_rows : 0 < n) (few_columns : m < 32768) (few_rows : n < 32768) where
   pub array_corner : HasFarCorner (step o p m) m (step o q n) n
   array_corner = record {
-    counts = record { columns = some_columns; rows = some_rows; few = omega (arith, few) };
+    counts = record {
+      columns = some_columns;
+      rows = some_rows;
+      few = let k : m * n ≤ m * 32768 = mul-le-mul_left m (omega (arith, few_rows)) in omega (arith, few_columns, k);
+    };
     xs = stays _ (p.x -ℤ o.x) _ (q.x -ℤ o.x) (m - 1) m (n - 1) n (omega arith) (omega arith) (divided_abs _ m dp.0)
         (divided_abs _ n dq.0) (distance_small o.x p.x no.x_fits np.x_fits)
         (distance_small o.x q.x no.x_fits nq.x_fits);

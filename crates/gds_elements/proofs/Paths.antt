@@ -26,6 +26,7 @@ use Rattle.lvl_grammar.specs.inside.After.{after_first}
 use Rattle.gds_elements.proofs.Fields.{field_read, field_here, field_there, last_read, opener-snoc}
 use Rattle.gds_elements.proofs.Leads.{leads_more}
 use Rattle.gds_elements.proofs.Shapes.{layer_more, layer_kept, shape_same, kind_test}
+use Rattle.lvl_profile.specs.declared.limits.Limits.{Limits}
 
 pub path_goes : (p p' : Path) (piece : List Rec) (r : Rec) → IsPathRead p piece
     → after_first (left p.stage) r.kind ≡ left p'.stage ∷ []
@@ -112,15 +113,15 @@ path_ends p piece r h rings i a x w e =
     }
 
 -- a fault of the points of a path is a breach
-pub bands_fault : (p : Path) (piece : List Rec) (r : Rec) → IsPathRead p piece → r.kind ≡ xy → (k : ElementRule)
-    → IsBandsFault (points r.payload) p.half p.square k → ValueBreaches piece r k
-bands_fault p piece r h x PointsFault b = (x, inr (inl (h.opened, b)))
-bands_fault p piece r h x WidthFault b = (h.opened, inr (x, b.0, none_half (last_of width piece) (sym h.half ∙ b.1)))
-bands_fault p piece r h x (PathFault f) (n, half, e, low) =
+pub bands_fault : (limits : Limits) (p : Path) (piece : List Rec) (r : Rec) → IsPathRead p piece → r.kind ≡ xy → (k : ElementRule)
+    → IsBandsFault (points r.payload) p.half p.square k → ValueBreaches limits piece r k
+bands_fault limits p piece r h x PointsFault b = (x, inr (inl (h.opened, b)))
+bands_fault limits p piece r h x WidthFault b = (h.opened, inr (x, b.0, none_half (last_of width piece) (sym h.half ∙ b.1)))
+bands_fault limits p piece r h x (PathFault f) (n, half, e, low) =
     let ps = points r.payload in
     let low' = subst (λ (i : ℕ). IsLowestFault ps (record { half = half; start = i; end = i }) f)
     (reach_is p piece half h e) low in
     let low'' = subst (λ (i : ℕ). IsLowestFault ps (record { half = i; start = end_of piece; end = end_of piece }) f)
     (half_is p piece half h e) low' in
     (x, h.opened, n, width_read p piece h (λ z. (let y : Some half ≡ None = sym e ∙ z in cc)), low'')
-bands_fault p piece r h x other b = absurd b
+bands_fault limits p piece r h x other b = absurd b

@@ -25,10 +25,7 @@ use Rattle.gds_elements.specs.declared.fault.ElementRule.{ElementRule}
 use Rattle.gds_elements.specs.declared.fault.ElementRule.TheVariants.{Layer, Points, NotClosed, Strans, Magnification}
 use Rattle.gds_elements.specs.declared.fault.ElementRule.TheVariants.{Angle, ColRow, ArrayStep, Name, Path, Width}
 use Rattle.gds_elements.specs.declared.fault.ElementRule.TheVariants.{PathType, Oblique, Repetition}
-
--- the greatest number of places of an array (own rule)
-abbrev pub place_limit : ℕ
-place_limit = 1048576
+use Rattle.lvl_profile.specs.declared.limits.Limits.{Limits}
 
 -- the type is one of those that are always read
 abbrev pub IsKnown : ℕ → Type 0
@@ -73,35 +70,38 @@ IsMiscounted piece n =
     ⊎ (((opener piece ≡ Some sref) ⊎ (opener piece ≡ Some text)) × (n ≢ 1))
 
 -- the record r breaches the rule by its payload, if `piece` are the records of its element so far
-abbrev pub ValueBreaches : List Rec → Rec → ElementRule → Type 0
-ValueBreaches piece r Layer = ((r.kind ≡ layer) ⊎ (r.kind ≡ datatype)) × DrawsShape piece × (short r.payload <ℤ pos 0)
-ValueBreaches piece r Points = (r.kind ≡ xy) × IsMiscounted piece (length (points r.payload))
-ValueBreaches piece r NotClosed =
+abbrev pub ValueBreaches : Limits → List Rec → Rec → ElementRule → Type 0
+ValueBreaches limits piece r Layer =
+    ((r.kind ≡ layer) ⊎ (r.kind ≡ datatype)) × DrawsShape piece × (short r.payload <ℤ pos 0)
+ValueBreaches limits piece r Points = (r.kind ≡ xy) × IsMiscounted piece (length (points r.payload))
+ValueBreaches limits piece r NotClosed =
     (r.kind ≡ xy) × (opener piece ≡ Some boundary) × (4 ≤ length (points r.payload)) × ¬ IsClosed (points r.payload)
-ValueBreaches piece r Strans = (r.kind ≡ strans) × RefersToCell piece × (bits r.payload ≢ 0) × (bits r.payload ≢ 0x8000)
-ValueBreaches piece r Magnification = (r.kind ≡ mag) × RefersToCell piece × (r.payload ≢ one_real)
-ValueBreaches piece r Angle = (r.kind ≡ angle) × RefersToCell piece × ((t : Turn) → r.payload ≢ degrees t)
-ValueBreaches piece r ColRow =
+ValueBreaches limits piece r Strans =
+    (r.kind ≡ strans) × RefersToCell piece × (bits r.payload ≢ 0) × (bits r.payload ≢ 0x8000)
+ValueBreaches limits piece r Magnification =
+    (r.kind ≡ mag) × RefersToCell piece × (r.payload ≢ one_real)
+ValueBreaches limits piece r Angle = (r.kind ≡ angle) × RefersToCell piece × ((t : Turn) → r.payload ≢ degrees t)
+ValueBreaches limits piece r ColRow =
     (r.kind ≡ colrow) × (opener piece ≡ Some aref) × ((columns r.payload <ℤ pos 1) ⊎ (rows r.payload <ℤ pos 1))
-ValueBreaches piece r ArrayStep =
+ValueBreaches limits piece r ArrayStep =
     (r.kind ≡ xy) × (opener piece ≡ Some aref) × (length (points r.payload) ≡ 3)
     × ¬ HasSteps (points r.payload) (columns_in (last_of colrow piece)) (rows_in (last_of colrow piece))
-ValueBreaches piece r Name = (r.kind ≡ sname) × RefersToCell piece × ¬ IsName (name r.payload)
-ValueBreaches piece r (Path f) =
+ValueBreaches limits piece r Name = (r.kind ≡ sname) × RefersToCell piece × ¬ IsName (name r.payload)
+ValueBreaches limits piece r (Path f) =
     (r.kind ≡ xy) × (opener piece ≡ Some path) × (2 ≤ length (points r.payload)) × (last_of width piece ≢ None)
     × IsLowestFault (points r.payload) (record { half = half_of piece; start = end_of piece; end = end_of piece }) f
-ValueBreaches piece r Width =
+ValueBreaches limits piece r Width =
     (opener piece ≡ Some path)
     × (((r.kind ≡ width) × ¬ IsWidth (long r.payload)) ⊎ ((r.kind ≡ xy) × (2 ≤ length (points r.payload))
     × (last_of width piece ≡ None)))
-ValueBreaches piece r PathType =
+ValueBreaches limits piece r PathType =
     (r.kind ≡ pathtype) × (opener piece ≡ Some path) × (short r.payload ≢ pos 0) × (short r.payload ≢ pos 2)
-ValueBreaches piece r Oblique =
+ValueBreaches limits piece r Oblique =
     (r.kind ≡ xy) × (opener piece ≡ Some boundary) × (4 ≤ length (points r.payload)) × IsClosed (points r.payload)
     × ¬ All IsStraight (steps (points r.payload))
-ValueBreaches piece r Repetition =
+ValueBreaches limits piece r Repetition =
     (r.kind ≡ colrow) × (opener piece ≡ Some aref) × (pos 1 ≤ℤ columns r.payload) × (pos 1 ≤ℤ rows r.payload)
-    × (place_limit < magnitude (columns r.payload) * magnitude (rows r.payload))
+    × (limits.array < magnitude (columns r.payload) * magnitude (rows r.payload))
 
 -- the record may come next in the element
 abbrev pub InOrder : List Rec → Rec → Type 0
@@ -113,14 +113,14 @@ IsMisplacedAs ordered r (Unexpected k) = (r.kind ≡ k) × IsKnown k × ¬ order
 IsMisplacedAs ordered r (Unsupported k) = (r.kind ≡ k) × (k < 60) × ¬ IsKnown k
 
 -- the record may not come next, or its payload breaches a rule
-abbrev pub ElementBreaches : List Rec → Rec → ElementFault → Type 0
-ElementBreaches piece r (MisplacedRecord m) = IsMisplacedAs (InOrder piece r) r m
-ElementBreaches piece r (Rule k) = InOrder piece r × ValueBreaches piece r k
+abbrev pub ElementBreaches : Limits → List Rec → Rec → ElementFault → Type 0
+ElementBreaches limits piece r (MisplacedRecord m) = IsMisplacedAs (InOrder piece r) r m
+ElementBreaches limits piece r (Rule k) = InOrder piece r × ValueBreaches limits piece r k
 
 -- it breaches no other rule
-abbrev pub BreachesOnly : List Rec → Rec → ElementFault → Type 0
-BreachesOnly piece r f = (g : ElementFault) → ElementBreaches piece r g → g ≡ f
+abbrev pub BreachesOnly : Limits → List Rec → Rec → ElementFault → Type 0
+BreachesOnly limits piece r f = (g : ElementFault) → ElementBreaches limits piece r g → g ≡ f
 
 -- it breaches no rule
-abbrev pub BreachesNone : List Rec → Rec → Type 0
-BreachesNone piece r = (f : ElementFault) → ElementBreaches piece r f → ⊥
+abbrev pub BreachesNone : Limits → List Rec → Rec → Type 0
+BreachesNone limits piece r = (f : ElementFault) → ElementBreaches limits piece r f → ⊥

@@ -27,6 +27,7 @@ use gds_records::record_type;
 use lvl_cells::Reference;
 use lvl_grid::Point;
 use lvl_names::{Name, Offsets};
+use lvl_profile::Limits;
 use lvl_refusal::Cause;
 use std::alloc::Global;
 
@@ -95,12 +96,13 @@ impl Aref {
     pub(crate) fn take(
         self,
         alloc: Global,
+        limits: Limits,
         kind: u8,
         payload: &[u8],
     ) -> Result<State, Cause<ElementFault>>
         requires { IsFormed kind payload.now }
         ensures { (piece : List Rec) (d : ℕ) → IsArefRead self piece
-            → Takes piece (record_of kind d payload.now) result }
+            → Takes limits piece (record_of kind d payload.now) result }
     {
         let Aref {
             stage,
@@ -110,7 +112,7 @@ impl Aref {
         match stage.after(kind) {
             Next::Goes(stage) => {
                 let placing = placing.read(alloc, kind, payload)?;
-                let counts = read_counts(counts, kind, payload)?;
+                let counts = read_counts(counts, limits, kind, payload)?;
                 Ok(State::Aref(Aref {
                     stage,
                     placing,
@@ -161,7 +163,7 @@ fn step(from: Point, to: Point, count: u64) -> Result<Point, Cause<ElementFault>
     requires from { IsNarrow from }
     requires to { IsNarrow to }
     requires count { 0 < count }
-    requires few { count ≤ 1048576 }
+    requires few { count < 32768 }
     ensures value { IfOk result (λ p. (p ≡ step from to count) × IsDivided from to count) }
     ensures refused { IfErr result (λ e. (e ≡ breach ElementRule.ArrayStep) × ¬ IsDivided from to count) }
 {
@@ -175,7 +177,7 @@ fn step_along(from: i64, to: i64, count: u64) -> Result<i64, Cause<ElementFault>
     requires from { FitsSigned w32 from }
     requires to { FitsSigned w32 to }
     requires count { 0 < count }
-    requires few { count ≤ 1048576 }
+    requires few { count < 32768 }
     ensures value { IfOk result (λ n. (n ≡ int_div (to -ℤ from) (pos count))
         × (int_rem (to -ℤ from) (pos count) ≡ pos 0)) }
     ensures refused { IfErr result (λ e. (e ≡ breach ElementRule.ArrayStep)

@@ -10,24 +10,24 @@ ghost use Rattle.gds_elements.specs.inside.Misplaced.{Broken, breach};
 use crate::fault::{ElementFault, ElementRule, breach};
 use crate::values::short;
 use gds_records::record_type;
+use lvl_profile::Limits;
 use lvl_refusal::Cause;
 
-/// The greatest number of places of an array (own rule).
-const MOST_PLACES: u64 = 1_048_576;
-
-/// How many columns and rows an array has, at least one of each.
+/// How many columns and rows an array has, at least one of each, and at most 32,767.
 #[derive(Clone, Copy)]
 pub(crate) struct Counts {
     pub columns: u64,
     pub rows: u64,
     ghost some_columns: { 0 < columns },
     ghost some_rows: { 0 < rows },
-    ghost few: { columns * rows ≤ 1048576 },
+    ghost few_columns: { columns < 32768 },
+    ghost few_rows: { rows < 32768 },
 }
 
 /// How many columns and rows, after one more record. Only a COLROW changes them.
 pub(crate) fn read_counts(
     old: Counts,
+    limits: Limits,
     kind: u8,
     payload: &[u8],
 ) -> Result<Counts, Cause<ElementFault>>
@@ -35,8 +35,8 @@ pub(crate) fn read_counts(
     ensures columns { IfOk result
         (λ n. n.columns ≡ (if kind == colrow then magnitude (columns payload.now) else old.columns)) }
     ensures rows { IfOk result (λ n. n.rows ≡ (if kind == colrow then magnitude (rows payload.now) else old.rows)) }
-    ensures allowed { OnOk result (kind ≡ colrow → IsCounted payload.now) }
-    ensures refused { IfErr result (λ e. Says e (Broken (λ k. (kind ≡ colrow) × IsCountFault payload.now k))) }
+    ensures allowed { OnOk result (kind ≡ colrow → IsCounted limits payload.now) }
+    ensures refused { IfErr result (λ e. Says e (Broken (λ k. (kind ≡ colrow) × IsCountFault limits payload.now k))) }
 {
     if kind != record_type::COLROW {
         return Ok(old);
@@ -44,7 +44,7 @@ pub(crate) fn read_counts(
     let (columns, rows) = payload.split_at(2);
     let columns = count(columns)?;
     let rows = count(rows)?;
-    if columns * rows > MOST_PLACES {
+    if columns * rows > limits.array {
         return Err(breach(ElementRule::Repetition));
     }
     Ok(Counts { columns, rows })

@@ -4,6 +4,7 @@ ghost use Rattle.std.specs.Prelude.{false};
 ghost use Rattle.gds_elements.specs.Order.{opens};
 ghost use Rattle.gds_elements.specs.Rec.{Rec, an_end};
 ghost use Rattle.gds_elements.specs.Rules.{InOrder, ElementBreaches, BreachesOnly, BreachesNone};
+ghost use Rattle.lvl_profile.specs.declared.limits.Limits.{Limits as PlainLimits};
 ghost use Rattle.gds_elements.specs.inside.Formed.{IsFormed};
 ghost use Rattle.gds_elements.specs.inside.Reading.{IsReading, IsStep, HasRead, IsAtEnd, Takes, Steps, record_of};
 ghost use Rattle.lvl_refusal.specs.Refused.{Says};
@@ -19,6 +20,7 @@ use gds_records::record_type;
 use lvl_cells::Reference;
 use lvl_grid::Ring;
 use lvl_names::Layer;
+use lvl_profile::Limits;
 use lvl_refusal::Cause;
 use std::alloc::Global;
 
@@ -104,32 +106,46 @@ impl Element {
     /// Manual, Release 6; a rule that [`crate::ElementRule`] marks as own is this project's. A record
     /// that is out of order is refused before its payload is looked at. Then the rules of its type are
     /// tested in the order of that list, except that `Oblique` comes after `NotClosed` and `Width`
-    /// before `Path`, and the first that it breaches is reported.
-    pub fn take(self, alloc: Global, kind: u8, payload: &[u8]) -> Result<Step, Cause<ElementFault>>
+    /// before `Path`, and the first that it breaches is reported. An array may have at most
+    /// `limits.array` places.
+    pub fn take(
+        self,
+        alloc: Global,
+        limits: Limits,
+        kind: u8,
+        payload: &[u8],
+    ) -> Result<Step, Cause<ElementFault>>
         requires formed { IsFormed kind payload.now }
         ensures going { (piece : List Rec) (r : Rec) → IsReading self piece → r.kind ≡ kind → r.payload ≡ payload.now
             → IfOk result (λ step. IsStep step (piece ++ r ∷ [])) }
         ensures allowed { (piece : List Rec) (r : Rec) → IsReading self piece → r.kind ≡ kind → r.payload ≡ payload.now
-            → OnOk result (BreachesNone piece r) }
+            → OnOk result (BreachesNone limits piece r) }
         ensures refused { (piece : List Rec) (r : Rec) → IsReading self piece → r.kind ≡ kind → r.payload ≡ payload.now
-            → IfErr result (λ e. Says e (ElementBreaches piece r)) }
+            → IfErr result (λ e. Says e (ElementBreaches limits piece r)) }
         ensures alone { (piece : List Rec) (r : Rec) → IsReading self piece → r.kind ≡ kind → r.payload ≡ payload.now
-            → IfErr result (λ e. Says e (BreachesOnly piece r)) }
+            → IfErr result (λ e. Says e (BreachesOnly limits piece r)) }
     {
-        self.state.take(alloc, kind, payload)
+        self.state.take(alloc, limits, kind, payload)
     }
 }
 
 impl State {
-    fn take(self, alloc: Global, kind: u8, payload: &[u8]) -> Result<Step, Cause<ElementFault>>
+    fn take(
+        self,
+        alloc: Global,
+        limits: Limits,
+        kind: u8,
+        payload: &[u8],
+    ) -> Result<Step, Cause<ElementFault>>
         requires { IsFormed kind payload.now }
-        ensures { (piece : List Rec) (d : ℕ) → HasRead self piece → Steps piece (record_of kind d payload.now) result }
+        ensures { (piece : List Rec) (d : ℕ) → HasRead self piece
+            → Steps limits piece (record_of kind d payload.now) result }
     {
         match self {
             State::Boundary(boundary) => going(boundary.take(alloc, kind, payload)),
             State::Path(path) => going(path.take(alloc, kind, payload)),
             State::Sref(reference) => going(reference.take(alloc, kind, payload)),
-            State::Aref(array) => going(array.take(alloc, kind, payload)),
+            State::Aref(array) => going(array.take(alloc, limits, kind, payload)),
             State::Text(text) => going(text.take(kind, payload)),
             State::Drawn(drawn) => end(drawn, kind),
         }
@@ -138,7 +154,8 @@ impl State {
 
 /// The result of a record that doesn't end the element.
 fn going(read: Result<State, Cause<ElementFault>>) -> Result<Step, Cause<ElementFault>>
-    ensures { (piece : List Rec) (r : Rec) → Takes piece r read → Steps piece r result }
+    ensures { (limits : PlainLimits) (piece : List Rec) (r : Rec) → Takes limits piece r read
+        → Steps limits piece r result }
 {
     match read {
         Ok(state) => Ok(Step::Open(Element { state })),
@@ -149,8 +166,8 @@ fn going(read: Result<State, Cause<ElementFault>>) -> Result<Step, Cause<Element
 /// The result of ENDEL; any other record is out of order.
 fn end(drawn: Drawn, kind: u8) -> Result<Step, Cause<ElementFault>>
     requires { kind < 60 }
-    ensures { (piece : List Rec) (d : ℕ) (payload : List ℕ) → IsAtEnd drawn piece
-        → Steps piece (record_of kind d payload) result }
+    ensures { (limits : PlainLimits) (piece : List Rec) (d : ℕ) (payload : List ℕ) → IsAtEnd drawn piece
+        → Steps limits piece (record_of kind d payload) result }
 {
     if kind != record_type::ENDEL {
         return Err(out_of_order(kind));

@@ -61,7 +61,7 @@ pub enum ElementRule {
     /// An edge of a boundary changes both coordinates (own).
     #[error("an edge of a boundary is oblique")]
     Oblique,
-    /// An array has more than 1,048,576 places (own).
+    /// An array has more places than the limits allow (own).
     #[error("an array has too many places")]
     Repetition,
 }

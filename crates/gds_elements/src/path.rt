@@ -12,6 +12,7 @@ ghost use Rattle.lvl_grammar.specs.inside.After.{after_first};
 ghost use Rattle.gds_elements.specs.inside.Left.{left_after, EndsBy};
 ghost use Rattle.gds_elements.specs.inside.Formed.{IsFormed};
 ghost use Rattle.gds_elements.specs.inside.Path.{left, IsPathRead, IsBandsFault, reach_at};
+ghost use Rattle.lvl_profile.specs.declared.limits.Limits.{Limits as PlainLimits};
 ghost use Rattle.gds_elements.specs.inside.Reading.{Takes, record_of};
 ghost use Rattle.lvl_refusal.specs.Refused.{Says};
 ghost use Rattle.gds_elements.specs.inside.Misplaced.{Broken, breach};
@@ -103,8 +104,8 @@ impl Path {
         payload: &[u8],
     ) -> Result<State, Cause<ElementFault>>
         requires { IsFormed kind payload.now }
-        ensures { (piece : List Rec) (d : ℕ) → IsPathRead self piece
-            → Takes piece (record_of kind d payload.now) result }
+        ensures { (limits : PlainLimits) (piece : List Rec) (d : ℕ) → IsPathRead self piece
+            → Takes limits piece (record_of kind d payload.now) result }
     {
         match self.stage.after(kind) {
             Next::Goes(stage) => {

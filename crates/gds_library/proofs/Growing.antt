@@ -1,21 +1,27 @@
--- A stream that is accepted when less is ignored is accepted when more is, with the same meaning.
+-- A stream that is accepted under a profile is accepted under each wider one, with the same meaning.
 use Rattle.std.proofs.Common.{◌≡◌, ◌==◌, inl, inr, ℕ, Bool, true, false, if◌then◌else◌, List, [], ◌∷◌, ◌++◌, Some}
 use Rattle.std.proofs.Common.{None, refl, sym, ap, ◌∙◌, subst, arith, length, append_assoc, ◌⊎◌}
 use Rattle.std.proofs.lemmas.List.{append-nil}
 use Rattle.std.specs.Prelude.{Option, is_some, ◌&&◌}
 use Rattle.lvl_profile.specs.Ignored.{IsSubsetOf}
+use Rattle.lvl_profile.specs.Limits.{AreWithin}
+use Rattle.lvl_profile.specs.Profiles.{IsWider}
 use Rattle.lvl_profile.specs.declared.ignore.Ignore.{Ignore}
+use Rattle.lvl_profile.specs.declared.limits.Limits.{Limits}
+use Rattle.lvl_profile.specs.declared.profile.Profile.{Profile}
 use Rattle.lvl_grammar.specs.Front.{SpellsAll, FollowAll}
 use Rattle.lvl_grammar.proofs.Orders.{by_test}
 use Rattle.gds_records.specs.Table.{Row, table, property_rows, name_rows, ignored_rows, form_among, form_of, is_ignored}
 use Rattle.gds_records.specs.Spelled.{IsOfForm}
 use Rattle.gds_records.specs.declared.form.Form.{Form}
-use Rattle.gds_elements.specs.Rec.{Rec, an_end}
-use Rattle.gds_elements.specs.Rules.{IsKnown}
+use Rattle.gds_elements.specs.Rec.{Rec, an_end, is_opener}
+use Rattle.gds_elements.specs.Rules.{IsKnown, ValueBreaches}
+use Rattle.gds_elements.specs.declared.fault.ElementRule.{ElementRule}
+use Rattle.gds_elements.specs.declared.fault.ElementRule.TheVariants.{Repetition}
 use Rattle.gds_library.specs.Types.{reflibs, fonts, generations, attrtable, elflags, propattr, propvalue, plex}
 use Rattle.gds_library.specs.Types.{strclass, format, libdirsize, srfname, libsecur}
-use Rattle.gds_library.specs.Rec.{Spells}
-use Rattle.gds_library.specs.Rules.{IsWhole, InOrder, MayFollow}
+use Rattle.gds_library.specs.Rec.{Spells, last_piece}
+use Rattle.gds_library.specs.Rules.{IsWhole, InOrder, KeepsRules, MayFollow}
 use Rattle.gds_library.specs.Ignoring.{is_passed, essential, MayFollowBy}
 use Rattle.gds_library.specs.Front.{gds, SpellsLibrary}
 use Rattle.gds_library.specs.Values.{drawings, head}
@@ -110,8 +116,8 @@ known_kept p n k =
     go false true x y = y
     go false false x y = refl
 
-known_unpassed : (ignore : Ignore) (r : Rec) → IsKnown r.kind → is_passed ignore r ≡ false
-known_unpassed ignore r k = rw (known_kept ignore.properties ignore.names r.kind k) refl
+known_unpassed : (profile : Profile) (r : Rec) → IsKnown r.kind → is_passed profile r ≡ false
+known_unpassed profile r k = rw (known_kept profile.ignore.properties profile.ignore.names r.kind k) refl
 
 some_form : (o : Option Form) → is_some o ≡ true → (f : Form) × (o ≡ Some f)
 some_form None e = (let z : false ≡ true = e in cc)
@@ -122,18 +128,18 @@ and_left true b e = (refl, e)
 and_left false b e = (let z : false ≡ true = e in cc)
 
 -- what is ignored is ignored when more is
-passed_grows : (less more : Ignore) → IsSubsetOf less more → (r : Rec) → is_passed less r ≡ true
+passed_grows : (less more : Profile) → IsWider less more → (r : Rec) → is_passed less r ≡ true
     → is_passed more r ≡ true
 passed_grows less more w r e =
-    let p = and_left (is_ignored less r.kind) _ e in
-    let f = some_form (form_among (ignored_rows less) r.kind) p.0 in
-    rw (grown_form less more w r.kind f.0 f.1) p.1
+    let p = and_left (is_ignored less.ignore r.kind) _ e in
+    let f = some_form (form_among (ignored_rows less.ignore) r.kind) p.0 in
+    rw (grown_form less.ignore more.ignore w.ignore r.kind f.0 f.1) p.1
 
 -- a record that may follow is ignored, or of a type that is always read, or a zero byte
-abbrev IsSorted : Ignore → Rec → Type 0
+abbrev IsSorted : Profile → Rec → Type 0
 IsSorted less r = (is_passed less r ≡ true) ⊎ (IsKnown r.kind ⊎ (r ≡ a_fill))
 
-sorted : (less : Ignore) (before : List Rec) (r : Rec) (bytes : List ℕ) → Spells less bytes r
+sorted : (less : Profile) (before : List Rec) (r : Rec) (bytes : List ℕ) → Spells less bytes r
     → MayFollowBy less before r → IsSorted less r
 sorted less before r bytes s f = elim s [
   | inl i ↦ elim f.0 [
@@ -144,7 +150,7 @@ sorted less before r bytes s f = elim s [
 ]
 
 -- and stays so when more is ignored
-same_passed : (less more : Ignore) → IsSubsetOf less more → (r : Rec) → IsSorted less r
+same_passed : (less more : Profile) → IsWider less more → (r : Rec) → IsSorted less r
     → is_passed more r ≡ is_passed less r
 same_passed less more w r s = elim s [
   | inl e ↦ passed_grows less more w r e ∙ sym e
@@ -157,7 +163,7 @@ same_passed less more w r s = elim s [
 table_form : (i : Ignore) (k : ℕ) (f : Form) → form_among table k ≡ Some f → form_of i k ≡ Some f
 table_form i k f e = form_left table (ignored_rows i) k f e
 
-same_form : (less more : Ignore) → IsSubsetOf less more → (r : Rec) (bytes : List ℕ) → Spells less bytes r
+same_form : (less more : Profile) → IsWider less more → (r : Rec) (bytes : List ℕ) → Spells less bytes r
     → IsSorted less r → Spells more bytes r
 same_form less more w r bytes s t = elim s [
   | inr j ↦ inr j
@@ -169,14 +175,14 @@ same_form less more w r bytes s t = elim s [
       data_type = i.0.data_type;
       form = elim t [
         | inl e ↦
-            let p = and_left (is_ignored less r.kind) _ e in
-            let f = some_form (form_among (ignored_rows less) r.kind) p.0 in
+            let p = and_left (is_ignored less.ignore r.kind) _ e in
+            let f = some_form (form_among (ignored_rows less.ignore) r.kind) p.0 in
             subst (λ o. IsOfForm o r.data_type (length r.payload)) (ignored_same r.kind f.0 f.1) i.0.form
         | inr u ↦ elim u [
           | inl k ↦
               let f = some_form (form_among table r.kind) k in
               subst (λ o. IsOfForm o r.data_type (length r.payload))
-              (table_form less r.kind f.0 f.1 ∙ sym (table_form more r.kind f.0 f.1)) i.0.form
+              (table_form less.ignore r.kind f.0 f.1 ∙ sym (table_form more.ignore r.kind f.0 f.1)) i.0.form
           | inr z ↦ absurd (omega (arith, i.0.known, ap (λ (x : Rec). x.kind) z))
         ]
       ];
@@ -185,16 +191,30 @@ same_form less more w r bytes s t = elim s [
   )
 ]
   where
-    ignored_same : (k : ℕ) (f : Form) → form_among (ignored_rows less) k ≡ Some f → form_of less k ≡ form_of more k
+    ignored_same : (k : ℕ) (f : Form) → form_among (ignored_rows less.ignore) k ≡ Some f → form_of less.ignore k ≡ form_of more.ignore k
     ignored_same k f e = go (form_among table k) refl
       where
-        go : (o : Option Form) → form_among table k ≡ o → form_of less k ≡ form_of more k
-        go (Some g) h = table_form less k g h ∙ sym (table_form more k g h)
-        go None h = form_right table (ignored_rows less) k h ∙ e ∙ sym (grown_form less more w k f e)
-            ∙ sym (form_right table (ignored_rows more) k h)
+        go : (o : Option Form) → form_among table k ≡ o → form_of less.ignore k ≡ form_of more.ignore k
+        go (Some g) h = table_form less.ignore k g h ∙ sym (table_form more.ignore k g h)
+        go None h = form_right table (ignored_rows less.ignore) k h ∙ e ∙ sym (grown_form less.ignore more.ignore w.ignore k f e)
+            ∙ sym (form_right table (ignored_rows more.ignore) k h)
+
+-- what breaches a rule within wider limits breaches it within narrower ones
+value_back : (less more : Limits) → AreWithin less more → (piece : List Rec) (r : Rec) (k : ElementRule)
+    → ValueBreaches more piece r k → ValueBreaches less piece r k
+value_back less more w piece r Repetition x = (x.0, x.1, x.2, x.3, omega (arith, x.4, w.array))
+value_back less more w piece r other x = x
+
+rules_grow : (less more : Limits) → AreWithin less more → (before : List Rec) (r : Rec) → KeepsRules less before r
+    → KeepsRules more before r
+rules_grow less more w before r h = record {
+  element = λ k x. h.element k (value_back less more w (last_piece is_opener before) r k x);
+  name = h.name;
+  cells = λ e. omega (arith, h.cells e, w.cells);
+}
 
 -- if the same records aren't ignored, the same may follow
-follows_grows : (less more : Ignore) → IsSubsetOf less more → (before : List Rec) (r : Rec)
+follows_grows : (less more : Profile) → IsWider less more → (before : List Rec) (r : Rec)
     → essential more before ≡ essential less before → IsSorted less r → MayFollowBy less before r
     → MayFollowBy more before r
 follows_grows less more w before r same s f = elim f.0 [
@@ -206,12 +226,12 @@ follows_grows less more w before r same s f = elim f.0 [
     ];
   })
   | inr e ↦ follows_essential more before r (same_passed less more w r s ∙ e.unpassed) e.complete
-      (subst (λ l. MayFollow l r) (sym same)
-      (e.ordered, f.1 e.unpassed))
+      (subst (λ l. MayFollow more.limits l r) (sym same)
+      (e.ordered, rules_grow less.limits more.limits w.limits (essential less before) r (f.1 e.unpassed)))
 ]
 
 -- one more record is ignored in both cases, or in neither
-same_more : (less more : Ignore) → IsSubsetOf less more → (before : List Rec) (r : Rec)
+same_more : (less more : Profile) → IsWider less more → (before : List Rec) (r : Rec)
     → essential more before ≡ essential less before → IsSorted less r
     → essential more (before ++ r ∷ []) ≡ essential less (before ++ r ∷ [])
 same_more less more w before r same s = go (is_passed less r) refl (same_passed less more w r s)
@@ -223,12 +243,12 @@ same_more less more w before r same s = go (is_passed less r) refl (same_passed 
         ∙ sym (essential_kept less before r e)
 
 -- the same bytes spell the same records, and the same of them aren't ignored
-pub record Grows (less more : Ignore) (before : List Rec) (bytes : List ℕ) (rs : List Rec) : Type 0 where
+pub record Grows (less more : Profile) (before : List Rec) (bytes : List ℕ) (rs : List Rec) : Type 0 where
   pub spelled : SpellsAll (gds more) before bytes rs
   pub followed : FollowAll (gds more) before rs
   pub same : essential more (before ++ rs) ≡ essential less (before ++ rs)
 
-all_grow : (less more : Ignore) → IsSubsetOf less more → (before rs : List Rec) (bytes : List ℕ)
+all_grow : (less more : Profile) → IsWider less more → (before rs : List Rec) (bytes : List ℕ)
     → essential more before ≡ essential less before → SpellsAll (gds less) before bytes rs
     → FollowAll (gds less) before rs → Grows less more before bytes rs
 all_grow less more w before [] bytes same s f = record {
@@ -245,15 +265,15 @@ all_grow less more w before (r ∷ rs) bytes same s f =
       same = subst (λ l. essential more l ≡ essential less l) (append_assoc before (r ∷ []) rs) next.same;
     }
 
--- a library that is spelled when less is ignored is spelled when more is
-pub library_grows : (less more : Ignore) → IsSubsetOf less more → (bytes : List ℕ) (cells : List Drawing) (h : GdsHead)
+-- a library that is spelled under a profile is spelled under each wider one
+pub library_grows : (less more : Profile) → IsWider less more → (bytes : List ℕ) (cells : List Drawing) (h : GdsHead)
     → SpellsLibrary less bytes cells h → SpellsLibrary more bytes cells h
 library_grows less more w bytes cells h p =
     let g = all_grow less more w [] p.records bytes refl p.whole.front.spelled p.whole.front.followed in
     record {
       records = p.records;
       whole = record {
-        front = record { spelled = g.spelled; followed = g.followed; within = p.whole.front.within };
+        front = record { spelled = g.spelled; followed = g.followed; within = omega (arith, p.whole.front.within, w.limits.file) };
         whole = subst IsWhole (sym g.same) p.whole.whole;
       };
       cells_are = p.cells_are ∙ ap drawings (sym g.same);

@@ -1,5 +1,5 @@
 -- GDSII has the properties that the laws of streams need of a format.
-use Rattle.lvl_profile.specs.declared.ignore.Ignore.{Ignore}
+use Rattle.lvl_profile.specs.declared.profile.Profile.{Profile}
 use Rattle.std.proofs.Common.{◌≡◌, ◌≢◌, ℕ, ◌<◌, ◌≤◌, ◌⊎◌, List, [], ◌∷◌, ◌++◌, length, Err, refl, sym, ap, ◌∙◌, subst}
 use Rattle.std.proofs.Common.{append_assoc, true, false, inl, inr, arith, length-append}
 use Rattle.std.proofs.lemmas.List.{append-nil}
@@ -43,10 +43,10 @@ fill_whole_of : (before : List Rec) → InOrder before a_fill → IsWhole before
 fill_whole_of before g =
     fill_ends a_body endlib fill (kinds before) refl no_end (in_order before a_fill g)
 
-pub fill_whole : (ignore : Ignore) (before : List Rec) → InOrderBy ignore before a_fill → IsWholeBy ignore before
-fill_whole ignore before g = elim g [
-  | inl p ↦ (let z : true ≡ false = sym p.0 ∙ fill_unpassed ignore in cc)
-  | inr e ↦ fill_whole_of (essential ignore before) e.ordered
+pub fill_whole : (profile : Profile) (before : List Rec) → InOrderBy profile before a_fill → IsWholeBy profile before
+fill_whole profile before g = elim g [
+  | inl p ↦ (let z : true ≡ false = sym p.0 ∙ fill_unpassed profile in cc)
+  | inr e ↦ fill_whole_of (essential profile before) e.ordered
 ]
 
 -- after a whole library only zero bytes may come
@@ -55,26 +55,26 @@ whole_alone_of before r w g =
     fill_alone a_body endlib fill r.kind (kinds before) refl refl no_end (fill_more a_body endlib fill (kinds before) w)
     (in_order before r g)
 
-pub whole_alone : (ignore : Ignore) (before : List Rec) (r : Rec) → IsWholeBy ignore before
-    → InOrderBy ignore before r → r.kind ≡ fill
-whole_alone ignore before r w g = elim g [
+pub whole_alone : (profile : Profile) (before : List Rec) (r : Rec) → IsWholeBy profile before
+    → InOrderBy profile before r → r.kind ≡ fill
+whole_alone profile before r w g = elim g [
   | inl p ↦ absurd (p.1.unended w)
-  | inr e ↦ whole_alone_of (essential ignore before) r w e.ordered
+  | inr e ↦ whole_alone_of (essential profile before) r w e.ordered
 ]
 
 -- after the same records, bytes that begin alike spell the same record
-same_next : (ignore : Ignore) (before : List Rec) (r s : Rec) (a b x y : List ℕ) → Spells ignore a r → Spells ignore b s
-    → MayFollowBy ignore before r
-    → MayFollowBy ignore before s → a ++ x ≡ b ++ y → r ≡ s
-same_next ignore before r s a b x y p q f g e = elim p [
+same_next : (profile : Profile) (before : List Rec) (r s : Rec) (a b x y : List ℕ) → Spells profile a r → Spells profile b s
+    → MayFollowBy profile before r
+    → MayFollowBy profile before s → a ++ x ≡ b ++ y → r ≡ s
+same_next profile before r s a b x y p q f g e = elim p [
   | inl i ↦ elim q [
     | inl j ↦ one_record a b x y r s i.1 j.1 e
-    | inr j ↦ (let z = whole_alone ignore before r (fill_whole ignore before (subst (InOrderBy ignore before) j.0 g.0))
+    | inr j ↦ (let z = whole_alone profile before r (fill_whole profile before (subst (InOrderBy profile before) j.0 g.0))
         f.0 in
         absurd (omega (arith, z, i.0.known)))
   ]
   | inr i ↦ elim q [
-    | inl j ↦ (let z = whole_alone ignore before s (fill_whole ignore before (subst (InOrderBy ignore before) i.0 f.0))
+    | inl j ↦ (let z = whole_alone profile before s (fill_whole profile before (subst (InOrderBy profile before) i.0 f.0))
         g.0 in
         absurd (omega (arith, z, j.0.known)))
     | inr j ↦ i.0 ∙ sym j.0
@@ -82,70 +82,70 @@ same_next ignore before r s a b x y p q f g e = elim p [
 ]
 
 -- an empty list of bytes has no fault
-pub some_bytes : (ignore : Ignore) (room : ℕ) (ys : List ℕ) (f : RecordFault) → step ignore room ys ≡ Err f
+pub some_bytes : (profile : Profile) (room : ℕ) (ys : List ℕ) (f : RecordFault) → step profile.ignore room ys ≡ Err f
     → 0 < length ys
 unfolding step
-some_bytes ignore room [] f e = cc
-some_bytes ignore room (y ∷ ys) f e = omega arith
+some_bytes profile room [] f e = cc
+some_bytes profile room (y ∷ ys) f e = omega arith
 
-starts_some : (ignore : Ignore) (room : ℕ) (ys : List ℕ) (r : Rec) → StartsWith ignore room ys r → 0 < length ys
-starts_some ignore room ys r s =
+starts_some : (profile : Profile) (room : ℕ) (ys : List ℕ) (r : Rec) → StartsWith profile room ys r → 0 < length ys
+starts_some profile room ys r s =
     omega (arith, length_spelled s.0 r.payload r.kind r.data_type s.3, ap length s.5, length-append s.0 s.1)
 
-wrong_here : (ignore : Ignore) (before : List Rec) (room : ℕ) (ys : List ℕ) (k : GdsKind)
-    → IsWrong ignore before room ys k → 0 < length ys
-wrong_here ignore before room ys (Record f) w = some_bytes ignore room ys f w.2
-wrong_here ignore before room ys AfterEnd w = omega (arith, ap length w.5)
-wrong_here ignore before room ys other w = starts_some ignore room ys w.1 w.2
+wrong_here : (profile : Profile) (before : List Rec) (room : ℕ) (ys : List ℕ) (k : GdsKind)
+    → IsWrong profile before room ys k → 0 < length ys
+wrong_here profile before room ys (Record f) w = some_bytes profile room ys f w.2
+wrong_here profile before room ys AfterEnd w = omega (arith, ap length w.5)
+wrong_here profile before room ys other w = starts_some profile room ys w.1 w.2
 
 -- two records that begin the same bytes are the same
-pub starts_same : (ignore : Ignore) (room : ℕ) (ys text : List ℕ) (r s : Rec) → StartsWith ignore room ys r
+pub starts_same : (profile : Profile) (room : ℕ) (ys text : List ℕ) (r s : Rec) → StartsWith profile room ys r
     → IsSpelling text s.kind s.data_type s.payload → Agree text ys → s ≡ r
-starts_same ignore room ys text r s h p agree =
+starts_same profile room ys text r s h p agree =
     let q = agree_ends text ys agree in
     one_record text h.0 q.0 (h.1 ++ q.1) s r p h.3 (q.2 ∙ ap (λ l. l ++ q.1) h.5 ∙ append_assoc h.0 h.1 q.1)
 
-stops_record : (ignore : Ignore) (before : List Rec) (room : ℕ) (ys text : List ℕ) (s : Rec) (k : GdsKind)
-    → (IsWholeBy ignore before → ⊥)
-    → (r : Rec) × StartsWith ignore room ys r × BreachesBy ignore before r k
-    → Spells ignore text s → MayFollowBy ignore before s → Agree text ys → ⊥
-stops_record ignore before room ys text s k n w p f agree = elim p [
-  | inl i ↦ follows_kept ignore before s k f (subst (λ (x : Rec). BreachesBy ignore before x k)
-      (sym (starts_same ignore room ys text w.0 s w.1 i.1 agree)) w.2)
-  | inr i ↦ n (fill_whole ignore before (subst (InOrderBy ignore before) i.0 f.0))
+stops_record : (profile : Profile) (before : List Rec) (room : ℕ) (ys text : List ℕ) (s : Rec) (k : GdsKind)
+    → (IsWholeBy profile before → ⊥)
+    → (r : Rec) × StartsWith profile room ys r × BreachesBy profile before r k
+    → Spells profile text s → MayFollowBy profile before s → Agree text ys → ⊥
+stops_record profile before room ys text s k n w p f agree = elim p [
+  | inl i ↦ follows_kept profile before s k f (subst (λ (x : Rec). BreachesBy profile before x k)
+      (sym (starts_same profile room ys text w.0 s w.1 i.1 agree)) w.2)
+  | inr i ↦ n (fill_whole profile before (subst (InOrderBy profile before) i.0 f.0))
 ]
 
 -- if a rule is breached, no record may follow
-wrong_stops : (ignore : Ignore) (before : List Rec) (room : ℕ) (ys text : List ℕ) (s : Rec) (k : GdsKind)
-    → IsWrong ignore before room ys k
-    → Spells ignore text s → MayFollowBy ignore before s → Agree text ys → length text ≤ room → ⊥
-wrong_stops ignore before room ys text s (Record f) w p g agree fits = elim p [
-  | inl i ↦ law_malformed ignore room ys f w.2 w.0 s.kind s.data_type s.payload text i.0 i.1
+wrong_stops : (profile : Profile) (before : List Rec) (room : ℕ) (ys text : List ℕ) (s : Rec) (k : GdsKind)
+    → IsWrong profile before room ys k
+    → Spells profile text s → MayFollowBy profile before s → Agree text ys → length text ≤ room → ⊥
+wrong_stops profile before room ys text s (Record f) w p g agree fits = elim p [
+  | inl i ↦ law_malformed profile.ignore room ys f w.2 w.0 s.kind s.data_type s.payload text i.0 i.1
       (omega (arith, fits, length_spelled text s.payload s.kind s.data_type i.1)) agree
-  | inr i ↦ (let z = w.3 (fill_whole ignore before (subst (InOrderBy ignore before) i.0 g.0)) in
+  | inr i ↦ (let z = w.3 (fill_whole profile before (subst (InOrderBy profile before) i.0 g.0)) in
       omega (arith, z, fits, ap length i.1))
 ]
-wrong_stops ignore before room ys text s AfterEnd w p g agree fits = elim p [
-  | inl i ↦ (let z = whole_alone ignore before s w.0 g.0 in omega (arith, z, i.0.known))
+wrong_stops profile before room ys text s AfterEnd w p g agree fits = elim p [
+  | inl i ↦ (let z = whole_alone profile before s w.0 g.0 in omega (arith, z, i.0.known))
   | inr i ↦
       let q = agree_ends text ys agree in
       let z : (0 ∷ []) ++ q.0 ≡ (w.2 ∷ w.3) ++ q.1 = ap (λ l. l ++ q.0) (sym i.1) ∙ q.2 ∙ ap (λ l. l ++ q.1) w.5 in
       w.4 (let h : w.2 ≡ 0 = cc in h)
 ]
-wrong_stops ignore before room ys text s (Misplaced m) w p g agree fits =
-    stops_record ignore before room ys text s (Misplaced m) w.0 (w.1, w.2, w.3) p g agree
-wrong_stops ignore before room ys text s (Element k) w p g agree fits =
-    stops_record ignore before room ys text s (Element k) w.0 (w.1, w.2, w.3) p g agree
-wrong_stops ignore before room ys text s Name w p g agree fits =
-    stops_record ignore before room ys text s Name w.0 (w.1, w.2, w.3) p g agree
-wrong_stops ignore before room ys text s TooManyCells w p g agree fits =
-    stops_record ignore before room ys text s TooManyCells w.0 (w.1, w.2, w.3) p g agree
+wrong_stops profile before room ys text s (Misplaced m) w p g agree fits =
+    stops_record profile before room ys text s (Misplaced m) w.0 (w.1, w.2, w.3) p g agree
+wrong_stops profile before room ys text s (Element k) w p g agree fits =
+    stops_record profile before room ys text s (Element k) w.0 (w.1, w.2, w.3) p g agree
+wrong_stops profile before room ys text s Name w p g agree fits =
+    stops_record profile before room ys text s Name w.0 (w.1, w.2, w.3) p g agree
+wrong_stops profile before room ys text s TooManyCells w p g agree fits =
+    stops_record profile before room ys text s TooManyCells w.0 (w.1, w.2, w.3) p g agree
 
 -- bytes that end within a record begin with no record
-cut_none : (ignore : Ignore) (ys text rest : List ℕ) (r : Rec) → IsSpelling text r.kind r.data_type r.payload
+cut_none : (profile : Profile) (ys text rest : List ℕ) (r : Rec) → IsSpelling text r.kind r.data_type r.payload
     → ys ≡ text ++ rest
-    → (length ys < 4) ⊎ IsBegun ignore ys → ⊥
-cut_none ignore ys text rest r s e cut = elim cut [
+    → (length ys < 4) ⊎ IsBegun profile.ignore ys → ⊥
+cut_none profile ys text rest r s e cut = elim cut [
   | inl l ↦ omega (arith, l, ap length e, length-append text rest, length_spelled text r.payload r.kind r.data_type s)
   | inr b ↦
       let t : Rec = record { kind = b.kind; data_type = b.data_type; payload = b.payload } in
@@ -163,21 +163,21 @@ cut_none ignore ys text rest r s e cut = elim cut [
       )
 ]
 
-pub is_grammar : (ignore : Ignore) → IsGrammar (gds ignore)
-is_grammar ignore = record {
+pub is_grammar : (profile : Profile) → IsGrammar (gds profile)
+is_grammar profile = record {
   decided = λ before r s a b x y p q f g e.
-      let same = same_next ignore before r s a b x y p q f g e in
-      (spells_once ignore a b s (subst (Spells ignore a) same p) q, same);
-  some = λ before a r p. spells_some ignore a r p;
+      let same = same_next profile before r s a b x y p q f g e in
+      (spells_once profile a b s (subst (Spells profile a) same p) q, same);
+  some = λ before a r p. spells_some profile a r p;
 }
 
-pub are_faults : (ignore : Ignore) → AreFaults (gds_faults ignore)
-are_faults ignore = record {
-  grammar = is_grammar ignore;
-  here = wrong_here ignore;
-  stops = λ before room ys text r k. wrong_stops ignore before room ys text r k;
+pub are_faults : (profile : Profile) → AreFaults (gds_faults profile)
+are_faults profile = record {
+  grammar = is_grammar profile;
+  here = wrong_here profile;
+  stops = λ before room ys text r k. wrong_stops profile before room ys text r k;
   cut = λ before ys text rest r c n p f e. elim p [
-    | inl i ↦ cut_none ignore ys text rest r i.1 e c
-    | inr i ↦ n (fill_whole ignore before (subst (InOrderBy ignore before) i.0 f.0))
+    | inl i ↦ cut_none profile ys text rest r i.1 e c
+    | inr i ↦ n (fill_whole profile before (subst (InOrderBy profile before) i.0 f.0))
   ];
 }

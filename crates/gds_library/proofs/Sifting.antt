@@ -2,7 +2,7 @@
 use Rattle.std.proofs.Common.{◌≡◌, ◌≢◌, inl, inr, ℕ, Bool, true, false, List, [], ◌∷◌, ◌++◌, Some, sym, ap}
 use Rattle.std.proofs.Common.{◌∙◌, subst}
 use Rattle.std.specs.Prelude.{◌↔◌, IsTrue, Result, Ok, Err, IsErr, IsErrAnd}
-use Rattle.lvl_profile.specs.declared.ignore.Ignore.{Ignore}
+use Rattle.lvl_profile.specs.declared.profile.Profile.{Profile}
 use Rattle.lvl_refusal.specs.declared.Cause.{Cause}
 use Rattle.lvl_refusal.specs.Refused.{Says}
 use Rattle.gds_elements.specs.Rec.{Rec, an_end}
@@ -20,11 +20,11 @@ use Rattle.gds_library.proofs.Passing.{follows_essential, says_essential}
 use Rattle.gds_library.proofs.Streams.{has_unwhole}
 
 -- an ignored PROPATTR may come exactly where ENDEL may, if no PROPVALUE is missing
-pub passes_end : (ignore : Ignore) (x : WithIgnored) (rs : List Rec) (r : Rec) (t : Bool) → HasReadBy ignore x rs
+pub passes_end : (profile : Profile) (x : WithIgnored) (rs : List Rec) (r : Rec) (t : Bool) → HasReadBy profile x rs
     → x.reading.builder.stage ≢ Fill → r.kind ≡ propattr → (AwaitsValue rs → ⊥)
-    → (IsTrue t ↔ InOrder (essential ignore rs) an_end) → IsTrue t ↔ MayPass ignore rs r
-passes_end ignore x rs r t h p e w o = (
-  λ y. record { unended = has_unwhole ignore x rs h p; there = inl (e, w, o.0 y) },
+    → (IsTrue t ↔ InOrder (essential profile rs) an_end) → IsTrue t ↔ MayPass profile rs r
+passes_end profile x rs r t h p e w o = (
+  λ y. record { unended = has_unwhole profile x rs h p; there = inl (e, w, o.0 y) },
   λ m. elim m.there [
     | inl z ↦ o.1 z.2
     | inr z ↦ (let y : false ≡ true = subst (λ k. comes_after k z.0 ≡ true) e z.2 in cc)
@@ -32,11 +32,11 @@ passes_end ignore x rs r t h p e w o = (
 )
 
 -- an ignored record of another type may come exactly after those that the syntax allows before it
-pub passes_after : (ignore : Ignore) (x : WithIgnored) (rs : List Rec) (r : Rec) (t : Bool) (j : ℕ)
-    → HasReadBy ignore x rs → x.reading.builder.stage ≢ Fill → (r.kind ≡ propattr → ⊥) → x.last ≡ Some j
-    → t ≡ comes_after r.kind j → IsTrue t ↔ MayPass ignore rs r
-passes_after ignore x rs r t j h p n l e = (
-  λ y. record { unended = has_unwhole ignore x rs h p; there = inr (j, sym h.last ∙ l, sym e ∙ y) },
+pub passes_after : (profile : Profile) (x : WithIgnored) (rs : List Rec) (r : Rec) (t : Bool) (j : ℕ)
+    → HasReadBy profile x rs → x.reading.builder.stage ≢ Fill → (r.kind ≡ propattr → ⊥) → x.last ≡ Some j
+    → t ≡ comes_after r.kind j → IsTrue t ↔ MayPass profile rs r
+passes_after profile x rs r t j h p n l e = (
+  λ y. record { unended = has_unwhole profile x rs h p; there = inr (j, sym h.last ∙ l, sym e ∙ y) },
   λ m. elim m.there [
     | inl z ↦ absurd (n z.0)
     | inr z ↦
@@ -47,44 +47,44 @@ passes_after ignore x rs r t j h p n l e = (
 )
 
 -- an ignored record was read
-pub takes_passed : (ignore : Ignore) (x y : WithIgnored) (rs : List Rec) (r : Rec) → HasReadBy ignore x rs
-    → is_passed ignore r ≡ true → x.reading.builder.stage ≢ Fill → MayPass ignore rs r → y.reading ≡ x.reading
-    → y.last ≡ Some r.kind → HasReadBy ignore y (rs ++ r ∷ []) × MayFollowBy ignore rs r
-takes_passed ignore x y rs r h e p m same l = (
+pub takes_passed : (profile : Profile) (x y : WithIgnored) (rs : List Rec) (r : Rec) → HasReadBy profile x rs
+    → is_passed profile r ≡ true → x.reading.builder.stage ≢ Fill → MayPass profile rs r → y.reading ≡ x.reading
+    → y.last ≡ Some r.kind → HasReadBy profile y (rs ++ r ∷ []) × MayFollowBy profile rs r
+takes_passed profile x y rs r h e p m same l = (
   record {
-    essential = subst (HasRead y.reading) (sym (essential_passed ignore rs r e))
-        (subst (λ (q : Reading). HasRead q (essential ignore rs)) (sym same) h.essential);
+    essential = subst (HasRead y.reading) (sym (essential_passed profile rs r e))
+        (subst (λ (q : Reading). HasRead q (essential profile rs)) (sym same) h.essential);
     last = l ∙ sym (last_type-snoc rs r);
     waits = λ w. subst (λ (q : Reading). q.builder.stage ≢ Fill) (sym same) p;
   },
-  follows_passed ignore rs r e m,
+  follows_passed profile rs r e m,
 )
 
 -- another record was read
-pub takes_essential : (ignore : Ignore) (y : WithIgnored) (rs : List Rec) (r : Rec) → is_passed ignore r ≡ false
+pub takes_essential : (profile : Profile) (y : WithIgnored) (rs : List Rec) (r : Rec) → is_passed profile r ≡ false
     → (AwaitsValue rs → ⊥)
-    → HasRead y.reading (essential ignore rs ++ r ∷ []) × MayFollow (essential ignore rs) r
-    → y.last ≡ Some r.kind → HasReadBy ignore y (rs ++ r ∷ []) × MayFollowBy ignore rs r
-takes_essential ignore y rs r e c t l = (
+    → HasRead y.reading (essential profile rs ++ r ∷ []) × MayFollow profile.limits (essential profile rs) r
+    → y.last ≡ Some r.kind → HasReadBy profile y (rs ++ r ∷ []) × MayFollowBy profile rs r
+takes_essential profile y rs r e c t l = (
   record {
-    essential = subst (HasRead y.reading) (sym (essential_kept ignore rs r e)) t.0;
+    essential = subst (HasRead y.reading) (sym (essential_kept profile rs r e)) t.0;
     last = l ∙ sym (last_type-snoc rs r);
     waits = λ w.
         let i : Some r.kind ≡ Some propattr = sym (last_type-snoc rs r) ∙ w in
         let k : r.kind ≡ propattr = cc in
-        absurd (never_waits (essential ignore rs) r t.1 k);
+        absurd (never_waits profile.limits (essential profile rs) r t.1 k);
   },
-  follows_essential ignore rs r e c t.1,
+  follows_essential profile rs r e c t.1,
 )
 
 -- or refused
-pub takes_none : {A : Type 0} (ignore : Ignore) (rs : List Rec) (r : Rec) (x : WithIgnored)
+pub takes_none : {A : Type 0} (profile : Profile) (rs : List Rec) (r : Rec) (x : WithIgnored)
     (res : Result A (Cause GdsKind))
-    (e : Cause GdsKind) → IsErr res × IsErrAnd res (λ f. f ≡ e) → is_passed ignore r ≡ false
+    (e : Cause GdsKind) → IsErr res × IsErrAnd res (λ f. f ≡ e) → is_passed profile r ≡ false
     → (AwaitsValue rs → ⊥)
-    → Says e (λ k. Breaches (essential ignore rs) r k × BreachesOnly (essential ignore rs) r k)
-    → TakesBy ignore rs r x res
-takes_none ignore rs r x (Ok v) e h n c b = absurd h.1
-takes_none ignore rs r x (Err f) e h n c b =
-    subst (λ (i : Cause GdsKind). Says i (λ k. BreachesBy ignore rs r k × BreachesOnlyBy ignore rs r k)) (sym h.1)
-    (says_essential ignore rs r e n c b)
+    → Says e (λ k. Breaches profile.limits (essential profile rs) r k × BreachesOnly profile.limits (essential profile rs) r k)
+    → TakesBy profile rs r x res
+takes_none profile rs r x (Ok v) e h n c b = absurd h.1
+takes_none profile rs r x (Err f) e h n c b =
+    subst (λ (i : Cause GdsKind). Says i (λ k. BreachesBy profile rs r k × BreachesOnlyBy profile rs r k)) (sym h.1)
+    (says_essential profile rs r e n c b)

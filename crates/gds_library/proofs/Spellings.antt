@@ -1,5 +1,5 @@
 -- A record has one spelling, and bytes begin with the spelling of at most one record.
-use Rattle.lvl_profile.specs.declared.ignore.Ignore.{Ignore}
+use Rattle.lvl_profile.specs.declared.profile.Profile.{Profile}
 use Rattle.std.proofs.Common.{◌≡◌, ℕ, ◌<◌, List, [], ◌∷◌, ◌++◌, length, take, refl, sym, ap, ◌∙◌, inl, inr, arith}
 use Rattle.std.proofs.Math.Seq.{take-append_seam}
 use Rattle.gds_records.specs.Spelled.{IsRecord, IsSpelling}
@@ -42,20 +42,20 @@ one_spelling a b k d p s t =
     let l : s.low ≡ t.low = omega (arith, s.len, t.len, s.byte, t.byte) in
     s.bytes_are ∙ ap (λ i. i ∷ s.low ∷ k ∷ d ∷ p) h ∙ ap (λ i. t.high ∷ i ∷ k ∷ d ∷ p) l ∙ sym t.bytes_are
 
-no_fill : (ignore : Ignore) (r : Rec) → IsRecord ignore r.kind r.data_type r.payload → r ≡ a_fill → ⊥
-no_fill ignore r p e = let k : r.kind ≡ 256 = ap (λ (x : Rec). x.kind) e in omega (arith, p.known, k)
+no_fill : (profile : Profile) (r : Rec) → IsRecord profile.ignore r.kind r.data_type r.payload → r ≡ a_fill → ⊥
+no_fill profile r p e = let k : r.kind ≡ 256 = ap (λ (x : Rec). x.kind) e in omega (arith, p.known, k)
 
-pub spells_once : (ignore : Ignore) (a b : List ℕ) (r : Rec) → Spells ignore a r → Spells ignore b r → a ≡ b
-spells_once ignore a b r p q = elim p [
+pub spells_once : (profile : Profile) (a b : List ℕ) (r : Rec) → Spells profile a r → Spells profile b r → a ≡ b
+spells_once profile a b r p q = elim p [
   | inl x ↦ elim q [
     | inl y ↦ one_spelling a b r.kind r.data_type r.payload x.1 y.1
-    | inr y ↦ absurd (no_fill ignore r x.0 y.0)
+    | inr y ↦ absurd (no_fill profile r x.0 y.0)
   ]
-  | inr x ↦ elim q [ inl y ↦ absurd (no_fill ignore r y.0 x.0) | inr y ↦ x.1 ∙ sym y.1 ]
+  | inr x ↦ elim q [ inl y ↦ absurd (no_fill profile r y.0 x.0) | inr y ↦ x.1 ∙ sym y.1 ]
 ]
 
-pub spells_some : (ignore : Ignore) (b : List ℕ) (r : Rec) → Spells ignore b r → 0 < length b
-spells_some ignore b r p = elim p [
+pub spells_some : (profile : Profile) (b : List ℕ) (r : Rec) → Spells profile b r → 0 < length b
+spells_some profile b r p = elim p [
   | inl x ↦ omega (arith, ap length x.1.bytes_are)
   | inr y ↦ omega (arith, ap length y.1)
 ]

@@ -11,8 +11,8 @@ use Rattle.lvl_path.specs.Figure.{rings}
 use Rattle.lvl_grammar.specs.Front.{SpellsAll, FollowAll}
 use Rattle.lvl_grammar.specs.Order.{IsWord, Begins}
 use Rattle.lvl_names.specs.Names.{IsName}
-use Rattle.lvl_cells.specs.Building.{cell_limit}
-use Rattle.lvl_profile.specs.Ignored.{nothing}
+use Rattle.lvl_profile.specs.Limits.{standard}
+use Rattle.lvl_profile.specs.Profiles.{strict}
 use Rattle.gds_records.specs.Table.{form_of}
 use Rattle.gds_records.specs.Spelled.{IsOfForm}
 use Rattle.gds_elements.specs.Types.{boundary, strname, bgnstr, layer, datatype, xy}
@@ -31,11 +31,11 @@ use Rattle.gds_library.proofs.Passing.{follows_essential}
 use Rattle.gds_library.specs.Drawn.{Drawing}
 use Rattle.gds_library.specs.Front.{gds, SpellsLibrary}
 use Rattle.gds_library.specs.declared.head.GdsHead.{GdsHead}
-use Rattle.gds_records.specs.Records.{file_limit}
 use Rattle.gds_library.proofs.Readable.{law_only}
 use Rattle.gds_library.proofs.Refusing.{is_not}
 use Rattle.gds_library.proofs.Steps.{may_follow, may_follow_inside}
 use Rattle.gds_library.proofs.Vectors.{rec, accepted}
+use Rattle.lvl_profile.specs.declared.limits.Limits.{Limits}
 
 -- twelve numbers of two bytes, all of them 0
 abbrev dates : List ℕ
@@ -83,12 +83,12 @@ record IsShort (r : Rec) : Type 0 where
   even : (4 + length r.payload) % 2 ≡ 0
   kind : nat_lt r.kind 60 ≡ true
   data_type : nat_lt r.data_type 7 ≡ true
-  form : IsOfForm (form_of nothing r.kind) r.data_type (length r.payload)
+  form : IsOfForm (form_of strict.ignore r.kind) r.data_type (length r.payload)
 
 abbrev spelling : Rec → List ℕ
 spelling r = 0 ∷ (4 + length r.payload) ∷ r.kind ∷ r.data_type ∷ r.payload
 
-short_spelled : (r : Rec) → IsShort r → Spells nothing (spelling r) r
+short_spelled : (r : Rec) → IsShort r → Spells strict (spelling r) r
 short_spelled r s =
     let few = ltb-true (4 + length r.payload) 256 s.few in
     inl (
@@ -103,14 +103,14 @@ short_spelled r s =
     )
 
 all_spelled : (before rs : List Rec) → AllByRecursion IsShort rs
-    → SpellsAll (gds nothing) before (flat_map spelling rs) rs
+    → SpellsAll (gds strict) before (flat_map spelling rs) rs
 all_spelled before [] p = refl
 all_spelled before (r ∷ rs) p =
     (spelling r, flat_map spelling rs, short_spelled r p.0, all_spelled (before ++ r ∷ []) rs p.1, refl)
 
 by_form : (r : Rec) → nat_lt (4 + length r.payload) 256 ≡ true → (4 + length r.payload) % 2 ≡ 0
     → nat_lt r.kind 60 ≡ true
-    → nat_lt r.data_type 7 ≡ true → IsOfForm (form_of nothing r.kind) r.data_type (length r.payload) → IsShort r
+    → nat_lt r.data_type 7 ≡ true → IsOfForm (form_of strict.ignore r.kind) r.data_type (length r.payload) → IsShort r
 by_form r few even kind data_type form =
     record { few = few; even = even; kind = kind; data_type = data_type; form = form }
 
@@ -155,33 +155,33 @@ short_heads = (
   ),
 )
 
-spelled : SpellsAll (gds nothing) [] file square
+spelled : SpellsAll (gds strict) [] file square
 spelled = all_spelled [] square short_heads
 
 word : IsWord a_library (kinds square)
 word = elim (accepted (a_library ∷ []) (kinds square) refl) [ inl x ↦ x | inr y ↦ absurd y ]
 
 -- a record whose value no rule of an element tests, and which neither begins nor names a structure
-plain : (n : ℕ) (before : List Rec) (r : Rec) → is_value r.kind ≡ false → r.kind == strname ≡ false
+plain : (limits : Limits) (n : ℕ) (before : List Rec) (r : Rec) → is_value r.kind ≡ false → r.kind == strname ≡ false
     → r.kind == bgnstr ≡ false → IsWord a_library (kinds (before ++ r ∷ []) ++ kinds (drop n square))
-    → MayFollow before r
-plain n before r v s b w =
-    may_follow before r v (kinds (drop n square), w) (λ e. absurd (is_not r.kind strname s e))
+    → MayFollow limits before r
+plain limits n before r v s b w =
+    may_follow limits before r v (kinds (drop n square), w) (λ e. absurd (is_not r.kind strname s e))
     (λ e. absurd (is_not r.kind bgnstr b e))
 
 -- a record of the boundary
-inside : (n : ℕ) (before piece : List Rec) (r : Rec) → last_piece is_opener before ≡ piece
+inside : (limits : Limits) (n : ℕ) (before piece : List Rec) (r : Rec) → last_piece is_opener before ≡ piece
     → opener piece ≡ Some boundary
     → r.kind == strname ≡ false → r.kind == bgnstr ≡ false
-    → Begins an_element (kinds (piece ++ r ∷ [])) → ((k : ElementRule) → ValueBreaches piece r k → ⊥)
-    → IsWord a_library (kinds (before ++ r ∷ []) ++ kinds (drop n square)) → MayFollow before r
-inside n before piece r e o s b g v w =
-    may_follow_inside before piece r e (allowed piece r g v) g (kinds (drop n square), w) s b
+    → Begins an_element (kinds (piece ++ r ∷ [])) → ((k : ElementRule) → ValueBreaches limits piece r k → ⊥)
+    → IsWord a_library (kinds (before ++ r ∷ []) ++ kinds (drop n square)) → MayFollow limits before r
+inside limits n before piece r e o s b g v w =
+    may_follow_inside limits before piece r e (allowed limits piece r g v) g (kinds (drop n square), w) s b
 
 -- if nothing is ignored, what may follow is what may follow among the essential records
-follows : (before : List Rec) (r : Rec) → MayFollow (essential nothing before) r → (AwaitsValue before → ⊥)
-    → MayFollowBy nothing before r
-follows before r f w = follows_essential nothing before r refl w f
+follows : (before : List Rec) (r : Rec) → MayFollow standard (essential strict before) r → (AwaitsValue before → ⊥)
+    → MayFollowBy strict before r
+follows before r f w = follows_essential strict before r refl w f
 
 element : IsWord an_element (0x08 ∷ 0x0D ∷ 0x0E ∷ 0x10 ∷ 0x11 ∷ [])
 element =
@@ -213,46 +213,46 @@ straight =
     (All-cons IsStraight (at 10 10, at 0 10) ((at 0 10, at 0 0) ∷ []) (inr refl)
     (All-cons IsStraight (at 0 10, at 0 0) [] (inl refl) (All-nil IsStraight))))
 
-layer_follows : MayFollow (take 7 square) (rec 0x0D 2 (0 ∷ 1 ∷ []))
+layer_follows : MayFollow standard (take 7 square) (rec 0x0D 2 (0 ∷ 1 ∷ []))
 layer_follows =
     let r = rec 0x0D 2 (0 ∷ 1 ∷ []) in
-    inside 8 (take 7 square) (rec 0x08 0 [] ∷ []) r refl refl refl refl (0x0E ∷ 0x10 ∷ 0x11 ∷ [], element)
-    (law_boundary (rec 0x08 0 [] ∷ []) r refl (λ _. omega (arith, ints)) (λ e. absurd (is_not 0x0D xy refl e))) word
+    inside standard 8 (take 7 square) (rec 0x08 0 [] ∷ []) r refl refl refl refl (0x0E ∷ 0x10 ∷ 0x11 ∷ [], element)
+    (law_boundary standard (rec 0x08 0 [] ∷ []) r refl (λ _. omega (arith, ints)) (λ e. absurd (is_not 0x0D xy refl e))) word
 
-datatype_follows : MayFollow (take 8 square) (rec 0x0E 2 (0 ∷ 0 ∷ []))
+datatype_follows : MayFollow standard (take 8 square) (rec 0x0E 2 (0 ∷ 0 ∷ []))
 datatype_follows =
     let piece = rec 0x08 0 [] ∷ rec 0x0D 2 (0 ∷ 1 ∷ []) ∷ [] in
     let r = rec 0x0E 2 (0 ∷ 0 ∷ []) in
-    inside 9 (take 8 square) piece r refl refl refl refl (0x10 ∷ 0x11 ∷ [], element)
-    (law_boundary piece r refl (λ _. omega (arith, ints)) (λ e. absurd (is_not 0x0E xy refl e))) word
+    inside standard 9 (take 8 square) piece r refl refl refl refl (0x10 ∷ 0x11 ∷ [], element)
+    (law_boundary standard piece r refl (λ _. omega (arith, ints)) (λ e. absurd (is_not 0x0E xy refl e))) word
 
-points_follow : MayFollow (take 9 square) (rec 0x10 3 corners)
+points_follow : MayFollow standard (take 9 square) (rec 0x10 3 corners)
 points_follow =
     let piece = rec 0x08 0 [] ∷ rec 0x0D 2 (0 ∷ 1 ∷ []) ∷ rec 0x0E 2 (0 ∷ 0 ∷ []) ∷ [] in
     let r = rec 0x10 3 corners in
-    inside 10 (take 9 square) piece r refl refl refl refl (0x11 ∷ [], element)
-    (law_boundary piece r refl
+    inside standard 10 (take 9 square) piece r refl refl refl refl (0x11 ∷ [], element)
+    (law_boundary standard piece r refl
     (λ h. absurd (elim h [ inl e ↦ is_not 0x10 layer refl e | inr e ↦ is_not 0x10 datatype refl e ]))
     (λ _. (leb-true 4 5 refl, refl, straight))) word
 
-ends_follow : FollowAll (gds nothing) (take 10 square) (drop 10 square)
+ends_follow : FollowAll (gds strict) (take 10 square) (drop 10 square)
 ends_follow = (
-  follows (take 10 square) (rec 0x11 0 []) (plain 11 (take 10 square) (rec 0x11 0 []) refl refl refl word)
+  follows (take 10 square) (rec 0x11 0 []) (plain standard 11 (take 10 square) (rec 0x11 0 []) refl refl refl word)
       (λ w. cc),
   (
-    follows (take 11 square) (rec 0x07 0 []) (plain 12 (take 11 square) (rec 0x07 0 []) refl refl refl word)
+    follows (take 11 square) (rec 0x07 0 []) (plain standard 12 (take 11 square) (rec 0x07 0 []) refl refl refl word)
         (λ w. cc),
     (
-      follows (take 12 square) (rec 0x04 0 []) (plain 13 (take 12 square) (rec 0x04 0 []) refl refl refl word)
+      follows (take 12 square) (rec 0x04 0 []) (plain standard 13 (take 12 square) (rec 0x04 0 []) refl refl refl word)
           (λ w. cc),
       tt,
     ),
   ),
 )
 
-element_follows : FollowAll (gds nothing) (take 6 square) (drop 6 square)
+element_follows : FollowAll (gds strict) (take 6 square) (drop 6 square)
 element_follows = (
-  follows (take 6 square) (rec 0x08 0 []) (plain 7 (take 6 square) (rec 0x08 0 []) refl refl refl word) (λ w. cc),
+  follows (take 6 square) (rec 0x08 0 []) (plain standard 7 (take 6 square) (rec 0x08 0 []) refl refl refl word) (λ w. cc),
   (
     follows (take 7 square) (rec 0x0D 2 (0 ∷ 1 ∷ [])) layer_follows (λ w. cc),
     (
@@ -262,28 +262,28 @@ element_follows = (
   ),
 )
 
-structure_follows : MayFollow (take 4 square) (rec 0x05 2 dates)
+structure_follows : MayFollow standard (take 4 square) (rec 0x05 2 dates)
 structure_follows =
-    may_follow (take 4 square) (rec 0x05 2 dates) refl (kinds (drop 5 square), word)
-    (λ e. absurd (is_not 0x05 strname refl e)) (λ _. ltb-true 0 cell_limit refl)
+    may_follow standard (take 4 square) (rec 0x05 2 dates) refl (kinds (drop 5 square), word)
+    (λ e. absurd (is_not 0x05 strname refl e)) (λ _. ltb-true 0 standard.cells refl)
 
-name_follows : MayFollow (take 5 square) (rec 0x06 6 (0x54 ∷ 0x4F ∷ 0x50 ∷ 0 ∷ []))
+name_follows : MayFollow standard (take 5 square) (rec 0x06 6 (0x54 ∷ 0x4F ∷ 0x50 ∷ 0 ∷ []))
 name_follows =
-    may_follow (take 5 square) (rec 0x06 6 (0x54 ∷ 0x4F ∷ 0x50 ∷ 0 ∷ [])) refl (kinds (drop 6 square), word)
+    may_follow standard (take 5 square) (rec 0x06 6 (0x54 ∷ 0x4F ∷ 0x50 ∷ 0 ∷ [])) refl (kinds (drop 6 square), word)
     (λ _. top_name) (λ e. absurd (is_not 0x06 bgnstr refl e))
 
-followed : FollowAll (gds nothing) [] square
+followed : FollowAll (gds strict) [] square
 followed = (
   follows (take 0 square) (rec 0x00 2 (2 ∷ 0x58 ∷ []))
-      (plain 1 (take 0 square) (rec 0x00 2 (2 ∷ 0x58 ∷ [])) refl refl refl word) (λ w. cc),
+      (plain standard 1 (take 0 square) (rec 0x00 2 (2 ∷ 0x58 ∷ [])) refl refl refl word) (λ w. cc),
   (
-    follows (take 1 square) (rec 0x01 2 dates) (plain 2 (take 1 square) (rec 0x01 2 dates) refl refl refl word)
+    follows (take 1 square) (rec 0x01 2 dates) (plain standard 2 (take 1 square) (rec 0x01 2 dates) refl refl refl word)
         (λ w. cc),
     (
       follows (take 2 square) (rec 0x02 6 (0x4C ∷ 0x42 ∷ []))
-          (plain 3 (take 2 square) (rec 0x02 6 (0x4C ∷ 0x42 ∷ [])) refl refl refl word) (λ w. cc),
+          (plain standard 3 (take 2 square) (rec 0x02 6 (0x4C ∷ 0x42 ∷ [])) refl refl refl word) (λ w. cc),
       (
-        follows (take 3 square) (rec 0x03 5 ones) (plain 4 (take 3 square) (rec 0x03 5 ones) refl refl refl word)
+        follows (take 3 square) (rec 0x03 5 ones) (plain standard 4 (take 3 square) (rec 0x03 5 ones) refl refl refl word)
             (λ w. cc),
         (
           follows (take 4 square) (rec 0x05 2 dates) structure_follows (λ w. cc),
@@ -313,17 +313,17 @@ top = record {
 abbrev heading : GdsHead
 heading = record { version = pos 600; units = take 8 ones ∷ drop 8 ones ∷ [] }
 
-square_spells : SpellsLibrary nothing file (top ∷ []) heading
+square_spells : SpellsLibrary strict file (top ∷ []) heading
 square_spells = record {
   records = square;
   whole = record {
-    front = record { spelled = spelled; followed = followed; within = leb-true 168 file_limit refl };
+    front = record { spelled = spelled; followed = followed; within = leb-true 168 standard.file refl };
     whole = word;
   };
   cells_are = refl;
   head_is = refl;
 }
 
-square_only : (cells : List Drawing) (h : GdsHead) → SpellsLibrary nothing file cells h
+square_only : (cells : List Drawing) (h : GdsHead) → SpellsLibrary strict file cells h
     → (cells ≡ top ∷ []) × (h ≡ heading)
-square_only cells h p = law_only nothing file (top ∷ []) cells heading h square_spells p
+square_only cells h p = law_only strict file (top ∷ []) cells heading h square_spells p

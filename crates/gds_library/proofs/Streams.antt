@@ -1,5 +1,5 @@
 -- How a stream is read: record by record up to ENDLIB, then the zero bytes after it, or up to a fault.
-use Rattle.lvl_profile.specs.declared.ignore.Ignore.{Ignore}
+use Rattle.lvl_profile.specs.declared.profile.Profile.{Profile}
 use Rattle.std.proofs.Common.{append_assoc, ◌≡◌, ◌≢◌, ◌⊎◌, ℕ, ◌+◌, ◌-◌, ◌<◌, ◌≤◌, List, [], ◌∷◌, ◌++◌, length, take}
 use Rattle.std.proofs.Common.{drop, Some, None, refl, sym, ap, ◌∙◌, subst, arith, inl, inr, ℤ, pos, zero, suc, true}
 use Rattle.std.proofs.Common.{false, length-drop}
@@ -14,7 +14,6 @@ use Rattle.lvl_grammar.specs.inside.ReadTo.{ReadTo, IsSeenWrong}
 use Rattle.lvl_grammar.proofs.Leads.{leads_begin, leads_unwhole, leads_whole}
 use Rattle.lvl_grammar.proofs.Reading.{reads_unread, reads_on}
 use Rattle.lvl_grammar.proofs.Stuck.{parts_at}
-use Rattle.gds_records.specs.Records.{file_limit}
 use Rattle.gds_records.specs.Spelled.{IsSpelledAt, IsBegun, IsUnfinished}
 use Rattle.gds_records.specs.Step.{step, Decides}
 use Rattle.gds_records.specs.Tail.{AnswersTail}
@@ -76,15 +75,15 @@ with_unwhole (Some e) b rs h go w =
     (subst (IsWord a_library) (ap kinds h.parts ∙ map-append h.before h.piece) w)
 
 -- before ENDLIB was read, the library isn't whole
-pub has_unwhole : (ignore : Ignore) (x : WithIgnored) (rs : List Rec) → HasReadBy ignore x rs
-    → x.reading.builder.stage ≢ Fill → IsWholeBy ignore rs → ⊥
-has_unwhole ignore x rs h go w =
-    with_unwhole x.reading.element x.reading.builder (essential ignore rs) h.essential go w
+pub has_unwhole : (profile : Profile) (x : WithIgnored) (rs : List Rec) → HasReadBy profile x rs
+    → x.reading.builder.stage ≢ Fill → IsWholeBy profile rs → ⊥
+has_unwhole profile x rs h go w =
+    with_unwhole x.reading.element x.reading.builder (essential profile rs) h.essential go w
 
-holds_whole : (ignore : Ignore) (b : Builder) (rs : List Rec) → HoldsBy ignore b rs → b.stage ≡ Fill
-    → IsWholeBy ignore rs
-holds_whole ignore b rs h e =
-    let es = kinds (essential ignore rs) in
+holds_whole : (profile : Profile) (b : Builder) (rs : List Rec) → HoldsBy profile b rs → b.stage ≡ Fill
+    → IsWholeBy profile rs
+holds_whole profile b rs h e =
+    let es = kinds (essential profile rs) in
     leads_whole a_library es (left Fill) (subst (λ p. LeadsTo a_library es (left p)) e h.essential.leads)
     ([], tt, refl)
 
@@ -93,15 +92,15 @@ with_ended None b rs h e = h
 with_ended (Some i) b rs h e = (let z : Elements ≡ Fill = sym h.at ∙ e in cc)
 
 -- after ENDLIB no element is open
-pub reads_end : (ignore : Ignore) (xs : List ℕ) (at : ℕ) (x : WithIgnored) (was : Option (List ℕ))
-    → ReadTo (gds ignore) xs at (HasReadBy ignore x) was
-    → x.reading.builder.stage ≡ Fill → ReadTo (gds ignore) xs at (HoldsBy ignore x.reading.builder) was
-reads_end ignore xs at x was to e =
+pub reads_end : (profile : Profile) (xs : List ℕ) (at : ℕ) (x : WithIgnored) (was : Option (List ℕ))
+    → ReadTo (gds profile) xs at (HasReadBy profile x) was
+    → x.reading.builder.stage ≡ Fill → ReadTo (gds profile) xs at (HoldsBy profile x.reading.builder) was
+reads_end profile xs at x was to e =
     record {
       records = to.records;
       front = to.front;
       holds = record {
-        essential = with_ended x.reading.element x.reading.builder (essential ignore to.records) to.holds.essential e;
+        essential = with_ended x.reading.element x.reading.builder (essential profile to.records) to.holds.essential e;
         complete = λ w. to.holds.waits w e;
       };
       left_is = to.left_is;
@@ -122,29 +121,29 @@ holds_begin b p s v =
     }
 
 -- the record that was read begins the bytes
-abbrev starts : (ignore : Ignore) (room : ℕ) (ys : List ℕ) (k : ℕ) (payload : List ℕ)
-    (s : IsSpelledAt ignore room ys k payload)
-    → StartsWith ignore room ys (record_of k s.0 payload)
-starts ignore room ys k payload s = (s.1, s.2, s.3, s.4, omega (arith, s.5, length_spelled s.1 payload k s.0 s.4), s.6)
+abbrev starts : (profile : Profile) (room : ℕ) (ys : List ℕ) (k : ℕ) (payload : List ℕ)
+    (s : IsSpelledAt profile.ignore room ys k payload)
+    → StartsWith profile room ys (record_of k s.0 payload)
+starts profile room ys k payload s = (s.1, s.2, s.3, s.4, omega (arith, s.5, length_spelled s.1 payload k s.0 s.4), s.6)
 
 -- one more record
-pub reads_record : (ignore : Ignore) (xs : List ℕ) (at : ℕ) (x x' : WithIgnored) (was left' : Option (List ℕ)) (k : ℕ)
+pub reads_record : (profile : Profile) (xs : List ℕ) (at : ℕ) (x x' : WithIgnored) (was left' : Option (List ℕ)) (k : ℕ)
     (payload : List ℕ)
-    (to : ReadTo (gds ignore) xs at (HasReadBy ignore x) was)
-    → IsSpelledAt ignore (file_limit - at) (drop at xs) k payload
-    → ((d : ℕ) → HasReadBy ignore x' (to.records ++ record_of k d payload ∷ [])
-    × MayFollowBy ignore to.records (record_of k d payload))
+    (to : ReadTo (gds profile) xs at (HasReadBy profile x) was)
+    → IsSpelledAt profile.ignore (profile.limits.file - at) (drop at xs) k payload
+    → ((d : ℕ) → HasReadBy profile x' (to.records ++ record_of k d payload ∷ [])
+    × MayFollowBy profile to.records (record_of k d payload))
     → left' ≡ Some (drop (4 + length payload) (drop at xs))
-    → ReadTo (gds ignore) xs (at + (4 + length payload)) (HasReadBy ignore x')
+    → ReadTo (gds profile) xs (at + (4 + length payload)) (HasReadBy profile x')
     left'
-reads_record ignore xs at x x' was left' k payload to s takes e =
+reads_record profile xs at x x' was left' k payload to s takes e =
     let long = length_spelled s.1 payload k s.0 s.4 in
     let rest = (parts_at (drop at xs) s.1 s.2 (4 + length payload) s.6 (sym long)).1 in
-    let next = reads_on (gds ignore) xs at (HasReadBy ignore x) (HasReadBy ignore x') was to
+    let next = reads_on (gds profile) xs at (HasReadBy profile x) (HasReadBy profile x') was to
     (record_of k s.0 payload) s.1 s.2 s.6 (inl (s.3, s.4))
     (takes s.0).1 (omega (arith, long, s.5)) (takes s.0).0 in
-    subst (λ i. ReadTo (gds ignore) xs (at + i) (HasReadBy ignore x') left') long
-    (subst (ReadTo (gds ignore) xs (at + length s.1) (HasReadBy ignore x'))
+    subst (λ i. ReadTo (gds profile) xs (at + i) (HasReadBy profile x') left') long
+    (subst (ReadTo (gds profile) xs (at + length s.1) (HasReadBy profile x'))
     (ap (λ (l : List ℕ). Some l) (sym rest) ∙ sym e) next)
 
 -- the bytes that are left: those in hand, and those of the reader
@@ -158,30 +157,30 @@ left_parts : (bytes hand : List ℕ) (remaining : Option (List ℕ)) → prepend
 left_parts bytes hand remaining e =
     (let p = known_parts hand remaining bytes e in record { rest = p.0; parts = sym p.2; is = p.1 })
 
-same_start : (ignore : Ignore) (room : ℕ) (ys : List ℕ) (r s : Rec) → StartsWith ignore room ys r
-    → StartsWith ignore room ys s → s ≡ r
-same_start ignore room ys r s p q = starts_same ignore room ys q.0 r s p q.3 (q.1, inr q.5)
+same_start : (profile : Profile) (room : ℕ) (ys : List ℕ) (r s : Rec) → StartsWith profile room ys r
+    → StartsWith profile room ys s → s ≡ r
+same_start profile room ys r s p q = starts_same profile room ys q.0 r s p q.3 (q.1, inr q.5)
 
 -- a record that begins the bytes and breaches one rule is the only fault of the bytes
-only_record : (ignore : Ignore) (before : List Rec) (room : ℕ) (ys : List ℕ) (r : Rec) (k : GdsKind)
-    → (IsWholeBy ignore before → ⊥)
-    → StartsWith ignore room ys r → BreachesOnlyBy ignore before r k → (j : GdsKind) → IsWrong ignore before room ys j
+only_record : (profile : Profile) (before : List Rec) (room : ℕ) (ys : List ℕ) (r : Rec) (k : GdsKind)
+    → (IsWholeBy profile before → ⊥)
+    → StartsWith profile room ys r → BreachesOnlyBy profile before r k → (j : GdsKind) → IsWrong profile before room ys j
     → j ≡ k
-only_record ignore before room ys r k n s only (Record f) w =
-    absurd (law_malformed ignore room ys f w.2 w.0 r.kind r.data_type r.payload s.0 s.2 s.3
+only_record profile before room ys r k n s only (Record f) w =
+    absurd (law_malformed profile.ignore room ys f w.2 w.0 r.kind r.data_type r.payload s.0 s.2 s.3
     (omega (arith, s.4, length_spelled s.0 r.payload r.kind r.data_type s.3)) (s.1, inr s.5))
-only_record ignore before room ys r k n s only AfterEnd w = absurd (n w.0)
-only_record ignore before room ys r k n s only (Misplaced m) w =
-    only (Misplaced m) (subst (λ (x : Rec). BreachesBy ignore before x (Misplaced m))
-    (same_start ignore room ys r w.1 s w.2) w.3)
-only_record ignore before room ys r k n s only (Element m) w =
-    only (Element m) (subst (λ (x : Rec). BreachesBy ignore before x (Element m))
-    (same_start ignore room ys r w.1 s w.2) w.3)
-only_record ignore before room ys r k n s only Name w =
-    only Name (subst (λ (x : Rec). BreachesBy ignore before x Name) (same_start ignore room ys r w.1 s w.2) w.3)
-only_record ignore before room ys r k n s only TooManyCells w =
-    only TooManyCells (subst (λ (x : Rec). BreachesBy ignore before x TooManyCells)
-    (same_start ignore room ys r w.1 s w.2) w.3)
+only_record profile before room ys r k n s only AfterEnd w = absurd (n w.0)
+only_record profile before room ys r k n s only (Misplaced m) w =
+    only (Misplaced m) (subst (λ (x : Rec). BreachesBy profile before x (Misplaced m))
+    (same_start profile room ys r w.1 s w.2) w.3)
+only_record profile before room ys r k n s only (Element m) w =
+    only (Element m) (subst (λ (x : Rec). BreachesBy profile before x (Element m))
+    (same_start profile room ys r w.1 s w.2) w.3)
+only_record profile before room ys r k n s only Name w =
+    only Name (subst (λ (x : Rec). BreachesBy profile before x Name) (same_start profile room ys r w.1 s w.2) w.3)
+only_record profile before room ys r k n s only TooManyCells w =
+    only TooManyCells (subst (λ (x : Rec). BreachesBy profile before x TooManyCells)
+    (same_start profile room ys r w.1 s w.2) w.3)
 
 -- a rule that a record breaches
 abbrev OfRecord : GdsKind → Type 0
@@ -189,44 +188,44 @@ OfRecord (Record f) = ⊥
 OfRecord AfterEnd = ⊥
 OfRecord k = Unit {0}
 
-of_record : (ignore : Ignore) (before : List Rec) (r : Rec) (k : GdsKind) → BreachesBy ignore before r k → OfRecord k
-of_record ignore before r (Record f) b = b.2
-of_record ignore before r AfterEnd b = b.2
-of_record ignore before r _ b = tt
+of_record : (profile : Profile) (before : List Rec) (r : Rec) (k : GdsKind) → BreachesBy profile before r k → OfRecord k
+of_record profile before r (Record f) b = b.2
+of_record profile before r AfterEnd b = b.2
+of_record profile before r _ b = tt
 
-wrong_record : (ignore : Ignore) (before : List Rec) (room : ℕ) (ys : List ℕ) (r : Rec) (k : GdsKind) → OfRecord k
-    → (IsWholeBy ignore before → ⊥)
-    → StartsWith ignore room ys r → BreachesBy ignore before r k → IsWrong ignore before room ys k
-wrong_record ignore before room ys r (Record f) o n s b = absurd o
-wrong_record ignore before room ys r AfterEnd o n s b = absurd o
-wrong_record ignore before room ys r _ o n s b = (n, r, s, b)
+wrong_record : (profile : Profile) (before : List Rec) (room : ℕ) (ys : List ℕ) (r : Rec) (k : GdsKind) → OfRecord k
+    → (IsWholeBy profile before → ⊥)
+    → StartsWith profile room ys r → BreachesBy profile before r k → IsWrong profile before room ys k
+wrong_record profile before room ys r (Record f) o n s b = absurd o
+wrong_record profile before room ys r AfterEnd o n s b = absurd o
+wrong_record profile before room ys r _ o n s b = (n, r, s, b)
 
-seen_refuses : (ignore : Ignore) (xs : List ℕ) (at : ℕ) (rest : Option (List ℕ)) (k : GdsKind) → OfRecord k
-    → IsSeenWrong (gds_faults ignore) xs at rest k
-    → RefusesAt ignore xs rest at k
-seen_refuses ignore xs at rest (Record f) o s = absurd o
-seen_refuses ignore xs at rest AfterEnd o s = absurd o
-seen_refuses ignore xs at rest _ o s = s
+seen_refuses : (profile : Profile) (xs : List ℕ) (at : ℕ) (rest : Option (List ℕ)) (k : GdsKind) → OfRecord k
+    → IsSeenWrong (gds_faults profile) xs at rest k
+    → RefusesAt profile xs rest at k
+seen_refuses profile xs at rest (Record f) o s = absurd o
+seen_refuses profile xs at rest AfterEnd o s = absurd o
+seen_refuses profile xs at rest _ o s = s
 
 -- a record is refused
-pub reads_refused : (ignore : Ignore) (xs : List ℕ) (at : ℕ) (x : WithIgnored) (was remaining : Option (List ℕ)) (k : ℕ)
-    (payload hand : List ℕ) (f : GdsKind) (to : ReadTo (gds ignore) xs at (HasReadBy ignore x) was)
+pub reads_refused : (profile : Profile) (xs : List ℕ) (at : ℕ) (x : WithIgnored) (was remaining : Option (List ℕ)) (k : ℕ)
+    (payload hand : List ℕ) (f : GdsKind) (to : ReadTo (gds profile) xs at (HasReadBy profile x) was)
     → x.reading.builder.stage ≢ Fill
-    → IsSpelledAt ignore (file_limit - at) (drop at xs) k payload
-    → ((d : ℕ) → BreachesBy ignore to.records (record_of k d payload) f
-    × BreachesOnlyBy ignore to.records (record_of k d payload) f)
-    → prepend_known hand remaining ≡ Some (drop (4 + length payload) (drop at xs)) → RefusesAt ignore xs remaining at f
-reads_refused ignore xs at x was remaining k payload hand f to go s breaches e =
-    let room = file_limit - at in
+    → IsSpelledAt profile.ignore (profile.limits.file - at) (drop at xs) k payload
+    → ((d : ℕ) → BreachesBy profile to.records (record_of k d payload) f
+    × BreachesOnlyBy profile to.records (record_of k d payload) f)
+    → prepend_known hand remaining ≡ Some (drop (4 + length payload) (drop at xs)) → RefusesAt profile xs remaining at f
+reads_refused profile xs at x was remaining k payload hand f to go s breaches e =
+    let room = profile.limits.file - at in
     let r : Rec = record_of k s.0 payload in
     let b = breaches s.0 in
-    let o = of_record ignore to.records r f b.0 in
-    let n = has_unwhole ignore x to.records to.holds go in
+    let o = of_record profile to.records r f b.0 in
+    let n = has_unwhole profile x to.records to.holds go in
     let long = length_spelled s.1 payload k s.0 s.4 in
     let rest = (parts_at (drop at xs) s.1 s.2 (4 + length payload) s.6 (sym long)).1 in
     let l = left_parts s.2 hand remaining (e ∙ ap (λ (i : List ℕ). Some i) rest) in
-    let begins : StartsWith ignore room (drop at xs) r = starts ignore room (drop at xs) k payload s in
-    seen_refuses ignore xs at remaining f o (record {
+    let begins : StartsWith profile room (drop at xs) r = starts profile room (drop at xs) k payload s in
+    seen_refuses profile xs at remaining f o (record {
       within = to.within;
       records = to.records;
       front = to.front;
@@ -234,42 +233,42 @@ reads_refused ignore xs at x was remaining k payload hand f to go s breaches e =
       rest = l.rest;
       parts = s.6 ∙ ap (λ i. s.1 ++ i) l.parts ∙ sym (append_assoc s.1 hand l.rest);
       left_is = l.is;
-      wrong = λ more. wrong_record ignore to.records room ((s.1 ++ hand) ++ more) r f o n
+      wrong = λ more. wrong_record profile to.records room ((s.1 ++ hand) ++ more) r f o n
           (s.1, hand ++ more, s.3, s.4, begins.4, append_assoc s.1 hand more) b.0;
-      only = only_record ignore to.records room (drop at xs) r f n begins b.1;
+      only = only_record profile to.records room (drop at xs) r f n begins b.1;
     })
 
 same_fault : (f g : RecordFault) (s : Result ℕ RecordFault) → s ≡ Err f → s ≡ Err g → g ≡ f
 same_fault f g s a b = (let h : Err f ≡ Err g = sym a ∙ b in cc)
 
-no_start : (ignore : Ignore) (before : List Rec) (room : ℕ) (ys : List ℕ) (f : RecordFault)
-    → step ignore room ys ≡ Err f → f ≢ Truncated
-    → (r : Rec) → StartsWith ignore room ys r → ⊥
-no_start ignore before room ys f e t r s =
-    law_malformed ignore room ys f e t r.kind r.data_type r.payload s.0 s.2 s.3
+no_start : (profile : Profile) (before : List Rec) (room : ℕ) (ys : List ℕ) (f : RecordFault)
+    → step profile.ignore room ys ≡ Err f → f ≢ Truncated
+    → (r : Rec) → StartsWith profile room ys r → ⊥
+no_start profile before room ys f e t r s =
+    law_malformed profile.ignore room ys f e t r.kind r.data_type r.payload s.0 s.2 s.3
     (omega (arith, s.4, length_spelled s.0 r.payload r.kind r.data_type s.3)) (s.1, inr s.5)
 
 -- if no record begins the bytes, that is their only fault
-only_fault : (ignore : Ignore) (before : List Rec) (room : ℕ) (ys : List ℕ) (f : RecordFault)
-    → step ignore room ys ≡ Err f → f ≢ Truncated
-    → (IsWholeBy ignore before → room ≡ 0) → (j : GdsKind) → IsWrong ignore before room ys j → j ≡ Record f
-only_fault ignore before room ys f e t z (Record g) w =
-    ap (λ (i : RecordFault). Record i) (same_fault f g (step ignore room ys) e w.2)
-only_fault ignore before room ys f e t z AfterEnd w = absurd (omega (arith, z w.0, w.1))
-only_fault ignore before room ys f e t z _ w = absurd (no_start ignore before room ys f e t w.1 w.2)
+only_fault : (profile : Profile) (before : List Rec) (room : ℕ) (ys : List ℕ) (f : RecordFault)
+    → step profile.ignore room ys ≡ Err f → f ≢ Truncated
+    → (IsWholeBy profile before → room ≡ 0) → (j : GdsKind) → IsWrong profile before room ys j → j ≡ Record f
+only_fault profile before room ys f e t z (Record g) w =
+    ap (λ (i : RecordFault). Record i) (same_fault f g (step profile.ignore room ys) e w.2)
+only_fault profile before room ys f e t z AfterEnd w = absurd (omega (arith, z w.0, w.1))
+only_fault profile before room ys f e t z _ w = absurd (no_start profile before room ys f e t w.1 w.2)
 
 -- a fault of the bytes in hand
-seen_fault : (ignore : Ignore) (xs : List ℕ) (at : ℕ) (Has : List Rec → Type 0) (was remaining : Option (List ℕ))
+seen_fault : (profile : Profile) (xs : List ℕ) (at : ℕ) (Has : List Rec → Type 0) (was remaining : Option (List ℕ))
     (hand : List ℕ)
-    (f : RecordFault) (to : ReadTo (gds ignore) xs at Has was)
+    (f : RecordFault) (to : ReadTo (gds profile) xs at Has was)
     → f ≢ Truncated → f ≢ Read
-    → (IsWholeBy ignore to.records → file_limit - at ≡ 0)
-    → ((more : List ℕ) → step ignore (file_limit - at) (hand ++ more) ≡ Err f)
-    → prepend_known hand remaining ≡ Some (drop at xs) → IsSeenWrong (gds_faults ignore) xs at remaining (Record f)
-seen_fault ignore xs at Has was remaining hand f to t r z said e =
+    → (IsWholeBy profile to.records → profile.limits.file - at ≡ 0)
+    → ((more : List ℕ) → step profile.ignore (profile.limits.file - at) (hand ++ more) ≡ Err f)
+    → prepend_known hand remaining ≡ Some (drop at xs) → IsSeenWrong (gds_faults profile) xs at remaining (Record f)
+seen_fault profile xs at Has was remaining hand f to t r z said e =
     let l = left_parts (drop at xs) hand remaining e in
-    let all : step ignore (file_limit - at) (drop at xs) ≡ Err f =
-    subst (λ i. step ignore (file_limit - at) i ≡ Err f) (sym l.parts)
+    let all : step profile.ignore (profile.limits.file - at) (drop at xs) ≡ Err f =
+    subst (λ i. step profile.ignore (profile.limits.file - at) i ≡ Err f) (sym l.parts)
     (said l.rest) in
     record {
       within = to.within;
@@ -280,122 +279,122 @@ seen_fault ignore xs at Has was remaining hand f to t r z said e =
       parts = l.parts;
       left_is = l.is;
       wrong = λ more. (t, r, said more, z);
-      only = only_fault ignore to.records (file_limit - at) (drop at xs) f all t z;
+      only = only_fault profile to.records (profile.limits.file - at) (drop at xs) f all t z;
     }
 
 -- the input ends before ENDLIB
-pub reads_cut : (ignore : Ignore) (xs : List ℕ) (at : ℕ) (x : WithIgnored) (was : Option (List ℕ))
-    → ReadTo (gds ignore) xs at (HasReadBy ignore x) was
-    → x.reading.builder.stage ≢ Fill → (length (drop at xs) < 4) ⊎ IsBegun ignore (drop at xs)
-    → IsTruncated (gds_faults ignore) xs at
-reads_cut ignore xs at x was to go cut = record {
+pub reads_cut : (profile : Profile) (xs : List ℕ) (at : ℕ) (x : WithIgnored) (was : Option (List ℕ))
+    → ReadTo (gds profile) xs at (HasReadBy profile x) was
+    → x.reading.builder.stage ≢ Fill → (length (drop at xs) < 4) ⊎ IsBegun profile.ignore (drop at xs)
+    → IsTruncated (gds_faults profile) xs at
+reads_cut profile xs at x was to go cut = record {
   within = to.within;
   records = to.records;
   front = to.front;
-  unended = has_unwhole ignore x to.records to.holds go;
+  unended = has_unwhole profile x to.records to.holds go;
   cut = cut;
 }
 
 -- what a fault of the bytes of a record says
-pub reads_fault : (ignore : Ignore) (xs : List ℕ) (at : ℕ) (x : WithIgnored) (was remaining : Option (List ℕ))
+pub reads_fault : (profile : Profile) (xs : List ℕ) (at : ℕ) (x : WithIgnored) (was remaining : Option (List ℕ))
     (hand : List ℕ)
     (f : RecordFault)
-    → ReadTo (gds ignore) xs at (HasReadBy ignore x) was → x.reading.builder.stage ≢ Fill
-    → (f ≢ Truncated → f ≢ Read → (more : List ℕ) → step ignore (file_limit - at) (hand ++ more) ≡ Err f)
-    → (f ≡ Truncated → (length (drop at xs) < 4) ⊎ IsBegun ignore (drop at xs))
-    → (f ≡ Read → IsUnfinished ignore (file_limit - at) hand)
-    → prepend_known hand remaining ≡ Some (drop at xs) → RefusesAt ignore xs remaining at (Record f)
-reads_fault ignore xs at x was remaining hand f to go said cut unread e = by f refl
+    → ReadTo (gds profile) xs at (HasReadBy profile x) was → x.reading.builder.stage ≢ Fill
+    → (f ≢ Truncated → f ≢ Read → (more : List ℕ) → step profile.ignore (profile.limits.file - at) (hand ++ more) ≡ Err f)
+    → (f ≡ Truncated → (length (drop at xs) < 4) ⊎ IsBegun profile.ignore (drop at xs))
+    → (f ≡ Read → IsUnfinished profile.ignore (profile.limits.file - at) hand)
+    → prepend_known hand remaining ≡ Some (drop at xs) → RefusesAt profile xs remaining at (Record f)
+reads_fault profile xs at x was remaining hand f to go said cut unread e = by f refl
   where
-    known : f ≢ Truncated → f ≢ Read → IsSeenWrong (gds_faults ignore) xs at remaining (Record f)
-    known t r = seen_fault ignore xs at (HasReadBy ignore x) was remaining hand f to t r
-        (λ w. absurd (has_unwhole ignore x to.records to.holds go w)) (said t r) e
+    known : f ≢ Truncated → f ≢ Read → IsSeenWrong (gds_faults profile) xs at remaining (Record f)
+    known t r = seen_fault profile xs at (HasReadBy profile x) was remaining hand f to t r
+        (λ w. absurd (has_unwhole profile x to.records to.holds go w)) (said t r) e
 
-    by : (g : RecordFault) → g ≡ f → RefusesAt ignore xs remaining at (Record g)
-    by Truncated i = reads_cut ignore xs at x was to go (cut (sym i))
+    by : (g : RecordFault) → g ≡ f → RefusesAt profile xs remaining at (Record g)
+    by Truncated i = reads_cut profile xs at x was to go (cut (sym i))
     by Read i =
         let l = left_parts (drop at xs) hand remaining e in
-        reads_unread (gds_faults ignore) xs at (HasReadBy ignore x) was remaining to hand l.rest l.parts l.is
+        reads_unread (gds_faults profile) xs at (HasReadBy profile x) was remaining to hand l.rest l.parts l.is
         (λ some. ((unread (sym i)).1 some).1)
-    by BadLength i = subst (λ (h : RecordFault). IsSeenWrong (gds_faults ignore) xs at remaining (Record h)) (sym i)
+    by BadLength i = subst (λ (h : RecordFault). IsSeenWrong (gds_faults profile) xs at remaining (Record h)) (sym i)
         (known (λ z. (let y : BadLength ≡ Truncated = i ∙ z in cc)) (λ z. (let y : BadLength ≡ Read = i ∙ z in cc)))
-    by BadDataType i = subst (λ (h : RecordFault). IsSeenWrong (gds_faults ignore) xs at remaining (Record h)) (sym i)
+    by BadDataType i = subst (λ (h : RecordFault). IsSeenWrong (gds_faults profile) xs at remaining (Record h)) (sym i)
         (known (λ z. (let y : BadDataType ≡ Truncated = i ∙ z in cc)) (λ z. (let y : BadDataType ≡ Read = i ∙ z in cc)))
-    by UnknownRecord i = subst (λ (h : RecordFault). IsSeenWrong (gds_faults ignore) xs at remaining (Record h)) (sym i)
+    by UnknownRecord i = subst (λ (h : RecordFault). IsSeenWrong (gds_faults profile) xs at remaining (Record h)) (sym i)
         (known (λ z. (let y : UnknownRecord ≡ Truncated = i ∙ z in cc))
         (λ z. (let y : UnknownRecord ≡ Read = i ∙ z in cc)))
-    by TooLong i = subst (λ (h : RecordFault). IsSeenWrong (gds_faults ignore) xs at remaining (Record h)) (sym i)
+    by TooLong i = subst (λ (h : RecordFault). IsSeenWrong (gds_faults profile) xs at remaining (Record h)) (sym i)
         (known (λ z. (let y : TooLong ≡ Truncated = i ∙ z in cc)) (λ z. (let y : TooLong ≡ Read = i ∙ z in cc)))
 
 -- one more zero byte after ENDLIB
-reads_zero : (ignore : Ignore) (xs : List ℕ) (at : ℕ) (b : Builder) (was : Option (List ℕ)) (rest : List ℕ)
-    → ReadTo (gds ignore) xs at (HoldsBy ignore b) was → b.stage ≡ Fill → drop at xs ≡ 0 ∷ rest → at + 1 ≤ file_limit
-    → ReadTo (gds ignore) xs (at + 1) (HoldsBy ignore b) (Some rest)
-reads_zero ignore xs at b was rest to e here limit =
+reads_zero : (profile : Profile) (xs : List ℕ) (at : ℕ) (b : Builder) (was : Option (List ℕ)) (rest : List ℕ)
+    → ReadTo (gds profile) xs at (HoldsBy profile b) was → b.stage ≡ Fill → drop at xs ≡ 0 ∷ rest → at + 1 ≤ profile.limits.file
+    → ReadTo (gds profile) xs (at + 1) (HoldsBy profile b) (Some rest)
+reads_zero profile xs at b was rest to e here limit =
     let stays : after b.stage fill ≡ Some b.stage =
     ap (λ p. after p fill) e ∙ ap (λ (p : LibraryStage). Some p) (sym e) in
-    let es = essential ignore to.records in
+    let es = essential profile to.records in
     let more : Holds b (es ++ a_fill ∷ []) = law_holds b b es a_fill to.holds.essential stays
     (sym (plain fill [] (shown b) refl refl)) (record { version = refl; units = refl }) in
-    reads_on (gds ignore) xs at (HoldsBy ignore b) (HoldsBy ignore b) was to a_fill (0 ∷ []) rest here
+    reads_on (gds profile) xs at (HoldsBy profile b) (HoldsBy profile b) was to a_fill (0 ∷ []) rest here
     (inr (refl, refl))
-    (follows_essential ignore to.records a_fill (fill_unpassed ignore) to.holds.complete
-    (law_fill es (leads_begins (kinds (es ++ a_fill ∷ [])) b.stage more.leads)))
+    (follows_essential profile to.records a_fill (fill_unpassed profile) to.holds.complete
+    (law_fill profile.limits es (leads_begins (kinds (es ++ a_fill ∷ [])) b.stage more.leads)))
     (omega (arith, limit)) (record {
-      essential = subst (Holds b) (sym (essential_kept ignore to.records a_fill (fill_unpassed ignore))) more;
+      essential = subst (Holds b) (sym (essential_kept profile to.records a_fill (fill_unpassed profile))) more;
       complete = λ w. fill_waits to.records w;
     })
 
 -- zero bytes after ENDLIB
-reads_zeros : (ignore : Ignore) (n : ℕ) (xs : List ℕ) (at : ℕ) (b : Builder) (was : Option (List ℕ)) (rest : List ℕ)
-    → ReadTo (gds ignore) xs at (HoldsBy ignore b) was → b.stage ≡ Fill → drop at xs ≡ replicate n 0 ++ rest
-    → at + n ≤ file_limit
-    → (left' : Option (List ℕ)) × ReadTo (gds ignore) xs (at + n) (HoldsBy ignore b) left' × (drop (at + n) xs ≡ rest)
-reads_zeros ignore zero xs at b was rest to e here limit =
+reads_zeros : (profile : Profile) (n : ℕ) (xs : List ℕ) (at : ℕ) (b : Builder) (was : Option (List ℕ)) (rest : List ℕ)
+    → ReadTo (gds profile) xs at (HoldsBy profile b) was → b.stage ≡ Fill → drop at xs ≡ replicate n 0 ++ rest
+    → at + n ≤ profile.limits.file
+    → (left' : Option (List ℕ)) × ReadTo (gds profile) xs (at + n) (HoldsBy profile b) left' × (drop (at + n) xs ≡ rest)
+reads_zeros profile zero xs at b was rest to e here limit =
     let z : at ≡ at + 0 = omega arith in
-    (was, subst (λ i. ReadTo (gds ignore) xs i (HoldsBy ignore b) was) z to, subst (λ i. drop i xs ≡ rest) z here)
-reads_zeros ignore (suc n) xs at b was rest to e here limit =
-    let one = reads_zero ignore xs at b was (replicate n 0 ++ rest) to e here (omega (arith, limit)) in
-    let more = reads_zeros ignore n xs (at + 1) b (Some (replicate n 0 ++ rest)) rest one e
+    (was, subst (λ i. ReadTo (gds profile) xs i (HoldsBy profile b) was) z to, subst (λ i. drop i xs ≡ rest) z here)
+reads_zeros profile (suc n) xs at b was rest to e here limit =
+    let one = reads_zero profile xs at b was (replicate n 0 ++ rest) to e here (omega (arith, limit)) in
+    let more = reads_zeros profile n xs (at + 1) b (Some (replicate n 0 ++ rest)) rest one e
     (same_left (drop (at + 1) xs) (replicate n 0 ++ rest) (Some (replicate n 0 ++ rest)) one.left_is refl)
     (omega (arith, limit)) in
     let z : at + 1 + n ≡ at + suc n = omega arith in (
       more.0,
-      subst (λ i. ReadTo (gds ignore) xs i (HoldsBy ignore b) more.0) z more.1,
+      subst (λ i. ReadTo (gds profile) xs i (HoldsBy profile b) more.0) z more.1,
       subst (λ i. drop i xs ≡ rest) z more.2,
     )
 
 -- the end of the input
-pub reads_all : (ignore : Ignore) (xs : List ℕ) (at : ℕ) (b : Builder) (was : Option (List ℕ))
-    → ReadTo (gds ignore) xs at (HoldsBy ignore b) was
-    → b.stage ≡ Fill → drop at xs ≡ replicate (length (drop at xs)) 0 → at + length (drop at xs) ≤ file_limit
-    → IsRead ignore xs (done b) (record { version = b.version; units = b.units })
-reads_all ignore xs at b was to e zeros limit =
-    let more = reads_zeros ignore (length (drop at xs)) xs at b was [] to e
+pub reads_all : (profile : Profile) (xs : List ℕ) (at : ℕ) (b : Builder) (was : Option (List ℕ))
+    → ReadTo (gds profile) xs at (HoldsBy profile b) was
+    → b.stage ≡ Fill → drop at xs ≡ replicate (length (drop at xs)) 0 → at + length (drop at xs) ≤ profile.limits.file
+    → IsRead profile xs (done b) (record { version = b.version; units = b.units })
+reads_all profile xs at b was to e zeros limit =
+    let more = reads_zeros profile (length (drop at xs)) xs at b was [] to e
     (zeros ∙ sym (append-nil (replicate (length (drop at xs)) 0))) limit in
     let end = more.1 in
     let n : at + length (drop at xs) ≡ length xs = omega (arith, length-drop at xs, to.within) in
     let all : take (at + length (drop at xs)) xs ≡ xs =
     (parts_at xs xs [] (at + length (drop at xs)) (sym (append-nil xs)) n).0 in
     let h : GdsHead = record { version = b.version; units = b.units } in
-    let spelled : SpellsLibrary ignore xs (drawings (essential ignore end.records)) h = record {
+    let spelled : SpellsLibrary profile xs (drawings (essential profile end.records)) h = record {
       records = end.records;
       whole = record {
-        front = subst (λ l. IsFront (gds ignore) l end.records) all end.front;
-        whole = holds_whole ignore b end.records end.holds e;
+        front = subst (λ l. IsFront (gds profile) l end.records) all end.front;
+        whole = holds_whole profile b end.records end.holds e;
       };
       cells_are = refl;
       head_is = ap (λ (i : ℤ). let g : GdsHead = record { version = i; units = b.units } in
           g) end.holds.essential.version
           ∙ ap (λ (i : List (List ℕ)). let g : GdsHead = record {
-            version = short (field header (essential ignore end.records));
+            version = short (field header (essential profile end.records));
             units = i;
           } in g) (end.holds.essential.units (ap has_units e));
     } in
     record {
-      cells = drawings (essential ignore end.records);
+      cells = drawings (essential profile end.records);
       spelled = spelled;
-      only = λ ds g p. law_only ignore xs (drawings (essential ignore end.records)) ds h g spelled p;
+      only = λ ds g p. law_only profile xs (drawings (essential profile end.records)) ds h g spelled p;
       kept_as = sym (ap (λ p. shown_at p b) e) ∙ end.holds.essential.shown;
     }
 
@@ -409,28 +408,28 @@ some_hand [] rest ys c h e more = absurd (omega (arith, h))
 some_hand (i ∷ hand) rest ys c h e more =
     (let same : c ≡ i = cc in (hand ++ more, ap (λ j. j ∷ (hand ++ more)) (sym same)))
 
-only_other : (ignore : Ignore) (before : List Rec) (room : ℕ) (ys : List ℕ) → IsWholeBy ignore before → 0 < room
+only_other : (profile : Profile) (before : List Rec) (room : ℕ) (ys : List ℕ) → IsWholeBy profile before → 0 < room
     → (j : GdsKind)
-    → IsWrong ignore before room ys j → j ≡ AfterEnd
-only_other ignore before room ys w l (Record f) x = absurd (omega (arith, l, x.3 w))
-only_other ignore before room ys w l AfterEnd x = refl
-only_other ignore before room ys w l _ x = absurd (x.0 w)
+    → IsWrong profile before room ys j → j ≡ AfterEnd
+only_other profile before room ys w l (Record f) x = absurd (omega (arith, l, x.3 w))
+only_other profile before room ys w l AfterEnd x = refl
+only_other profile before room ys w l _ x = absurd (x.0 w)
 
 -- another byte after ENDLIB
-pub reads_other : (ignore : Ignore) (xs : List ℕ) (at n : ℕ) (b : Builder) (was remaining : Option (List ℕ)) (c : ℕ)
+pub reads_other : (profile : Profile) (xs : List ℕ) (at n : ℕ) (b : Builder) (was remaining : Option (List ℕ)) (c : ℕ)
     (rest hand : List ℕ)
-    → ReadTo (gds ignore) xs at (HoldsBy ignore b) was → b.stage ≡ Fill → drop at xs ≡ replicate n 0 ++ (c ∷ rest)
+    → ReadTo (gds profile) xs at (HoldsBy profile b) was → b.stage ≡ Fill → drop at xs ≡ replicate n 0 ++ (c ∷ rest)
     → c ≢ 0
-    → n < file_limit - at
+    → n < profile.limits.file - at
     → 0 < length hand → prepend_known hand remaining ≡ Some (drop n (drop at xs))
-    → RefusesAt ignore xs remaining (at + n) AfterEnd
-reads_other ignore xs at n b was remaining c rest hand to e here other room some known =
-    let more = reads_zeros ignore n xs at b was (c ∷ rest) to e here (omega (arith, room)) in
+    → RefusesAt profile xs remaining (at + n) AfterEnd
+reads_other profile xs at n b was remaining c rest hand to e here other room some known =
+    let more = reads_zeros profile n xs at b was (c ∷ rest) to e here (omega (arith, room)) in
     let end = more.1 in
-    let w = holds_whole ignore b end.records end.holds e in
+    let w = holds_whole profile b end.records end.holds e in
     let after : drop n (drop at xs) ≡ c ∷ rest = ap (drop n) here ∙ drop_zeros n (c ∷ rest) in
     let l = left_parts (c ∷ rest) hand remaining (known ∙ ap (λ (i : List ℕ). Some i) after) in
-    let space : 0 < file_limit - (at + n) = omega (arith, room) in
+    let space : 0 < profile.limits.file - (at + n) = omega (arith, room) in
     record {
       within = end.within;
       records = end.records;
@@ -440,81 +439,81 @@ reads_other ignore xs at n b was remaining c rest hand to e here other room some
       parts = more.2 ∙ l.parts;
       left_is = l.is;
       wrong = λ z. (let t = some_hand hand rest l.rest c some l.parts z in (w, space, c, t.0, other, t.1));
-      only = only_other ignore end.records (file_limit - (at + n)) (drop (at + n) xs) w space;
+      only = only_other profile end.records (profile.limits.file - (at + n)) (drop (at + n) xs) w space;
     }
 
 -- the input passes the limit after ENDLIB
-pub reads_too_long : (ignore : Ignore) (xs : List ℕ) (at : ℕ) (b : Builder) (was remaining : Option (List ℕ))
+pub reads_too_long : (profile : Profile) (xs : List ℕ) (at : ℕ) (b : Builder) (was remaining : Option (List ℕ))
     (rest hand : List ℕ)
-    → ReadTo (gds ignore) xs at (HoldsBy ignore b) was → b.stage ≡ Fill → at ≤ file_limit
-    → drop at xs ≡ replicate (file_limit - at) 0 ++ rest
-    → ((more : List ℕ) → step ignore (file_limit - (at + (file_limit - at))) (hand ++ more) ≡ Err TooLong)
-    → prepend_known hand remaining ≡ Some (drop (file_limit - at) (drop at xs))
-    → RefusesAt ignore xs remaining (at + (file_limit - at)) (Record TooLong)
-reads_too_long ignore xs at b was remaining rest hand to e limit here said known =
-    let n = file_limit - at in
-    let more = reads_zeros ignore n xs at b was rest to e here (omega (arith, limit)) in
+    → ReadTo (gds profile) xs at (HoldsBy profile b) was → b.stage ≡ Fill → at ≤ profile.limits.file
+    → drop at xs ≡ replicate (profile.limits.file - at) 0 ++ rest
+    → ((more : List ℕ) → step profile.ignore (profile.limits.file - (at + (profile.limits.file - at))) (hand ++ more) ≡ Err TooLong)
+    → prepend_known hand remaining ≡ Some (drop (profile.limits.file - at) (drop at xs))
+    → RefusesAt profile xs remaining (at + (profile.limits.file - at)) (Record TooLong)
+reads_too_long profile xs at b was remaining rest hand to e limit here said known =
+    let n = profile.limits.file - at in
+    let more = reads_zeros profile n xs at b was rest to e here (omega (arith, limit)) in
     let after : drop n (drop at xs) ≡ drop (at + n) xs = ap (drop n) here ∙ drop_zeros n rest ∙ sym more.2 in
-    seen_fault ignore xs (at + n) (HoldsBy ignore b) more.0 remaining hand TooLong more.1 (λ z. cc) (λ z. cc)
+    seen_fault profile xs (at + n) (HoldsBy profile b) more.0 remaining hand TooLong more.1 (λ z. cc) (λ z. cc)
     (λ w. omega (arith, limit)) said (known ∙ ap (λ (i : List ℕ). Some i) after)
 
 -- the reader failed after ENDLIB, and all that it gave was taken
-pub reads_failed : (ignore : Ignore) (xs : List ℕ) (at n : ℕ) (b : Builder) (was remaining : Option (List ℕ))
+pub reads_failed : (profile : Profile) (xs : List ℕ) (at n : ℕ) (b : Builder) (was remaining : Option (List ℕ))
     (rest : List ℕ)
-    → ReadTo (gds ignore) xs at (HoldsBy ignore b) was → b.stage ≡ Fill → drop at xs ≡ replicate n 0 ++ rest
-    → n ≤ file_limit - at
-    → at ≤ file_limit → remaining ≡ Some (drop n (drop at xs)) → IsUnread (gds_faults ignore) xs remaining (at + n)
-reads_failed ignore xs at n b was remaining rest to e here room limit left =
-    let more = reads_zeros ignore n xs at b was rest to e here (omega (arith, room, limit)) in
+    → ReadTo (gds profile) xs at (HoldsBy profile b) was → b.stage ≡ Fill → drop at xs ≡ replicate n 0 ++ rest
+    → n ≤ profile.limits.file - at
+    → at ≤ profile.limits.file → remaining ≡ Some (drop n (drop at xs)) → IsUnread (gds_faults profile) xs remaining (at + n)
+reads_failed profile xs at n b was remaining rest to e here room limit left =
+    let more = reads_zeros profile n xs at b was rest to e here (omega (arith, room, limit)) in
     let after : drop n (drop at xs) ≡ drop (at + n) xs = ap (drop n) here ∙ drop_zeros n rest ∙ sym more.2 in
-    reads_unread (gds_faults ignore) xs (at + n) (HoldsBy ignore b) more.0 remaining more.1 [] (drop (at + n) xs) refl
+    reads_unread (gds_faults profile) xs (at + n) (HoldsBy profile b) more.0 remaining more.1 [] (drop (at + n) xs) refl
     (left ∙ ap (λ (i : List ℕ). Some i) after) (λ some. absurd (omega (arith, some)))
 
 -- a rule that a record breaches isn't a failed read
-pub breach_no_read : (ignore : Ignore) (before : List Rec) (r : Rec) (k : GdsKind) → BreachesBy ignore before r k
+pub breach_no_read : (profile : Profile) (before : List Rec) (r : Rec) (k : GdsKind) → BreachesBy profile before r k
     → is_read_kind k ≡ false
-breach_no_read ignore before r (Record f) b = absurd b.2
-breach_no_read ignore before r other b = refl
+breach_no_read profile before r (Record f) b = absurd b.2
+breach_no_read profile before r other b = refl
 
 -- a refusal by a fault and its offset
-pub refuses_by : (ignore : Ignore) (xs : List ℕ) (rest : Option (List ℕ)) (e : Cause GdsFault) (offset at : ℕ)
+pub refuses_by : (profile : Profile) (xs : List ℕ) (rest : Option (List ℕ)) (e : Cause GdsFault) (offset at : ℕ)
     (k : GdsKind)
-    → e ≡ Breach (record { offset = offset; kind = k }) → offset ≡ at → RefusesAt ignore xs rest at k
-    → Says e (Refuses ignore xs rest)
-refuses_by ignore xs rest e offset at k h o x =
-    subst (λ (i : Cause GdsFault). Says i (Refuses ignore xs rest)) (sym h)
-    (subst (λ i. RefusesAt ignore xs rest i k) (sym o) x)
+    → e ≡ Breach (record { offset = offset; kind = k }) → offset ≡ at → RefusesAt profile xs rest at k
+    → Says e (Refuses profile xs rest)
+refuses_by profile xs rest e offset at k h o x =
+    subst (λ (i : Cause GdsFault). Says i (Refuses profile xs rest)) (sym h)
+    (subst (λ i. RefusesAt profile xs rest i k) (sym o) x)
 
 -- what another byte after ENDLIB says, once `tail` has returned its offset
-pub reads_after : (ignore : Ignore) (xs : List ℕ) (at n : ℕ) (b : Builder) (was remaining : Option (List ℕ)) (c : ℕ)
+pub reads_after : (profile : Profile) (xs : List ℕ) (at n : ℕ) (b : Builder) (was remaining : Option (List ℕ)) (c : ℕ)
     (rest hand : List ℕ)
-    → ReadTo (gds ignore) xs at (HoldsBy ignore b) was → b.stage ≡ Fill → drop at xs ≡ replicate n 0 ++ (c ∷ rest)
+    → ReadTo (gds profile) xs at (HoldsBy profile b) was → b.stage ≡ Fill → drop at xs ≡ replicate n 0 ++ (c ∷ rest)
     → c ≢ 0
-    → n < file_limit - at
+    → n < profile.limits.file - at
     → 0 < length hand → ((ys : List ℕ) → was ≡ Some ys → prepend_known hand remaining ≡ Some (drop n ys))
-    → RefusesAt ignore xs remaining (at + n) AfterEnd
-reads_after ignore xs at n b was remaining c rest hand to e here other room some left =
-    reads_other ignore xs at n b was remaining c rest hand to e here other room some (left (drop at xs) to.left_is)
+    → RefusesAt profile xs remaining (at + n) AfterEnd
+reads_after profile xs at n b was remaining c rest hand to e here other room some left =
+    reads_other profile xs at n b was remaining c rest hand to e here other room some (left (drop at xs) to.left_is)
 
 -- what a fault after ENDLIB says
-pub reads_tail : (ignore : Ignore) (xs : List ℕ) (at new : ℕ) (b : Builder) (was remaining : Option (List ℕ))
+pub reads_tail : (profile : Profile) (xs : List ℕ) (at new : ℕ) (b : Builder) (was remaining : Option (List ℕ))
     (hand : List ℕ)
     (f : RecordFault)
-    → ReadTo (gds ignore) xs at (HoldsBy ignore b) was → b.stage ≡ Fill → at ≤ file_limit
-    → AnswersTail (Err (Fault f)) at new (file_limit - at) (drop at xs) → Decides ignore f (file_limit - new) hand
+    → ReadTo (gds profile) xs at (HoldsBy profile b) was → b.stage ≡ Fill → at ≤ profile.limits.file
+    → AnswersTail (Err (Fault f)) at new (profile.limits.file - at) (drop at xs) → Decides profile.ignore f (profile.limits.file - new) hand
     → (f ≡ Read → prepend_known hand remaining ≡ remaining)
     → ((ys : List ℕ) → was ≡ Some ys → prepend_known hand remaining ≡ Some (drop (new - at) ys))
-    → RefusesAt ignore xs remaining new (Record f)
-reads_tail ignore xs at new b was remaining hand TooLong to e limit x said starved left =
-    let n : new - at ≡ file_limit - at = omega (arith, x.1) in
-    subst (λ i. RefusesAt ignore xs remaining i (Record TooLong)) (sym x.1)
-    (reads_too_long ignore xs at b was remaining x.0.0 hand to e limit x.0.2
-    (subst (λ i. (more : List ℕ) → step ignore (file_limit - i) (hand ++ more) ≡ Err TooLong) x.1
+    → RefusesAt profile xs remaining new (Record f)
+reads_tail profile xs at new b was remaining hand TooLong to e limit x said starved left =
+    let n : new - at ≡ profile.limits.file - at = omega (arith, x.1) in
+    subst (λ i. RefusesAt profile xs remaining i (Record TooLong)) (sym x.1)
+    (reads_too_long profile xs at b was remaining x.0.0 hand to e limit x.0.2
+    (subst (λ i. (more : List ℕ) → step profile.ignore (profile.limits.file - i) (hand ++ more) ≡ Err TooLong) x.1
     (said (λ z. cc) (λ z. cc)))
     (left (drop at xs) to.left_is ∙ ap (λ i. Some (drop i (drop at xs))) n))
-reads_tail ignore xs at new b was remaining hand Read to e limit x said starved left =
+reads_tail profile xs at new b was remaining hand Read to e limit x said starved left =
     let n : new - at ≡ x.0 = omega (arith, x.4) in
-    subst (IsUnread (gds_faults ignore) xs remaining) (sym x.4)
-    (reads_failed ignore xs at x.0 b was remaining x.1 to e x.3 x.2 limit
+    subst (IsUnread (gds_faults profile) xs remaining) (sym x.4)
+    (reads_failed profile xs at x.0 b was remaining x.1 to e x.3 x.2 limit
     (sym (starved refl) ∙ left (drop at xs) to.left_is ∙ ap (λ i. Some (drop i (drop at xs))) n))
-reads_tail ignore xs at new b was remaining hand other to e limit x said starved left = absurd x
+reads_tail profile xs at new b was remaining hand other to e limit x said starved left = absurd x

@@ -4,7 +4,7 @@
 use Rattle.std.specs.Prelude.{◌≡◌, ◌==◌, ◌&&◌, ◌||◌, ◌⊎◌, ◌<◌, not, ℕ, Bool, true, false, if◌then◌else◌}
 use Rattle.std.specs.Prelude.{List, [], ◌∷◌, Option, Some, None}
 use Rattle.std.specs.Str.{bytes_eq}
-use Rattle.lvl_profile.specs.declared.ignore.Ignore.{Ignore}
+use Rattle.lvl_profile.specs.declared.profile.Profile.{Profile}
 use Rattle.gds_records.specs.Table.{is_ignored}
 use Rattle.gds_elements.specs.Types.{bgnlib, libname, strname}
 use Rattle.gds_elements.specs.Order.{opens}
@@ -19,13 +19,13 @@ use Rattle.gds_library.specs.declared.fault.GdsKind.{GdsKind}
 use Rattle.gds_library.specs.declared.fault.GdsKind.TheVariants.{Misplaced}
 
 -- whether the record is ignored; a FORMAT other than 0 never is, since such a file isn't a plain archive
-abbrev pub is_passed : Ignore → Rec → Bool
-is_passed ignore r = is_ignored ignore r.kind && (not (r.kind == format) || bytes_eq r.payload (0 ∷ 0 ∷ []))
+abbrev pub is_passed : Profile → Rec → Bool
+is_passed profile r = is_ignored profile.ignore r.kind && (not (r.kind == format) || bytes_eq r.payload (0 ∷ 0 ∷ []))
 
 -- the records that aren't ignored, which alone give a stream its meaning
-abbrev pub essential : Ignore → List Rec → List Rec
-essential ignore [] = []
-essential ignore (r ∷ rs) = if is_passed ignore r then essential ignore rs else r ∷ essential ignore rs
+abbrev pub essential : Profile → List Rec → List Rec
+essential profile [] = []
+essential profile (r ∷ rs) = if is_passed profile r then essential profile rs else r ∷ essential profile rs
 
 -- the type of the last record
 abbrev pub last_type : List Rec → Option ℕ
@@ -56,47 +56,47 @@ AwaitsValue before = last_type before ≡ Some propattr
 
 -- an ignored record may come next: the library isn't whole, and the record is a PROPATTR where ENDEL may come and no
 -- PROPVALUE is missing, or it comes directly after a type that the syntax allows before it
-pub record MayPass (ignore : Ignore) (before : List Rec) (r : Rec) : Type 0 where
-  pub unended : ¬ IsWhole (essential ignore before)
-  pub there : ((r.kind ≡ propattr) × ¬ AwaitsValue before × InOrder (essential ignore before) an_end)
+pub record MayPass (profile : Profile) (before : List Rec) (r : Rec) : Type 0 where
+  pub unended : ¬ IsWhole (essential profile before)
+  pub there : ((r.kind ≡ propattr) × ¬ AwaitsValue before × InOrder (essential profile before) an_end)
       ⊎ ((j : ℕ) × (last_type before ≡ Some j) × (comes_after r.kind j ≡ true))
 
 -- a record that isn't ignored may come next: no PROPVALUE is missing, and the record is in order after the others that
 -- aren't ignored
-pub record MayCome (ignore : Ignore) (before : List Rec) (r : Rec) : Type 0 where
-  pub unpassed : is_passed ignore r ≡ false
+pub record MayCome (profile : Profile) (before : List Rec) (r : Rec) : Type 0 where
+  pub unpassed : is_passed profile r ≡ false
   pub complete : ¬ AwaitsValue before
-  pub ordered : InOrder (essential ignore before) r
+  pub ordered : InOrder (essential profile before) r
 
 -- the record may come next
-abbrev pub InOrderBy : Ignore → List Rec → Rec → Type 0
-InOrderBy ignore before r = ((is_passed ignore r ≡ true) × MayPass ignore before r) ⊎ MayCome ignore before r
+abbrev pub InOrderBy : Profile → List Rec → Rec → Type 0
+InOrderBy profile before r = ((is_passed profile r ≡ true) × MayPass profile before r) ⊎ MayCome profile before r
 
 -- the record is always read, or ignored
-abbrev pub IsKnownBy : Ignore → Rec → Type 0
-IsKnownBy ignore r = (is_passed ignore r ≡ true) ⊎ IsKnown r.kind
+abbrev pub IsKnownBy : Profile → Rec → Type 0
+IsKnownBy profile r = (is_passed profile r ≡ true) ⊎ IsKnown r.kind
 
 -- the record may not come next: it is one that is read or ignored (Unexpected), or it isn't (Unsupported)
-abbrev pub IsMisplacedBy : Ignore → List Rec → Rec → Misplacement → Type 0
-IsMisplacedBy ignore before r (Unexpected k) = (r.kind ≡ k) × IsKnownBy ignore r × ¬ InOrderBy ignore before r
-IsMisplacedBy ignore before r (Unsupported k) = (r.kind ≡ k) × (k < 60) × ¬ IsKnownBy ignore r
+abbrev pub IsMisplacedBy : Profile → List Rec → Rec → Misplacement → Type 0
+IsMisplacedBy profile before r (Unexpected k) = (r.kind ≡ k) × IsKnownBy profile r × ¬ InOrderBy profile before r
+IsMisplacedBy profile before r (Unsupported k) = (r.kind ≡ k) × (k < 60) × ¬ IsKnownBy profile r
 
 -- the record breaches the rule: it may not come next; or it isn't ignored, and breaches the rule after the others that
 -- aren't
-abbrev pub BreachesBy : Ignore → List Rec → Rec → GdsKind → Type 0
-BreachesBy ignore before r (Misplaced m) = IsMisplacedBy ignore before r m
-BreachesBy ignore before r k =
-    (is_passed ignore r ≡ false) × ¬ AwaitsValue before × Breaches (essential ignore before) r k
+abbrev pub BreachesBy : Profile → List Rec → Rec → GdsKind → Type 0
+BreachesBy profile before r (Misplaced m) = IsMisplacedBy profile before r m
+BreachesBy profile before r k =
+    (is_passed profile r ≡ false) × ¬ AwaitsValue before × Breaches profile.limits (essential profile before) r k
 
 -- it breaches no other rule
-abbrev pub BreachesOnlyBy : Ignore → List Rec → Rec → GdsKind → Type 0
-BreachesOnlyBy ignore before r k = (j : GdsKind) → BreachesBy ignore before r j → j ≡ k
+abbrev pub BreachesOnlyBy : Profile → List Rec → Rec → GdsKind → Type 0
+BreachesOnlyBy profile before r k = (j : GdsKind) → BreachesBy profile before r j → j ≡ k
 
 -- the record may follow the others: it may come next, and breaches no rule unless it is ignored
-abbrev pub MayFollowBy : Ignore → List Rec → Rec → Type 0
-MayFollowBy ignore before r =
-    InOrderBy ignore before r × (is_passed ignore r ≡ false → KeepsRules (essential ignore before) r)
+abbrev pub MayFollowBy : Profile → List Rec → Rec → Type 0
+MayFollowBy profile before r =
+    InOrderBy profile before r × (is_passed profile r ≡ false → KeepsRules profile.limits (essential profile before) r)
 
 -- the records are a whole library, apart from those that are ignored
-abbrev pub IsWholeBy : Ignore → List Rec → Type 0
-IsWholeBy ignore rs = IsWhole (essential ignore rs)
+abbrev pub IsWholeBy : Profile → List Rec → Type 0
+IsWholeBy profile rs = IsWhole (essential profile rs)

@@ -14,8 +14,9 @@ use crate::head::{GdsHead, two_reals};
 use crate::stage::LibraryStage;
 use gds_elements::{Drawn, misplaced, name};
 use gds_records::record_type;
-use lvl_cells::{Builder as Cells, Library, MOST_CELLS};
+use lvl_cells::{Builder as Cells, Library};
 use lvl_names::{Offsets, is_name};
+use lvl_profile::Limits;
 use lvl_refusal::Cause;
 use std::alloc::Global;
 
@@ -76,14 +77,15 @@ impl Builder {
     pub(crate) fn take(
         &mut self,
         alloc: Global,
+        limits: Limits,
         kind: u8,
         payload: &[u8],
     ) -> Result<(), Cause<GdsKind>>
         requires { IsFormed kind payload.now }
         ensures refused { IfErr result
-            (λ e. Says e (IsFault self.old.stage (length self.old.cells.cells) kind payload.now)) }
+            (λ e. Says e (IsFault limits self.old.stage (length self.old.cells.cells) kind payload.now)) }
         ensures stage { OnOk result (after self.old.stage kind ≡ Some self.new.stage) }
-        ensures allowed { OnOk result (IsAllowed (length self.old.cells.cells) kind payload.now) }
+        ensures allowed { OnOk result (IsAllowed limits (length self.old.cells.cells) kind payload.now) }
         ensures version { OnOk result
             (self.new.version ≡ (if kind == header then short payload.now else self.old.version)) }
         ensures units { OnOk result
@@ -97,7 +99,7 @@ impl Builder {
             record_type::HEADER => self.version = i16::from_be_bytes([payload[0], payload[1]]),
             record_type::UNITS => self.units = two_reals(payload),
             record_type::BGNSTR => {
-                if self.cells.len() >= MOST_CELLS {
+                if self.cells.len() as u64 >= limits.cells {
                     return Err(Cause::Breach(GdsKind::TooManyCells));
                 }
             }

@@ -4,7 +4,7 @@ ghost use Rattle.gds_elements.specs.Order.{opens};
 ghost use Rattle.gds_elements.specs.Rec.{Rec};
 ghost use Rattle.gds_elements.specs.inside.Reading.{record_of};
 ghost use Rattle.gds_elements.specs.inside.Formed.{IsFormed as IsFormedInElement};
-ghost use Rattle.lvl_profile.specs.declared.ignore.Ignore.{Ignore as PlainIgnore};
+ghost use Rattle.lvl_profile.specs.declared.profile.Profile.{Profile as PlainProfile};
 ghost use Rattle.gds_library.specs.Ignoring.{comes_after, is_passed, AwaitsValue, MayPass};
 ghost use Rattle.gds_library.specs.inside.Faults.{IsFormed};
 ghost use Rattle.gds_library.specs.inside.Holds.{HasReadBy, TakesBy};
@@ -15,7 +15,7 @@ use crate::reading::Reading;
 use gds_elements::{Misplaced, misplaced};
 use gds_records::{is_ignored, record_type};
 use lvl_cells::Library;
-use lvl_profile::Ignore;
+use lvl_profile::Profile;
 use lvl_refusal::Cause;
 use std::alloc::Global;
 
@@ -25,7 +25,7 @@ const ARCHIVE: [u8; 2] = [0, 0];
 /// What was read so far, and the type of the last record, whether it is ignored or not.
 #[derive(Drop)]
 pub(crate) struct WithIgnored {
-    ignore: Ignore,
+    profile: Profile,
     last: Option<u8>,
     reading: Reading,
 }
@@ -34,13 +34,13 @@ impl WithIgnored {
     ghost use Rattle.gds_library.specs.inside.Shown.{done};
     ghost use Rattle.gds_library.specs.declared.stage.LibraryStage.TheVariants.{Header, Fill};
 
-    pub(crate) fn new(alloc: Global, ignore: Ignore) -> WithIgnored
-        ensures none { HasReadBy ignore result [] }
+    pub(crate) fn new(alloc: Global, profile: Profile) -> WithIgnored
+        ensures none { HasReadBy profile result [] }
         ensures stage { result.reading.builder.stage ≡ Header }
-        ensures ignore { result.ignore ≡ ignore }
+        ensures profile { result.profile ≡ profile }
     {
         WithIgnored {
-            ignore,
+            profile,
             last: None,
             reading: Reading::new(alloc),
         }
@@ -74,11 +74,11 @@ impl WithIgnored {
         requires formed { IsFormed kind payload.now }
         requires in_element { IsFormedInElement kind payload.now }
         requires unended { self.old.reading.builder.stage ≢ Fill }
-        ensures takes { (rs : List Rec) (d : ℕ) → HasReadBy self.old.ignore self.old rs
-            → TakesBy self.old.ignore rs (record_of kind d payload.now) self.new result }
-        ensures ignore { self.new.ignore ≡ self.old.ignore }
+        ensures takes { (rs : List Rec) (d : ℕ) → HasReadBy self.old.profile self.old rs
+            → TakesBy self.old.profile rs (record_of kind d payload.now) self.new result }
+        ensures profile { self.new.profile ≡ self.old.profile }
     {
-        if is_passed(self.ignore, kind, payload) {
+        if is_passed(self.profile, kind, payload) {
             self.pass(kind)
         } else {
             self.take_essential(alloc, kind, payload)
@@ -88,9 +88,9 @@ impl WithIgnored {
     // Takes a record that is ignored.
     fn pass(&mut self, kind: u8) -> Result<(), Cause<GdsKind>>
         requires unended { self.old.reading.builder.stage ≢ Fill }
-        ensures takes { (rs : List Rec) (r : Rec) → r.kind ≡ kind → is_passed self.old.ignore r ≡ true
-            → HasReadBy self.old.ignore self.old rs → TakesBy self.old.ignore rs r self.new result }
-        ensures ignore { self.new.ignore ≡ self.old.ignore }
+        ensures takes { (rs : List Rec) (r : Rec) → r.kind ≡ kind → is_passed self.old.profile r ≡ true
+            → HasReadBy self.old.profile self.old rs → TakesBy self.old.profile rs r self.new result }
+        ensures profile { self.new.profile ≡ self.old.profile }
     {
         if !self.may_pass(kind) {
             return Err(Cause::Breach(GdsKind::Misplaced(Misplaced::Unexpected(kind))));
@@ -108,22 +108,22 @@ impl WithIgnored {
     ) -> Result<(), Cause<GdsKind>>
         requires formed { IsFormed kind payload.now }
         requires in_element { IsFormedInElement kind payload.now }
-        ensures takes { (rs : List Rec) (d : ℕ) → is_passed self.old.ignore (record_of kind d payload.now) ≡ false
-            → HasReadBy self.old.ignore self.old rs
-            → TakesBy self.old.ignore rs (record_of kind d payload.now) self.new result }
-        ensures ignore { self.new.ignore ≡ self.old.ignore }
+        ensures takes { (rs : List Rec) (d : ℕ) → is_passed self.old.profile (record_of kind d payload.now) ≡ false
+            → HasReadBy self.old.profile self.old rs
+            → TakesBy self.old.profile rs (record_of kind d payload.now) self.new result }
+        ensures profile { self.new.profile ≡ self.old.profile }
     {
         if self.awaits_value() {
             return Err(Cause::Breach(GdsKind::Misplaced(misplaced(kind))));
         }
-        self.reading.take(alloc, kind, payload)?;
+        self.reading.take(alloc, self.profile.limits, kind, payload)?;
         self.last = Some(kind);
         Ok(())
     }
 
     // Whether the last record is a PROPATTR, so that a PROPVALUE must come next.
     fn awaits_value(&self) -> bool
-        ensures { (ignore : PlainIgnore) (rs : List Rec) → HasReadBy ignore self.now rs
+        ensures { (profile : PlainProfile) (rs : List Rec) → HasReadBy profile self.now rs
             → IsTrue result ↔ AwaitsValue rs }
     {
         match self.last {
@@ -135,8 +135,8 @@ impl WithIgnored {
     // Whether an ignored record of this type may come next.
     fn may_pass(&self, kind: u8) -> bool
         requires unended { self.now.reading.builder.stage ≢ Fill }
-        ensures { (rs : List Rec) (r : Rec) → r.kind ≡ kind → HasReadBy self.now.ignore self.now rs
-            → IsTrue result ↔ MayPass self.now.ignore rs r }
+        ensures { (rs : List Rec) (r : Rec) → r.kind ≡ kind → HasReadBy self.now.profile self.now rs
+            → IsTrue result ↔ MayPass self.now.profile rs r }
     {
         if kind == record_type::PROPATTR {
             return !self.awaits_value() && self.reading.may_end();
@@ -149,10 +149,10 @@ impl WithIgnored {
 }
 
 // Whether a record is ignored.
-fn is_passed(ignore: Ignore, kind: u8, payload: &[u8]) -> bool
-    ensures { (d : ℕ) → result ≡ is_passed ignore (record_of kind d payload.now) }
+fn is_passed(profile: Profile, kind: u8, payload: &[u8]) -> bool
+    ensures { (d : ℕ) → result ≡ is_passed profile (record_of kind d payload.now) }
 {
-    is_ignored(ignore, kind) && (kind != record_type::FORMAT || payload == ARCHIVE.as_slice())
+    is_ignored(profile.ignore, kind) && (kind != record_type::FORMAT || payload == ARCHIVE.as_slice())
 }
 
 // Whether an ignored record of this type may come directly after one of the type `last`.

@@ -5,11 +5,11 @@ ghost use Rattle.lvl_refusal.specs.Refused.{Says};
 ghost use Rattle.lvl_grammar.specs.Refused.{IsHopeless};
 ghost use Rattle.lvl_grammar.specs.inside.ReadTo.{ReadTo};
 ghost use Rattle.gds_records.specs.Records.{has_failed, bytes_left, records_offset, records_reader};
-ghost use Rattle.gds_records.specs.Records.{records_ignore};
+ghost use Rattle.gds_records.specs.Records.{records_profile};
 ghost use Rattle.gds_library.specs.Front.{gds, IsRead, SpellsNone};
 ghost use Rattle.gds_library.specs.Ends.{Reports, ReportsUnread, IsExcused, IsEarly, is_read};
 ghost use Rattle.gds_library.specs.inside.Holds.{HasReadBy};
-ghost use Rattle.lvl_profile.specs.Ignored.{nothing};
+ghost use Rattle.lvl_profile.specs.Profiles.{strict};
 ghost use Rattle.gds_library.specs.inside.Refuses.{Refuses};
 ghost use Rattle.gds_library.specs.declared.stage.LibraryStage.TheVariants.{Fill, Header};
 ghost use Rattle.gds_library.specs.inside.Shown.{done, head_in};
@@ -20,11 +20,11 @@ use crate::ignoring::WithIgnored;
 use gds_records::{RecordFault, Records, Stopped};
 use lvl_cells::Library;
 use lvl_io::{Buffer, Read};
-use lvl_profile::Ignore;
+use lvl_profile::Profile;
 use lvl_refusal::Cause;
 use std::alloc::Global;
 
-/// The library that a GDSII stream spells, and its head. Nothing is ignored.
+/// The library that a GDSII stream spells, and its head. Nothing is ignored, and the standard limits hold.
 ///
 /// The order of records is HEADER BGNLIB LIBNAME UNITS, the structures, ENDLIB, and then only zero bytes up
 /// to the end; a structure is BGNSTR STRNAME, its elements, ENDSTR (GDSII Stream Format Manual, Release 6;
@@ -37,33 +37,34 @@ pub fn read_gds<R: Read>(
 ) -> Result<(Library, GdsHead), Cause<GdsFault>>
     // A library is returned only if the bytes spell it, and they spell no other.
     ensures spelled { (xs : List ℕ) → R.remaining reader.old ≡ Some xs
-        → IfOk result (λ read. IsRead nothing xs read.0 read.1) }
+        → IfOk result (λ read. IsRead strict xs read.0 read.1) }
 
     // A refusal names what is wrong, and the bytes spell no library, unless an allocation or the reader
     // failed.
     ensures refused { (xs : List ℕ) → R.remaining reader.old ≡ Some xs
-        → IfErr result (λ refusal. Says refusal (Reports nothing xs)) }
+        → IfErr result (λ refusal. Says refusal (Reports strict xs)) }
     ensures none { (xs : List ℕ) → R.remaining reader.old ≡ Some xs
-        → IfErr result (λ refusal. Says refusal (λ fault. (¬ IsExcused fault) → SpellsNone nothing xs)) }
+        → IfErr result (λ refusal. Says refusal (λ fault. (¬ IsExcused fault) → SpellsNone strict xs)) }
 
     // If the reader failed, it had given no whole record from the offset on.
     ensures unread { (xs : List ℕ) → R.remaining reader.old ≡ Some xs
-        → IfErr result (λ refusal. Says refusal (ReportsUnread nothing xs (R.remaining reader.new))) }
+        → IfErr result (λ refusal. Says refusal (ReportsUnread strict xs (R.remaining reader.new))) }
 
     // Unless the input ended or the reader failed, no file that begins with the bytes taken spells
     // a library.
     ensures early { (xs : List ℕ) → R.remaining reader.old ≡ Some xs
         → IfErr result (λ refusal. Says refusal (λ fault. IsEarly fault
-        → IsHopeless (gds nothing) xs (R.remaining reader.new))) }
+        → IsHopeless (gds strict) xs (R.remaining reader.new))) }
 
     // The reader failed exactly once if `Read` is reported, and otherwise never.
     ensures reads { CountsFailure (R.read_errors reader.old) (R.read_errors reader.new) (is_read result) }
     ensures same { R.lent reader.new ≡ R.lent reader.old }
 {
-    read_gds_by(alloc, reader, Ignore::NOTHING)
+    read_gds_by(alloc, reader, Profile::STANDARD)
 }
 
-/// The library that a GDSII stream spells, and its head, with some records ignored.
+/// The library that a GDSII stream spells, and its head, with the records ignored and the limits that the
+/// profile says.
 ///
 /// An ignored record has the data type and a length that the manual gives its type, and comes where the
 /// manual's stream syntax allows it. `names` are LIBDIRSIZE, SRFNAME and LIBSECUR before LIBNAME; REFLIBS,
@@ -73,36 +74,36 @@ pub fn read_gds<R: Read>(
 pub fn read_gds_by<R: Read>(
     alloc: Global,
     reader: &mut R,
-    ignore: Ignore,
+    profile: Profile,
 ) -> Result<(Library, GdsHead), Cause<GdsFault>>
     // A library is returned only if the bytes spell it, and they spell no other.
     ensures spelled { (xs : List ℕ) → R.remaining reader.old ≡ Some xs
-        → IfOk result (λ read. IsRead ignore xs read.0 read.1) }
+        → IfOk result (λ read. IsRead profile xs read.0 read.1) }
 
     // A refusal names what is wrong, and the bytes spell no library, unless an allocation or the reader
     // failed.
     ensures refused { (xs : List ℕ) → R.remaining reader.old ≡ Some xs
-        → IfErr result (λ refusal. Says refusal (Reports ignore xs)) }
+        → IfErr result (λ refusal. Says refusal (Reports profile xs)) }
     ensures none { (xs : List ℕ) → R.remaining reader.old ≡ Some xs
-        → IfErr result (λ refusal. Says refusal (λ fault. (¬ IsExcused fault) → SpellsNone ignore xs)) }
+        → IfErr result (λ refusal. Says refusal (λ fault. (¬ IsExcused fault) → SpellsNone profile xs)) }
 
     // If the reader failed, it had given no whole record from the offset on.
     ensures unread { (xs : List ℕ) → R.remaining reader.old ≡ Some xs
-        → IfErr result (λ refusal. Says refusal (ReportsUnread ignore xs (R.remaining reader.new))) }
+        → IfErr result (λ refusal. Says refusal (ReportsUnread profile xs (R.remaining reader.new))) }
 
     // Unless the input ended or the reader failed, no file that begins with the bytes taken spells
     // a library.
     ensures early { (xs : List ℕ) → R.remaining reader.old ≡ Some xs
         → IfErr result (λ refusal. Says refusal (λ fault. IsEarly fault
-        → IsHopeless (gds ignore) xs (R.remaining reader.new))) }
+        → IsHopeless (gds profile) xs (R.remaining reader.new))) }
 
     // The reader failed exactly once if `Read` is reported, and otherwise never.
     ensures reads { CountsFailure (R.read_errors reader.old) (R.read_errors reader.new) (is_read result) }
     ensures same { R.lent reader.new ≡ R.lent reader.old }
 {
     let buffer = Box::new(alloc, Buffer::new())?;
-    let mut records = Records::with_buffer(buffer, reader, ignore);
-    let read = read_library(alloc, &mut records, ignore);
+    let mut records = Records::with_buffer(buffer, reader, profile);
+    let read = read_library(alloc, &mut records, profile);
     let _reader = records.into_reader();
     read
 }
@@ -111,21 +112,21 @@ pub fn read_gds_by<R: Read>(
 fn read_library<R: Read>(
     alloc: Global,
     records: &mut Records<R>,
-    ignore: Ignore,
+    profile: Profile,
 ) -> Result<(Library, GdsHead), Cause<GdsFault>>
-    requires ignore { records_ignore records.old ≡ ignore }
+    requires profile { records_profile records.old ≡ profile }
     requires fresh { has_failed records.old ≡ false }
     requires start { records_offset records.old ≡ 0 }
     ensures spelled { (xs : List ℕ) → bytes_left R.remaining records.old ≡ Some xs
-        → IfOk result (λ read. IsRead ignore xs read.0 read.1) }
+        → IfOk result (λ read. IsRead profile xs read.0 read.1) }
     ensures refused { (xs : List ℕ) → bytes_left R.remaining records.old ≡ Some xs
-        → IfErr result (λ refusal. Says refusal (Refuses ignore xs (R.remaining (records_reader records.new)))) }
+        → IfErr result (λ refusal. Says refusal (Refuses profile xs (R.remaining (records_reader records.new)))) }
     ensures reads { CountsFailure (R.read_errors (records_reader records.old))
         (R.read_errors (records_reader records.new)) (is_read result) }
     ensures same { R.lent (records_reader records.new) ≡ R.lent (records_reader records.old) }
 {
-    let mut reading = WithIgnored::new(alloc, ignore);
-    read_whole(alloc, records, &mut reading, ignore)?;
+    let mut reading = WithIgnored::new(alloc, profile);
+    read_whole(alloc, records, &mut reading, profile)?;
     Ok(reading.finish())
 }
 
@@ -134,23 +135,23 @@ fn read_whole<R: Read>(
     alloc: Global,
     records: &mut Records<R>,
     reading: &mut WithIgnored,
-    ignore: Ignore,
+    profile: Profile,
 ) -> Result<(), Cause<GdsFault>>
-    requires none { HasReadBy ignore reading.old [] }
+    requires none { HasReadBy profile reading.old [] }
     requires stage { reading.old.reading.builder.stage ≡ Header }
-    requires reading { reading.old.ignore ≡ ignore }
-    requires ignore { records_ignore records.old ≡ ignore }
+    requires reading { reading.old.profile ≡ profile }
+    requires profile { records_profile records.old ≡ profile }
     requires fresh { has_failed records.old ≡ false }
     requires start { records_offset records.old ≡ 0 }
     ensures spelled { OnOk result ((xs : List ℕ) → bytes_left R.remaining records.old ≡ Some xs
-        → IsRead ignore xs (done reading.new.reading.builder) (head_in reading.new.reading.builder)) }
+        → IsRead profile xs (done reading.new.reading.builder) (head_in reading.new.reading.builder)) }
     ensures refused { (xs : List ℕ) → bytes_left R.remaining records.old ≡ Some xs
-        → IfErr result (λ refusal. Says refusal (Refuses ignore xs (R.remaining (records_reader records.new)))) }
+        → IfErr result (λ refusal. Says refusal (Refuses profile xs (R.remaining (records_reader records.new)))) }
     ensures reads { CountsFailure (R.read_errors (records_reader records.old))
         (R.read_errors (records_reader records.new)) (is_read result) }
     ensures same { R.lent (records_reader records.new) ≡ R.lent (records_reader records.old) }
 {
-    read_all(alloc, records, reading, ignore)?;
+    read_all(alloc, records, reading, profile)?;
     match records.tail() {
         Ok(None) => Ok(()),
         Ok(Some(offset)) => Err(refuse(offset, GdsKind::AfterEnd)),
@@ -170,22 +171,22 @@ fn read_all<R: Read>(
     alloc: Global,
     records: &mut Records<R>,
     reading: &mut WithIgnored,
-    ignore: Ignore,
+    profile: Profile,
 ) -> Result<(), Cause<GdsFault>>
-    requires none { HasReadBy ignore reading.old [] }
+    requires none { HasReadBy profile reading.old [] }
     requires stage { reading.old.reading.builder.stage ≡ Header }
-    requires reading { reading.old.ignore ≡ ignore }
-    requires ignore { records_ignore records.old ≡ ignore }
+    requires reading { reading.old.profile ≡ profile }
+    requires profile { records_profile records.old ≡ profile }
     requires fresh { has_failed records.old ≡ false }
     requires start { records_offset records.old ≡ 0 }
     ensures refused { (xs : List ℕ) → bytes_left R.remaining records.old ≡ Some xs
-        → IfErr result (λ refusal. Says refusal (Refuses ignore xs (R.remaining (records_reader records.new)))) }
-    ensures whole { OnOk result ((reading.new.reading.builder.stage ≡ Fill) × (reading.new.ignore ≡ ignore)
+        → IfErr result (λ refusal. Says refusal (Refuses profile xs (R.remaining (records_reader records.new)))) }
+    ensures whole { OnOk result ((reading.new.reading.builder.stage ≡ Fill) × (reading.new.profile ≡ profile)
         × ((xs : List ℕ) → bytes_left R.remaining records.old ≡ Some xs
-        → ReadTo (gds ignore) xs (records_offset records.new) (HasReadBy ignore reading.new)
+        → ReadTo (gds profile) xs (records_offset records.new) (HasReadBy profile reading.new)
         (bytes_left R.remaining records.new))) }
     ensures fresh { OnOk result (has_failed records.new ≡ false) }
-    ensures ignore { OnOk result (records_ignore records.new ≡ ignore) }
+    ensures profile { OnOk result (records_profile records.new ≡ profile) }
     ensures reads { CountsFailure (R.read_errors (records_reader records.old))
         (R.read_errors (records_reader records.new)) (is_read result) }
     ensures same { R.lent (records_reader records.new) ≡ R.lent (records_reader records.old) }

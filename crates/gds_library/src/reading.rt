@@ -12,6 +12,7 @@ use crate::fault::GdsKind;
 use crate::head::GdsHead;
 use gds_elements::{Element, ElementFault, Step};
 use lvl_cells::Library;
+use lvl_profile::Limits;
 use lvl_refusal::Cause;
 use std::alloc::Global;
 
@@ -65,17 +66,18 @@ impl Reading {
     pub(crate) fn take(
         &mut self,
         alloc: Global,
+        limits: Limits,
         kind: u8,
         payload: &[u8],
     ) -> Result<(), Cause<GdsKind>>
         requires formed { IsFormed kind payload.now }
         requires in_element { IsFormedInElement kind payload.now }
         ensures { (rs : List Rec) (d : ℕ) → HasRead self.old rs
-            → Takes rs (record_of kind d payload.now) self.new result }
+            → Takes limits rs (record_of kind d payload.now) self.new result }
     {
         match self.element.take() {
-            Some(element) => self.take_inside(element, alloc, kind, payload),
-            None => self.take_outside(alloc, kind, payload),
+            Some(element) => self.take_inside(element, alloc, limits, kind, payload),
+            None => self.take_outside(alloc, limits, kind, payload),
         }
     }
 
@@ -84,15 +86,16 @@ impl Reading {
         &mut self,
         element: Element,
         alloc: Global,
+        limits: Limits,
         kind: u8,
         payload: &[u8],
     ) -> Result<(), Cause<GdsKind>>
         requires open { self.old.element ≡ None }
         requires in_element { IsFormedInElement kind payload.now }
         ensures { (rs : List Rec) (d : ℕ) → IsInside self.old.builder element rs
-            → Takes rs (record_of kind d payload.now) self.new result }
+            → Takes limits rs (record_of kind d payload.now) self.new result }
     {
-        match element.take(alloc, kind, payload) {
+        match element.take(alloc, limits, kind, payload) {
             Ok(Step::Open(element)) => {
                 self.element = Some(element);
                 Ok(())
@@ -109,13 +112,14 @@ impl Reading {
     fn take_outside(
         &mut self,
         alloc: Global,
+        limits: Limits,
         kind: u8,
         payload: &[u8],
     ) -> Result<(), Cause<GdsKind>>
         requires none { self.old.element ≡ None }
         requires formed { IsFormed kind payload.now }
         ensures { (rs : List Rec) (d : ℕ) → Holds self.old.builder rs
-            → Takes rs (record_of kind d payload.now) self.new result }
+            → Takes limits rs (record_of kind d payload.now) self.new result }
     {
         if self.builder.may_open() {
             if let Some(element) = Element::open(alloc, kind) {
@@ -123,7 +127,7 @@ impl Reading {
                 return Ok(());
             }
         }
-        self.builder.take(alloc, kind, payload)?;
+        self.builder.take(alloc, limits, kind, payload)?;
         Ok(())
     }
 }

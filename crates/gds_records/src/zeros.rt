@@ -29,14 +29,14 @@ fn leading_zeros(bytes: &[u8]) -> usize
 
 // Skips zero bytes that are ahead, at most `most`, and returns how many.
 fn skip_ahead(ahead: &mut Buffer<65536>, most: u64) -> u64
-    requires { most < 2 ^ 32 }
     ensures zeros { ahead.old ≡ replicate result 0 ++ ahead.new }
     ensures most { result ≤ most }
     ensures all { result < most → IsNoZeroFirst ahead.new }
 {
-    let n = leading_zeros(ahead.ahead()).min(most as usize);
-    ahead.skip(n);
-    n as u64
+    let zeros = leading_zeros(ahead.ahead()) as u64;
+    let n = zeros.min(most);
+    ahead.skip(n as usize);
+    n
 }
 
 // Skips at most `room` zero bytes, and returns how many, and what comes after them.
@@ -45,7 +45,6 @@ pub(crate) fn skip_zeros<R: Read>(
     ahead: &mut Buffer<65536>,
     room: u64,
 ) -> (u64, After)
-    requires { room < 2 ^ 32 }
     ensures zeros { TakesZeros result.1 result.0 room (prepend_known ahead.old (R.remaining reader.old))
         (prepend_known ahead.new (R.remaining reader.new)) }
     ensures within { result.0 ≤ room }

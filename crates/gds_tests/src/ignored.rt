@@ -5,7 +5,7 @@ use crate::rows::{add_bytes, check_text, cut};
 use gds_library::{GdsFault, GdsHead, GdsKind, Misplaced, read_gds_by};
 use lvl_cells::Library;
 use lvl_io::fake::Pieces;
-use lvl_profile::Ignore;
+use lvl_profile::{Ignore, Profile};
 use lvl_refusal::Cause;
 use std::alloc::{AllocError, Global};
 use std::process::Abort;
@@ -38,6 +38,14 @@ const OF_OASIS: Ignore = Ignore {
     names: false,
     padding: true,
 };
+
+/// The standard profile, with this ignored.
+fn under(ignore: Ignore) -> Profile {
+    Profile {
+        ignore,
+        ..Profile::STANDARD
+    }
+}
 
 /// Appends those of `RECORDS` from one index up to another.
 fn add_records(bytes: &mut Vec<u8>, from: usize, to: usize) -> Result<(), Fail> {
@@ -101,7 +109,7 @@ fn text_of(alloc: Global, head: GdsHead, library: &Library) -> Result<String, Al
 
 /// A library and its head as text, or what is refused.
 fn read(alloc: Global, bytes: &[u8], most: usize, ignore: Ignore) -> Result<String, AllocError> {
-    match read_gds_by(alloc, &mut Pieces::new(bytes, most), ignore) {
+    match read_gds_by(alloc, &mut Pieces::new(bytes, most), under(ignore)) {
         Ok((library, head)) => text_of(alloc, head, &library),
         Err(Cause::Breach(fault)) => fault_text(alloc, fault),
         Err(Cause::OutOfMemory) => Err(AllocError),
@@ -333,7 +341,7 @@ fn reports_each_cut(rt: HostRuntime) -> Result<(), Fail> {
 fn cells_with(alloc: Global, index: usize, more: &str, ignore: Ignore) -> Result<usize, Fail> {
     let bytes = with(alloc, index, &bytes_of(alloc, more)?)?;
     let mut reader = Pieces::new(&bytes, usize::MAX);
-    let (library, _) = read_gds_by(alloc, &mut reader, ignore)?;
+    let (library, _) = read_gds_by(alloc, &mut reader, under(ignore))?;
     Ok(library.cells.len())
 }
 

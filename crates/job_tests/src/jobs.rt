@@ -64,16 +64,19 @@ fn job_of(alloc: Global, line: &str) -> Result<Job, AllocError> {
             map: given(alloc, map)?,
             window: given(alloc, window)?,
             ignore: given(alloc, ignore)?,
+            large: false,
         }),
         [file, top, ignore] => Ok(Job::Show {
             file: String::from_str(alloc, file)?,
             top: given(alloc, top)?,
             ignore: given(alloc, ignore)?,
+            large: false,
         }),
         ["digest", file, top, ignore] => Ok(Job::Digest {
             file: String::from_str(alloc, file)?,
             top: given(alloc, top)?,
             ignore: given(alloc, ignore)?,
+            large: false,
         }),
         _ => Err(AllocError),
     }

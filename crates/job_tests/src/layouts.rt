@@ -10,7 +10,7 @@ use lvl_corners::LayerDigest;
 use lvl_grid::Square;
 use lvl_io::fake::Pieces;
 use lvl_names::Layer;
-use lvl_profile::Ignore;
+use lvl_profile::{Ignore, Profile};
 use lvl_region::Side;
 use lvl_view::View;
 use std::alloc::{AllocError, Global};
@@ -48,6 +48,14 @@ const NO_TOPS: Tops = Tops {
     second: None,
 };
 
+/// The standard profile, with this ignored.
+fn under(ignore: Ignore) -> Profile {
+    Profile {
+        ignore,
+        ..Profile::STANDARD
+    }
+}
+
 /// The square with its height set.
 fn square(height: u8) -> [u8; 168] {
     let mut bytes = VECTOR;
@@ -72,7 +80,7 @@ fn verdict_of_files(
 ) -> Result<Verdict, Refusal> {
     let view = View::whole(alloc);
     let (mut first, mut second) = (Pieces::new(ours, 168), Pieces::new(theirs, 1));
-    Ok(compare_files(alloc, &mut first, &mut second, &NO_TOPS, &view, ignore)?.verdict)
+    Ok(compare_files(alloc, &mut first, &mut second, &NO_TOPS, &view, under(ignore))?.verdict)
 }
 
 /// What `compare_view` says of them, with Layer 1/0 of the second taken as 2/0, in a window.
@@ -149,7 +157,7 @@ fn is_digest(digested: &Digested) -> bool {
 }
 
 fn digest(alloc: Global, bytes: &[u8], top: Option<&[u8]>) -> Result<Digested, Refusal> {
-    digest_file(alloc, &mut Pieces::new(bytes, 50), top, Ignore::NOTHING)
+    digest_file(alloc, &mut Pieces::new(bytes, 50), top, Profile::STANDARD)
 }
 
 #[test]
@@ -214,7 +222,7 @@ fn compared(alloc: Global, bytes: &[u8], ignore: Ignore) -> Answer {
 }
 
 fn shown(alloc: Global, bytes: &[u8], ignore: Ignore) -> Answer {
-    let layers = show_file(alloc, &mut Pieces::new(bytes, 50), None, ignore).map(|shown| shown
+    let layers = show_file(alloc, &mut Pieces::new(bytes, 50), None, under(ignore)).map(|shown| shown
         .layers
         .len());
     let is_right = layers.as_ref().ok() == Some(&1);
@@ -222,7 +230,7 @@ fn shown(alloc: Global, bytes: &[u8], ignore: Ignore) -> Answer {
 }
 
 fn digested(alloc: Global, bytes: &[u8], ignore: Ignore) -> Answer {
-    let sha256 = digest_file(alloc, &mut Pieces::new(bytes, 50), None, ignore).map(
+    let sha256 = digest_file(alloc, &mut Pieces::new(bytes, 50), None, under(ignore)).map(
         |digested| digested.mask.sha256,
     );
     let is_right = sha256.as_ref().ok() == Some(&SHA256);
@@ -237,7 +245,7 @@ fn properties_ignored(rt: HostRuntime) -> Result<(), Fail> {
         (Ignore::NOTHING, Answer::Unread),
         (Ignore::EVERYTHING, Answer::Right),
     ] {
-        let is_read = read_layout_by(alloc, &mut Pieces::new(&bytes, 50), ignore).is_ok();
+        let is_read = read_layout_by(alloc, &mut Pieces::new(&bytes, 50), under(ignore)).is_ok();
         assert_eq!(rt; is_read, want == Answer::Right);
         assert!(rt; compared(alloc, &bytes, ignore) == want);
         assert!(rt; shown(alloc, &bytes, ignore) == want);

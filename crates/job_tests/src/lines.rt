@@ -17,6 +17,8 @@ enum Asks<'a> {
     Show(&'a str, Option<&'a str>, Option<&'a str>),
     /// A file, its top and what is ignored.
     Digest(&'a str, Option<&'a str>, Option<&'a str>),
+    /// The limits for whole chips, and anything else.
+    Large,
     Nothing(ErrorKind),
 }
 
@@ -41,6 +43,7 @@ fn is_asked(asks: Asks<'_>, answer: &Result<Job, LineFault>) -> bool {
                     map,
                     window,
                     ignore,
+                    large: false,
                 },
             ),
         ) => {
@@ -63,6 +66,7 @@ fn is_asked(asks: Asks<'_>, answer: &Result<Job, LineFault>) -> bool {
                     map,
                     window,
                     ignore,
+                    large: false,
                 },
             ),
         ) => {
@@ -74,12 +78,34 @@ fn is_asked(asks: Asks<'_>, answer: &Result<Job, LineFault>) -> bool {
                 && is_text(window, ranges)
                 && is_text(ignore, words)
         }
-        (Asks::Show(a, name, words), Ok(Job::Show { file, top, ignore })) => {
-            file.as_str() == a && is_text(top, name) && is_text(ignore, words)
-        }
-        (Asks::Digest(a, name, words), Ok(Job::Digest { file, top, ignore })) => {
-            file.as_str() == a && is_text(top, name) && is_text(ignore, words)
-        }
+        (
+            Asks::Show(a, name, words),
+            Ok(
+                Job::Show {
+                    file,
+                    top,
+                    ignore,
+                    large: false,
+                },
+            ),
+        ) => file.as_str() == a && is_text(top, name) && is_text(ignore, words),
+        (
+            Asks::Digest(a, name, words),
+            Ok(
+                Job::Digest {
+                    file,
+                    top,
+                    ignore,
+                    large: false,
+                },
+            ),
+        ) => file.as_str() == a && is_text(top, name) && is_text(ignore, words),
+        (
+            Asks::Large,
+            Ok(
+                Job::Compare { large, .. } | Job::Show { large, .. } | Job::Digest { large, .. },
+            ),
+        ) => *large,
         (Asks::Nothing(kind), Err(LineFault::Words(error))) => error.kind() == kind,
         _ => false,
     }
@@ -94,7 +120,7 @@ fn words_of(alloc: Global, line: &'static str) -> Result<Vec<&'static str>, Allo
     Ok(words)
 }
 
-static LINES: [(&str, Asks<'static>); 36] = [
+static LINES: [(&str, Asks<'static>); 41] = [
     ("lvl compare a b", Asks::Compare("a", "b", None, None)),
     (
         "lvl compare a b --top-a X --top-b Y",
@@ -165,6 +191,17 @@ static LINES: [(&str, Asks<'static>); 36] = [
     ),
     ("lvl digest a", Asks::Digest("a", None, None)),
     ("lvl digest --top X a", Asks::Digest("a", Some("X"), None)),
+    ("lvl compare a --large b --ignore all", Asks::Large),
+    ("lvl show --large a", Asks::Large),
+    ("lvl digest a --top X --large", Asks::Large),
+    (
+        "lvl show a --large=true",
+        Asks::Nothing(ErrorKind::TooManyValues),
+    ),
+    (
+        "lvl show a --large --large",
+        Asks::Nothing(ErrorKind::ArgumentConflict),
+    ),
     (
         "lvl digest a --top X --ignore all",
         Asks::Digest("a", Some("X"), Some("all")),

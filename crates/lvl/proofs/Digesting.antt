@@ -218,7 +218,7 @@ kept_digested k found d h named is = record {
 }
 
 digested_lifted : (file : File) (found : List (PlainCell Rings)) (head : Head)
-    → IsLayoutOf file.ignore file.bytes found head
+    → IsLayoutOf file.profile file.bytes found head
     → (d : Digested) → d.head ≡ head → IsDigestedKept (kept_named found file.top) d → IsDigestedFile file d
 digested_lifted file found head read d head_is k =
     let l = top_lifted file found head read k.settled k.in_range in
@@ -226,7 +226,7 @@ digested_lifted file found head read d head_is k =
       cells = read.cells;
       top = l.top;
       accepted = l.accepted;
-      head = subst (Spells file.ignore file.bytes read.cells) (sym head_is) read.spelled;
+      head = subst (Spells file.profile file.bytes read.cells) (sym head_is) read.spelled;
       digested = record {
         top_is = k.digested.top_is ∙ sym (ap (λ (c : PlainCell Rings). c.name) l.kept_as);
         mask = k.digested.mask;
@@ -236,7 +236,7 @@ digested_lifted file found head read d head_is k =
     }
 
 pub file_digested : (file : File) (found : List (PlainCell Rings)) (head : Head)
-    → IsLayoutOf file.ignore file.bytes found head
+    → IsLayoutOf file.profile file.bytes found head
     → (r : Result Digested Refusal) → IfOk r (λ d. d.head ≡ head)
     → IfOk r (IsDigestedKept (kept_named found file.top)) → IfOk r (IsDigestedFile file)
 file_digested file found head read (Ok d) head_is k = digested_lifted file found head read d head_is k

@@ -9,7 +9,6 @@ use Rattle.lvl_names.specs.declared.layer.Layer.{Layer}
 use Rattle.lvl_cells.specs.Cells.{PlainCell, Rings, each_ring, names, drawn, kept}
 use Rattle.lvl_cells.specs.Coverage.{CellCovers}
 use Rattle.lvl_cells.specs.Soundness.{IsSound}
-use Rattle.lvl_profile.specs.Limits.{standard}
 use Rattle.lvl_cells.specs.Chains.{Chain, FitsLimits, chains, placed_rings}
 use Rattle.lvl_cells.proofs.Arcs.{once_named}
 use Rattle.std.proofs.lemmas.List.{length-map}
@@ -36,32 +35,32 @@ pub draws_kept : (cells : List Drawing) (layer : Layer) (top : Drawing) (s : Squ
 draws_kept cells layer top s = cell_covers_kept figure_rings FigureCovers figure_drawn cells layer top s
 
 -- the library that was found is any that the bytes spell, with rings for its figures
-found_as : (file : File) (found : List (PlainCell Rings)) (head : Head) → IsLayoutOf file.ignore file.bytes found head
-    → (cells : List Drawing) (h : Head) → Spells file.ignore file.bytes cells h → found ≡ kept figure_rings cells
+found_as : (file : File) (found : List (PlainCell Rings)) (head : Head) → IsLayoutOf file.profile file.bytes found head
+    → (cells : List Drawing) (h : Head) → Spells file.profile file.bytes cells h → found ≡ kept figure_rings cells
 found_as file found head read cells h s = (read.alone cells h s).0
 
 by_found : (P : List (PlainCell Rings) → Type 0) (file : File) (cells : List (PlainCell Rings)) (head : Head)
-    → IsLayoutOf file.ignore file.bytes cells head → P cells → (others : List Drawing) (h : Head)
-    → Spells file.ignore file.bytes others h
+    → IsLayoutOf file.profile file.bytes cells head → P cells → (others : List Drawing) (h : Head)
+    → Spells file.profile file.bytes others h
     → P (kept figure_rings others)
 by_found P file cells head read p others h s = subst P (found_as file cells head read others h s) p
 
 -- the check of cells
 
 pub cell_reported : (file : File) (cells : List (PlainCell Rings)) (head : Head)
-    → IsLayoutOf file.ignore file.bytes cells head
-    → (fault : CellFault) → IsCellFault (record { cells = cells; top = file.top }) fault
-    → (others : List Drawing) (h : Head) → Spells file.ignore file.bytes others h
+    → IsLayoutOf file.profile file.bytes cells head
+    → (fault : CellFault) → IsCellFault (record { limits = file.profile.limits; cells = cells; top = file.top }) fault
+    → (others : List Drawing) (h : Head) → Spells file.profile file.bytes others h
     → IsCellFault (kept_of file others) fault
 cell_reported file cells head read fault reported =
-    by_found (λ c. IsCellFault (record { cells = c; top = file.top }) fault) file cells head read reported
+    by_found (λ c. IsCellFault (record { limits = file.profile.limits; cells = c; top = file.top }) fault) file cells head read reported
 
 pub cell_unaccepted : (file : File) (cells : List (PlainCell Rings)) (head : Head)
-    → IsLayoutOf file.ignore file.bytes cells head
-    → (fault : CellFault) → IsCellFault (record { cells = cells; top = file.top }) fault → IsUnaccepted file
+    → IsLayoutOf file.profile file.bytes cells head
+    → (fault : CellFault) → IsCellFault (record { limits = file.profile.limits; cells = cells; top = file.top }) fault → IsUnaccepted file
 cell_unaccepted file cells head read fault reported others top accepted =
     let here = cell_reported file cells head read fault reported others accepted.head accepted.spelled in
-    let fits = (fits_kept standard figure_rings others top).0 accepted.fits in
+    let fits = (fits_kept file.profile.limits figure_rings others top).0 accepted.fits in
     here.unsound (record {
       index = accepted.index;
       cell = drawn figure_rings top;
@@ -86,14 +85,15 @@ pub one_cell : (cells : List (PlainCell Rings)) (i j : ℕ) (c d : PlainCell Rin
     → slice_get cells j ≡ Some d → i ≡ j → c ≡ d
 one_cell cells i j c d p q e = let f : Some c ≡ Some d = sym p ∙ (ap (slice_get cells) e ∙ q) in cc
 
-fits_settled : (file : File) (k : Kept) (s : Settled) → IsSettled standard file.top s → (r : IsInRangeAs k s)
-    → FitsLimits standard each_ring s.cells r.top
+fits_settled : (file : File) (k : Kept) (s : Settled) → IsSettled file.profile.limits file.top s
+    → (r : IsInRangeAs k s)
+    → FitsLimits file.profile.limits each_ring s.cells r.top
 fits_settled file k s settled r =
     let same : settled.cell ≡ r.top = one_cell s.cells s.top s.top settled.cell r.top settled.is r.is_top refl in
     record {
-      few_chains = subst (λ (c : PlainCell Rings). chains s.cells c ≤ standard.placed) same settled.few_chains;
+      few_chains = subst (λ (c : PlainCell Rings). chains s.cells c ≤ file.profile.limits.placed) same settled.few_chains;
       few_rings =
-          subst (λ (c : PlainCell Rings). placed_rings each_ring s.cells c ≤ standard.placed) same settled.few_rings;
+          subst (λ (c : PlainCell Rings). placed_rings each_ring s.cells c ≤ file.profile.limits.placed) same settled.few_rings;
       in_range = r.in_range;
     }
 
@@ -106,8 +106,8 @@ pub record IsTopLifted (file : File) (others : List Drawing) (cells : List (Plai
   pub draws : (layer : Layer) (s : Square) → CellCovers SomeCovers cells layer c s ↔ Draws others top layer s
 
 pub top_lifted : (file : File) (cells : List (PlainCell Rings)) (head : Head)
-    (read : IsLayoutOf file.ignore file.bytes cells head)
-    (s : Settled) → (r : IsInRangeAs (record { cells = cells; top = file.top }) s)
+    (read : IsLayoutOf file.profile file.bytes cells head)
+    (s : Settled) → (r : IsInRangeAs (record { limits = file.profile.limits; cells = cells; top = file.top }) s)
     → IsTopLifted file read.cells s.cells r.top
 top_lifted file cells head read s r =
     let others : List Drawing = read.cells in
@@ -115,9 +115,9 @@ top_lifted file cells head read s r =
     let b =
     cell_back figure_rings others s.top r.top
     (subst (λ (c : List (PlainCell Rings)). slice_get c s.top ≡ Some r.top) e r.is_top) in
-    let fits = subst (λ (c : PlainCell Rings). FitsLimits standard each_ring (kept figure_rings others) c) (sym b.2)
-    (subst (λ (c : List (PlainCell Rings)). FitsLimits standard each_ring c r.top) e
-    (fits_settled file (record { cells = cells; top = file.top }) s r.checked.sound r)) in
+    let fits = subst (λ (c : PlainCell Rings). FitsLimits file.profile.limits each_ring (kept figure_rings others) c) (sym b.2)
+    (subst (λ (c : List (PlainCell Rings)). FitsLimits file.profile.limits each_ring c r.top) e
+    (fits_settled file (record { limits = file.profile.limits; cells = cells; top = file.top }) s r.checked.sound r)) in
     record {
       top = b.0;
       accepted = record {
@@ -128,7 +128,7 @@ top_lifted file cells head read s r =
             (sound_kept figure_rings others file.top s.top).1
             (subst (λ (c : List (PlainCell Rings)). IsSound c file.top s.top) e r.checked.sound.sound);
         top_is = b.1;
-        fits = (fits_kept standard figure_rings others b.0).1 fits;
+        fits = (fits_kept file.profile.limits figure_rings others b.0).1 fits;
       };
       kept_as = b.2;
       draws = λ layer t.
@@ -144,12 +144,12 @@ top_lifted file cells head read s r =
     }
 
 pub range_reported : (file : File) (cells : List (PlainCell Rings)) (head : Head)
-    → IsLayoutOf file.ignore file.bytes cells head
-    → (fault : FlatFault) → IsRangeFault (record { cells = cells; top = file.top }) fault
-    → (others : List Drawing) (h : Head) → Spells file.ignore file.bytes others h
+    → IsLayoutOf file.profile file.bytes cells head
+    → (fault : FlatFault) → IsRangeFault (record { limits = file.profile.limits; cells = cells; top = file.top }) fault
+    → (others : List Drawing) (h : Head) → Spells file.profile file.bytes others h
     → IsRangeFault (kept_of file others) fault
 range_reported file cells head read fault reported =
-    by_found (λ c. IsRangeFault (record { cells = c; top = file.top }) fault) file cells head read reported
+    by_found (λ c. IsRangeFault (record { limits = file.profile.limits; cells = c; top = file.top }) fault) file cells head read reported
 
 out_of_range : (file : File) (others : List Drawing) (top : Drawing) (s : Settled) (name : List ℕ)
     → IsAccepted file others top → IsCheckedAs (kept_of file others) s → IsOutOfRange s name → ⊥
@@ -164,7 +164,7 @@ out_of_range file others top s name accepted checked reported =
     let cell : drawn figure_rings top ≡ reported.top =
     one_cell (kept figure_rings others) accepted.index s.top (drawn figure_rings top) reported.top
     (cell_kept figure_rings others accepted.index top accepted.top_is) at same in
-    let fits = (fits_kept standard figure_rings others top).0 accepted.fits in
+    let fits = (fits_kept file.profile.limits figure_rings others top).0 accepted.fits in
     let chain : Chain (kept figure_rings others) (drawn figure_rings top) reported.steps reported.map reported.cell =
     subst
     (λ (c : PlainCell Rings). Chain (kept figure_rings others) c reported.steps reported.map reported.cell) (sym cell)
@@ -178,8 +178,8 @@ fault_in_range file others top s (OutOfRange name) accepted checked reported =
     out_of_range file others top s name.items accepted checked reported
 
 pub range_unaccepted : (file : File) (cells : List (PlainCell Rings)) (head : Head)
-    → IsLayoutOf file.ignore file.bytes cells head
-    → (fault : FlatFault) → IsRangeFault (record { cells = cells; top = file.top }) fault → IsUnaccepted file
+    → IsLayoutOf file.profile file.bytes cells head
+    → (fault : FlatFault) → IsRangeFault (record { limits = file.profile.limits; cells = cells; top = file.top }) fault → IsUnaccepted file
 range_unaccepted file cells head read fault reported others top accepted =
     let here = range_reported file cells head read fault reported others accepted.head accepted.spelled in
     fault_in_range file others top here.settled fault accepted here.checked here.reported

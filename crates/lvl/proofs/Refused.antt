@@ -21,17 +21,17 @@ first_second e = cc
 
 -- a library that was read, checked and flattened
 
-pub passes : (file : File) (cells : List (PlainCell Rings)) (head : Head) → IsLayoutOf file.ignore file.bytes cells head
-    → Passes (record { cells = cells; top = file.top }) → PassesCheck file
+pub passes : (file : File) (cells : List (PlainCell Rings)) (head : Head) → IsLayoutOf file.profile file.bytes cells head
+    → Passes (record { limits = file.profile.limits; cells = cells; top = file.top }) → PassesCheck file
 passes file cells head read p =
-    (read.cells, head, read.spelled, subst (λ c. Passes (record { cells = c; top = file.top })) read.kept_as p)
+    (read.cells, head, read.spelled, subst (λ c. Passes (record { limits = file.profile.limits; cells = c; top = file.top })) read.kept_as p)
 
-pub spells : (file : File) (cells : List (PlainCell Rings)) (head : Head) → IsLayoutOf file.ignore file.bytes cells head
-    → SpellsSome file.ignore file.bytes
+pub spells : (file : File) (cells : List (PlainCell Rings)) (head : Head) → IsLayoutOf file.profile file.bytes cells head
+    → SpellsSome file.profile file.bytes
 spells file cells head read = (read.cells, head, read.spelled)
 
-accepts : (file : File) (cells : List (PlainCell Rings)) (head : Head) → IsLayoutOf file.ignore file.bytes cells head
-    → IsFitted (record { cells = cells; top = file.top })
+accepts : (file : File) (cells : List (PlainCell Rings)) (head : Head) → IsLayoutOf file.profile file.bytes cells head
+    → IsFitted (record { limits = file.profile.limits; cells = cells; top = file.top })
     → (others : List Drawing) × (top : Drawing) × IsAccepted file others top
 accepts file cells head read f = let l = top_lifted file cells head read f.0 f.1 in (read.cells, l.top, l.accepted)
 
@@ -46,7 +46,7 @@ pub no_memory : (side : Side) (file : File) → IsRefusalOf side file OutOfMemor
 no_memory First file = record { unaccepted = λ b. absurd b; reported = tt; passed = tt }
 no_memory Second file = record { unaccepted = λ b. absurd b; reported = tt; passed = tt }
 
-pub file_refused : (side : Side) (file : File) (r : Refusal) → IsReadRefusal side file.ignore file.bytes r
+pub file_refused : (side : Side) (file : File) (r : Refusal) → IsReadRefusal side file.profile file.bytes r
     → IsRefusalOf side file r
 file_refused side file (FileRefusal s f) h = record {
   unaccepted = λ b cells top accepted. h.1.nothing b.1 cells accepted.head accepted.spelled;
@@ -70,7 +70,7 @@ second_of_first file (FlatRefusal s f) h = absurd h
 second_of_first file OutOfMemory h = no_memory Second file
 
 pub first_of_second : (file : File) (cells : List (PlainCell Rings)) (head : Head)
-    → IsLayoutOf file.ignore file.bytes cells head
+    → IsLayoutOf file.profile file.bytes cells head
     → (r : Refusal) → IsOfFile Second r
     → IsRefusalOf First file r
 first_of_second file cells head read (FileRefusal First f) h = absurd (first_second h)
@@ -86,9 +86,9 @@ first_of_second file cells head read OutOfMemory h = no_memory First file
 -- libraries that weren't compared
 
 pub first_refused : (a : File) (k : Kept) (cells : List (PlainCell Rings)) (head : Head)
-    → IsLayoutOf a.ignore a.bytes cells head
+    → IsLayoutOf a.profile a.bytes cells head
     → (r : Refusal)
-    → IsKeptRefusal (record { cells = cells; top = a.top }) k r → IsRefusalOf First a r
+    → IsKeptRefusal (record { limits = a.profile.limits; cells = cells; top = a.top }) k r → IsRefusalOf First a r
 first_refused a k cells head read (FileRefusal s f) h = absurd h
 first_refused a k cells head read (CellsRefusal First f) h = record {
   unaccepted = λ b. cell_unaccepted a cells head read f h;
@@ -113,8 +113,8 @@ first_refused a k cells head read (FlatRefusal Second f) h = record {
 first_refused a k cells head read OutOfMemory h = no_memory First a
 
 pub second_refused : (b : File) (k : Kept) (cells : List (PlainCell Rings)) (head : Head)
-    → IsLayoutOf b.ignore b.bytes cells head → (r : Refusal)
-    → IsKeptRefusal k (record { cells = cells; top = b.top }) r → IsRefusalOf Second b r
+    → IsLayoutOf b.profile b.bytes cells head → (r : Refusal)
+    → IsKeptRefusal k (record { limits = b.profile.limits; cells = cells; top = b.top }) r → IsRefusalOf Second b r
 second_refused b k cells head read (FileRefusal s f) h = absurd h
 second_refused b k cells head read (CellsRefusal First f) h = record {
   unaccepted = λ b. absurd (first_second b);

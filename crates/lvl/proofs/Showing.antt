@@ -72,7 +72,7 @@ shown_back rings cells top shown h = record {
 }
 
 shown_lifted : (file : File) (found : List (PlainCell Rings)) (head : Head)
-    → IsLayoutOf file.ignore file.bytes found head
+    → IsLayoutOf file.profile file.bytes found head
     → (shown : Shown) → shown.head ≡ head → IsShownKept (kept_named found file.top) shown → IsShownFile file shown
 shown_lifted file found head read shown head_is k =
     let others : List Drawing = read.cells in
@@ -96,18 +96,18 @@ shown_lifted file found head read shown head_is k =
       cells = others;
       top = l.top;
       accepted = l.accepted;
-      head = subst (Spells file.ignore file.bytes others) (sym head_is) read.spelled;
+      head = subst (Spells file.profile file.bytes others) (sym head_is) read.spelled;
       shown_is = shown_back figure_rings others l.top shown here;
     }
 
 pub file_shown : (file : File) (found : List (PlainCell Rings)) (head : Head)
-    → IsLayoutOf file.ignore file.bytes found head
+    → IsLayoutOf file.profile file.bytes found head
     → (r : Result Shown Refusal) → IfOk r (λ shown. shown.head ≡ head)
     → IfOk r (IsShownKept (kept_named found file.top)) → IfOk r (IsShownFile file)
 file_shown file found head read (Ok shown) head_is k = shown_lifted file found head read shown head_is k
 file_shown file found head read (Err r) head_is k = tt
 
-passed_cells : (side : Side) (file : File) (f : CellFault) → side ≡ First → SpellsSome file.ignore file.bytes
+passed_cells : (side : Side) (file : File) (f : CellFault) → side ≡ First → SpellsSome file.profile file.bytes
     → HasPassed First file (CellsRefusal side f)
 passed_cells First file f e some = some
 passed_cells Second file f e some = cc
@@ -118,7 +118,7 @@ passed_flat First file f e p = p
 passed_flat Second file f e p = cc
 
 pub show_refused : (file : File) (found : List (PlainCell Rings)) (head : Head)
-    → IsLayoutOf file.ignore file.bytes found head
+    → IsLayoutOf file.profile file.bytes found head
     → (r : Refusal) → IsShowRefusal (kept_named found file.top) r → IsRefusalOf First file r
 show_refused file found head read (FileRefusal side f) h = absurd h
 show_refused file found head read (CellsRefusal side f) h = record {

@@ -1,7 +1,7 @@
 -- An empty file: as GDSII it ends before its first record, and it spells nothing in either format.
 use Rattle.std.proofs.Common.{◌≡◌, [], ℕ, List, Option, None, Some, refl, sym, arith, inl, false, true≢false}
 use Rattle.std.specs.Option.{is_some}
-use Rattle.lvl_profile.specs.declared.ignore.Ignore.{Ignore}
+use Rattle.lvl_profile.specs.declared.profile.Profile.{Profile}
 use Rattle.lvl_grammar.specs.Refused.{IsTruncated}
 use Rattle.lvl_grammar.proofs.Orders.{empty_word}
 use Rattle.lvl_grammar.proofs.Stuck.{truncated_none}
@@ -16,8 +16,8 @@ use Rattle.lvl.specs.Layouts.{HasFirst, IsOasis}
 use Rattle.lvl.specs.Sides.{IsFileFault}
 use Rattle.lvl.proofs.Spelling.{no_gds}
 
-cut_at_once : (ignore : Ignore) → IsTruncated (gds_faults ignore) [] 0
-cut_at_once ignore = record {
+cut_at_once : (profile : Profile) → IsTruncated (gds_faults profile) [] 0
+cut_at_once profile = record {
   within = omega arith;
   records = [];
   front = record { spelled = refl; followed = tt; within = omega arith };
@@ -25,17 +25,17 @@ cut_at_once ignore = record {
   cut = inl (omega arith);
 }
 
-no_library : (ignore : Ignore) → SpellsNoGds ignore []
-no_library ignore cells h s =
-    truncated_none (gds_faults ignore) (are_faults ignore) [] 0 (cut_at_once ignore) s.records s.whole
+no_library : (profile : Profile) → SpellsNoGds profile []
+no_library profile cells h s =
+    truncated_none (gds_faults profile) (are_faults profile) [] 0 (cut_at_once profile) s.records s.whole
 
 no_magic : IsOasis [] → ⊥
 no_magic own = cc
 
-pub empty_file : (ignore : Ignore) → IsFileFault ignore [] (GdsFile (record { offset = 0; kind = Record Truncated }))
-empty_file ignore = record {
-  reported = (λ read. no_magic, cut_at_once ignore);
-  nothing = λ n. no_gds ignore [] no_magic (no_library ignore);
+pub empty_file : (profile : Profile) → IsFileFault profile [] (GdsFile (record { offset = 0; kind = Record Truncated }))
+empty_file profile = record {
+  reported = (λ read. no_magic, cut_at_once profile);
+  nothing = λ n. no_gds profile [] no_magic (no_library profile);
 }
 
 -- an input without a first byte is empty

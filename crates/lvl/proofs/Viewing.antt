@@ -79,8 +79,8 @@ top_places s top is l q = rw is itself
 
 -- a verdict on what both tops cover is one on what the files draw
 kept_viewed : (view : PlainView) (a b : File) (ours theirs : List (PlainCell Rings)) (g h : Head)
-    → IsLayoutOf a.ignore a.bytes ours g → IsLayoutOf b.ignore b.bytes theirs h → (v : Verdict)
-    → IsKeptVerdict view (record { cells = ours; top = a.top }) (record { cells = theirs; top = b.top }) v
+    → IsLayoutOf a.profile a.bytes ours g → IsLayoutOf b.profile b.bytes theirs h → (v : Verdict)
+    → IsKeptVerdict view (record { limits = a.profile.limits; cells = ours; top = a.top }) (record { limits = b.profile.limits; cells = theirs; top = b.top }) v
     → IsViewVerdict view a b v
 kept_viewed view a b ours theirs g h p q v k =
     let x = top_lifted a ours g p k.ours k.first in
@@ -104,9 +104,9 @@ kept_viewed view a b ours theirs g h p q v k =
 
 -- a whole comparison under a view
 pub compared_in : (view : PlainView) (a b : File) (ours theirs : List (PlainCell Rings)) (g h : Head)
-    → IsLayoutOf a.ignore a.bytes ours g → IsLayoutOf b.ignore b.bytes theirs h
+    → IsLayoutOf a.profile a.bytes ours g → IsLayoutOf b.profile b.bytes theirs h
     → (v : Verdict)
-    → IsKeptVerdict view (record { cells = ours; top = a.top }) (record { cells = theirs; top = b.top }) v
+    → IsKeptVerdict view (record { limits = a.profile.limits; cells = ours; top = a.top }) (record { limits = b.profile.limits; cells = theirs; top = b.top }) v
     → IsComparedIn view a b (record { first = g; second = h; verdict = v })
 compared_in view a b ours theirs g h p q v k = record {
   first = (p.cells, p.spelled);

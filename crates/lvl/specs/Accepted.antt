@@ -1,9 +1,8 @@
 -- Which files are accepted, which draw the same, and where two differ.
-use Rattle.std.specs.Prelude.{◌≡◌, ◌↔◌, ℕ, List, Some, slice_get}
+use Rattle.std.specs.Prelude.{◌≡◌, ◌↔◌, ℕ, List, Option, Some, slice_get}
 use Rattle.lvl_grid.specs.declared.point.Square.{Square}
 use Rattle.lvl_path.specs.Figure.{figure_rings, FigureCovers}
 use Rattle.lvl_names.specs.declared.layer.Layer.{Layer}
-use Rattle.lvl_profile.specs.Limits.{standard}
 use Rattle.lvl_cells.specs.Coverage.{CellCovers}
 use Rattle.lvl_cells.specs.Soundness.{IsSound}
 use Rattle.lvl_cells.specs.Chains.{FitsLimits}
@@ -15,17 +14,29 @@ use Rattle.lvl.specs.Drawing.{Drawing}
 use Rattle.lvl.specs.declared.layout.Head.{Head}
 use Rattle.lvl.specs.declared.verdict.Verdict.{Verdict}
 use Rattle.lvl.specs.declared.verdict.Verdict.TheVariants.{Same, Differ}
-use Rattle.lvl.specs.Layouts.{File, Spells}
+use Rattle.lvl.specs.Layouts.{File, Spells, IsLayoutOf}
+use Rattle.lvl_profile.specs.Profiles.{IsWider}
+use Rattle.lvl_profile.specs.declared.profile.Profile.{Profile}
+use Rattle.lvl_cells.specs.Cells.{PlainCell, Rings}
 
 -- the file is accepted with these cells and this top: its bytes spell the cells, they are sound for the name of the top
 -- that the file asks for, if any, and what the top places is within the limits
 pub record IsAccepted (file : File) (cells : List Drawing) (top : Drawing) : Type 0 where
   pub head : Head
-  pub spelled : Spells file.ignore file.bytes cells head
+  pub spelled : Spells file.profile file.bytes cells head
   pub index : ℕ
   pub sound : IsSound cells file.top index
   pub top_is : slice_get cells index ≡ Some top
-  pub fits : FitsLimits standard figure_rings cells top
+  pub fits : FitsLimits file.profile.limits figure_rings cells top
+
+-- a file that is accepted under a profile is accepted under each wider one, with the same cells and the same top; and
+-- bytes that spell a library spell the same one, with the same head
+pub record WideningKeeps : Type 0 where
+  pub layout : (less more : Profile) → IsWider less more → (bytes : List ℕ) (found : List (PlainCell Rings)) (head : Head)
+      → IsLayoutOf less bytes found head → IsLayoutOf more bytes found head
+  pub accepted : (less more : Profile) → IsWider less more → (bytes : List ℕ) (name : Option (List ℕ))
+      (cells : List Drawing) (top : Drawing) → IsAccepted (record { profile = less; bytes = bytes; top = name }) cells top
+      → IsAccepted (record { profile = more; bytes = bytes; top = name }) cells top
 
 -- the file isn't accepted
 abbrev pub IsUnaccepted : File → Type 0

@@ -1,6 +1,6 @@
 -- What a result says about two files: a verdict, or why one of them is refused.
 use Rattle.std.specs.Prelude.{◌≡◌, ◌≢◌, ⊤, ℕ, Bool, false, List, ◌++◌, Option, Some, Result, Ok, Err}
-use Rattle.lvl_profile.specs.declared.ignore.Ignore.{Ignore}
+use Rattle.lvl_profile.specs.declared.profile.Profile.{Profile}
 use Rattle.lvl_path.specs.Figure.{figure_rings}
 use Rattle.lvl_cells.specs.Cells.{kept}
 use Rattle.lvl_region.specs.declared.region.Side.{Side}
@@ -36,9 +36,9 @@ abbrev pub nothing_read : GdsFault
 nothing_read = record { offset = 0; kind = Record Read }
 
 -- the fault is true of the bytes, by the reader of its format; the format is that of the first byte, if one was read
-abbrev pub ReportsOfFile : Ignore → List ℕ → FileFault → Type 0
-ReportsOfFile ignore bytes (Gds f) = (f ≢ nothing_read → ¬ IsOasis bytes) × ReportsGds ignore bytes f
-ReportsOfFile ignore bytes (Oasis f) = IsOasis bytes × ReportsOasis ignore bytes f
+abbrev pub ReportsOfFile : Profile → List ℕ → FileFault → Type 0
+ReportsOfFile profile bytes (Gds f) = (f ≢ nothing_read → ¬ IsOasis bytes) × ReportsGds profile bytes f
+ReportsOfFile profile bytes (Oasis f) = IsOasis bytes × ReportsOasis profile bytes f
 
 -- the refusal is of that side's file, and neither out of memory nor a failed read
 abbrev pub Blames : Side → Refusal → Type 0
@@ -49,36 +49,37 @@ Blames side OutOfMemory = ⊥
 
 -- the library as it is kept, with its figures as rings, and the name of its top
 abbrev pub kept_of : File → List Drawing → Kept
-kept_of file cells = record { cells = kept figure_rings cells; top = file.top }
+kept_of file cells =
+    record { limits = file.profile.limits; cells = kept figure_rings cells; top = file.top }
 
 -- the fault is true of the bytes, or of every library that they spell
 abbrev pub IsReported : Side → File → Refusal → Type 0
-IsReported side file (FileRefusal s fault) = s ≡ side → ReportsOfFile file.ignore file.bytes fault
+IsReported side file (FileRefusal s fault) = s ≡ side → ReportsOfFile file.profile file.bytes fault
 IsReported side file (CellsRefusal s fault) =
-    s ≡ side → (cells : List Drawing) (head : Head) → Spells file.ignore file.bytes cells head
+    s ≡ side → (cells : List Drawing) (head : Head) → Spells file.profile file.bytes cells head
     → IsCellFault (kept_of file cells) fault
 IsReported side file (FlatRefusal s fault) =
-    s ≡ side → (cells : List Drawing) (head : Head) → Spells file.ignore file.bytes cells head
+    s ≡ side → (cells : List Drawing) (head : Head) → Spells file.profile file.bytes cells head
     → IsRangeFault (kept_of file cells) fault
 IsReported side file OutOfMemory = ⊤
 
 -- the file spells a library that passes the check of cells
 abbrev pub PassesCheck : File → Type 0
-PassesCheck file = (cells : List Drawing) × (head : Head) × Spells file.ignore file.bytes cells head
+PassesCheck file = (cells : List Drawing) × (head : Head) × Spells file.profile file.bytes cells head
     × Passes (kept_of file cells)
 
 -- the steps for this side's file before the one that refused have passed. The steps are: both files are read, then the
 -- cells of both are checked, then what both place is tested to be in range; always the first file before the second
 abbrev pub HasPassed : Side → File → Refusal → Type 0
 HasPassed First a (FileRefusal First f) = ⊤
-HasPassed First a (FileRefusal Second f) = SpellsSome a.ignore a.bytes
-HasPassed First a (CellsRefusal First f) = SpellsSome a.ignore a.bytes
+HasPassed First a (FileRefusal Second f) = SpellsSome a.profile a.bytes
+HasPassed First a (CellsRefusal First f) = SpellsSome a.profile a.bytes
 HasPassed First a (CellsRefusal Second f) = PassesCheck a
 HasPassed First a (FlatRefusal First f) = PassesCheck a
 HasPassed First a (FlatRefusal Second f) = (cells : List Drawing) × (top : Drawing) × IsAccepted a cells top
 HasPassed First a OutOfMemory = ⊤
 HasPassed Second b (FileRefusal side f) = ⊤
-HasPassed Second b (CellsRefusal side f) = SpellsSome b.ignore b.bytes
+HasPassed Second b (CellsRefusal side f) = SpellsSome b.profile b.bytes
 HasPassed Second b (FlatRefusal side f) = PassesCheck b
 HasPassed Second b OutOfMemory = ⊤
 
@@ -102,17 +103,17 @@ IsEarlyOf side (FlatRefusal s f) = ⊥
 IsEarlyOf side OutOfMemory = ⊥
 
 -- no library is spelled by bytes that begin with those that were taken from the input; the others are left
-pub record IsHopeless (ignore : Ignore) (xs : List ℕ) (left : Option (List ℕ)) : Type 0 where
+pub record IsHopeless (profile : Profile) (xs : List ℕ) (left : Option (List ℕ)) : Type 0 where
   pub taken : List ℕ
   pub rest : List ℕ
   pub parts : xs ≡ taken ++ rest
   pub left_is : left ≡ Some rest
-  pub none : (more : List ℕ) → SpellsSome ignore (taken ++ more) → ⊥
+  pub none : (more : List ℕ) → SpellsSome profile (taken ++ more) → ⊥
 
 -- the heads are those that the bytes spell, and the verdict is true
 pub record IsCompared (a b : File) (c : Comparison) : Type 0 where
-  pub first : HasHead a.ignore a.bytes c.first
-  pub second : HasHead b.ignore b.bytes c.second
+  pub first : HasHead a.profile a.bytes c.first
+  pub second : HasHead b.profile b.bytes c.second
   pub verdict : IsVerdict a b c.verdict
 
 -- the fault is a failed read

@@ -48,7 +48,7 @@ pub record IsDigestedFile (file : File) (d : Digested) : Type 0 where
   pub cells : List Drawing
   pub top : Drawing
   pub accepted : IsAccepted file cells top
-  pub head : Spells file.ignore file.bytes cells d.head
+  pub head : Spells file.profile file.bytes cells d.head
   pub digested : IsDigestedOf top.name (Draws cells top) d
 
 -- the bytes that are hashed for two files are the same if and only if their tops draw the same squares on every Layer

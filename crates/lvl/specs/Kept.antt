@@ -6,7 +6,7 @@ use Rattle.lvl_grid.specs.declared.point.Square.{Square}
 use Rattle.lvl_names.specs.declared.layer.Layer.{Layer}
 use Rattle.lvl_cells.specs.Coverage.{CellCovers}
 use Rattle.lvl_columns.specs.Windows.{IsShown}
-use Rattle.lvl_profile.specs.Limits.{standard}
+use Rattle.lvl_profile.specs.declared.limits.Limits.{Limits}
 use Rattle.lvl_cells.specs.Checks.{Settled, IsSettled, PlacesFew}
 use Rattle.lvl_cells.specs.Faults.{IsFaultOf, IsSoundWith}
 use Rattle.lvl_cells.specs.declared.fault.CellFault.{CellFault}
@@ -22,15 +22,16 @@ use Rattle.lvl.specs.declared.verdict.Refusal.{Refusal}
 use Rattle.lvl.specs.declared.verdict.Refusal.TheVariants.{File as FileRefusal, Cells as CellsRefusal}
 use Rattle.lvl.specs.declared.verdict.Refusal.TheVariants.{Flat as FlatRefusal, OutOfMemory}
 
--- a library of rings, and the name of its top if one is given
+-- a library of rings, the limits that hold for it, and the name of its top if one is given
 pub record Kept : Type 0 where
+  pub limits : Limits
   pub cells : List (PlainCell Rings)
   pub top : Option (List ℕ)
 
 -- the library passes the check of cells, as s
 pub record IsCheckedAs (k : Kept) (s : Settled) : Type 0 where
   pub cells : s.cells ≡ k.cells
-  pub sound : IsSettled standard k.top s
+  pub sound : IsSettled k.limits k.top s
 
 -- the library passes the check of cells
 abbrev pub Passes : Kept → Type 0
@@ -45,8 +46,8 @@ pub record IsFlatLibrary (k : Kept) (found : FlatLibrary) : Type 0 where
 
 -- the fault is true, so the check of cells refuses the library
 pub record IsCellFault (k : Kept) (fault : CellFault) : Type 0 where
-  pub reported : IsFaultOf standard k.cells k.top fault
-  pub unsound : ¬ IsSoundWith k.cells k.top (PlacesFew standard k.cells)
+  pub reported : IsFaultOf k.limits k.cells k.top fault
+  pub unsound : ¬ IsSoundWith k.cells k.top (PlacesFew k.limits k.cells)
 
 -- the library passes the check of cells, but what its top places is out of range, as the fault says
 pub record IsRangeFault (k : Kept) (fault : FlatFault) : Type 0 where

@@ -26,7 +26,7 @@ pub record IsShownFile (file : File) (shown : Shown) : Type 0 where
   pub cells : List Drawing
   pub top : Drawing
   pub accepted : IsAccepted file cells top
-  pub head : Spells file.ignore file.bytes cells shown.head
+  pub head : Spells file.profile file.bytes cells shown.head
   pub shown_is : IsShownOf figure_rings cells top shown
 
 -- the library of rings passes the check, what its top places is in range, and this is shown of it

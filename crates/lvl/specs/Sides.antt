@@ -1,7 +1,8 @@
 -- What the steps for one side return.
 use Rattle.std.specs.Prelude.{◌≡◌, ⊤, ℕ, List, Option, option_map, Vec}
 use Rattle.std.specs.Global.{Global}
-use Rattle.lvl_profile.specs.declared.ignore.Ignore.{Ignore}
+use Rattle.lvl_profile.specs.declared.limits.Limits.{Limits}
+use Rattle.lvl_profile.specs.declared.profile.Profile.{Profile}
 use Rattle.lvl_cells.specs.Cells.{PlainCell, Rings}
 use Rattle.lvl_cells.specs.Checks.{Settled}
 use Rattle.lvl_flat.specs.Flattened.{IsFlatFault}
@@ -25,13 +26,13 @@ layout_parts (GdsLayout library h) = (library, GdsHeadOf h)
 layout_parts (OasisLayout library h) = (library, OasisHeadOf h)
 
 -- the bytes spell no library
-abbrev pub SpellsNothing : Ignore → List ℕ → Type 0
-SpellsNothing ignore xs = (cells : List Drawing) (head : Head) → Spells ignore xs cells head → ⊥
+abbrev pub SpellsNothing : Profile → List ℕ → Type 0
+SpellsNothing profile xs = (cells : List Drawing) (head : Head) → Spells profile xs cells head → ⊥
 
 -- the fault is true, and unless it is a failed read the bytes spell no library
-pub record IsFileFault (ignore : Ignore) (xs : List ℕ) (fault : FileFault) : Type 0 where
-  pub reported : ReportsOfFile ignore xs fault
-  pub nothing : (¬ IsExcusedFile fault) → SpellsNothing ignore xs
+pub record IsFileFault (profile : Profile) (xs : List ℕ) (fault : FileFault) : Type 0 where
+  pub reported : ReportsOfFile profile xs fault
+  pub nothing : (¬ IsExcusedFile fault) → SpellsNothing profile xs
 
 -- the refusal is that this side's file wasn't read, or out of memory
 abbrev pub IsOfFile : Side → Refusal → Type 0
@@ -41,11 +42,11 @@ IsOfFile side (FlatRefusal s f) = ⊥
 IsOfFile side OutOfMemory = ⊤
 
 -- the refusal of a file that wasn't read is true
-abbrev pub IsReadRefusal : Side → Ignore → List ℕ → Refusal → Type 0
-IsReadRefusal side ignore xs (FileRefusal s f) = (s ≡ side) × IsFileFault ignore xs f
-IsReadRefusal side ignore xs (CellsRefusal s f) = ⊥
-IsReadRefusal side ignore xs (FlatRefusal s f) = ⊥
-IsReadRefusal side ignore xs OutOfMemory = ⊤
+abbrev pub IsReadRefusal : Side → Profile → List ℕ → Refusal → Type 0
+IsReadRefusal side profile xs (FileRefusal s f) = (s ≡ side) × IsFileFault profile xs f
+IsReadRefusal side profile xs (CellsRefusal s f) = ⊥
+IsReadRefusal side profile xs (FlatRefusal s f) = ⊥
+IsReadRefusal side profile xs OutOfMemory = ⊤
 
 -- the refusal by the check of cells is true
 abbrev pub IsCheckRefusal : Side → Kept → Refusal → Type 0
@@ -66,17 +67,17 @@ abbrev pub given_name : Option (Vec ℕ Global) → Option (List ℕ)
 given_name top = option_map (λ v. v.items) top
 
 -- a file with the name that is given for its top
-abbrev pub file : Ignore → List ℕ → Option (Vec ℕ Global) → File
-file ignore bytes top = record { ignore = ignore; bytes = bytes; top = given_name top }
+abbrev pub file : Profile → List ℕ → Option (Vec ℕ Global) → File
+file profile bytes top = record { profile = profile; bytes = bytes; top = given_name top }
 
--- a library with the name that is given for its top
-abbrev pub library_of : List (PlainCell Rings) → Option (Vec ℕ Global) → Kept
-library_of cells top = record { cells = cells; top = given_name top }
+-- a library with its limits and the name that is given for its top
+abbrev pub library_of : Limits → List (PlainCell Rings) → Option (Vec ℕ Global) → Kept
+library_of limits cells top = record { limits = limits; cells = cells; top = given_name top }
 
 -- a file with the name of its top
-abbrev pub file_named : Ignore → List ℕ → Option (List ℕ) → File
-file_named ignore bytes top = record { ignore = ignore; bytes = bytes; top = top }
+abbrev pub file_named : Profile → List ℕ → Option (List ℕ) → File
+file_named profile bytes top = record { profile = profile; bytes = bytes; top = top }
 
--- a library with the name of its top
-abbrev pub kept_named : List (PlainCell Rings) → Option (List ℕ) → Kept
-kept_named cells top = record { cells = cells; top = top }
+-- a library with its limits and the name of its top
+abbrev pub kept_named : Limits → List (PlainCell Rings) → Option (List ℕ) → Kept
+kept_named limits cells top = record { limits = limits; cells = cells; top = top }

@@ -25,6 +25,6 @@ pub record IsViewVerdict (view : PlainView) (a b : File) (v : Verdict) : Type 0 
 
 -- the heads are those that the bytes spell, and the verdict is true
 pub record IsComparedIn (view : PlainView) (a b : File) (c : Comparison) : Type 0 where
-  pub first : HasHead a.ignore a.bytes c.first
-  pub second : HasHead b.ignore b.bytes c.second
+  pub first : HasHead a.profile a.bytes c.first
+  pub second : HasHead b.profile b.bytes c.second
   pub verdict : IsViewVerdict view a b c.verdict

@@ -5,7 +5,7 @@ ghost use Rattle.lvl_region.specs.declared.region.Side.TheVariants.{First, Secon
 ghost use Rattle.lvl_names.specs.declared.layer.Layer.{Layer};
 ghost use Rattle.lvl_grid.specs.declared.point.Square.{Square};
 ghost use Rattle.lvl_region.specs.declared.region.Side.{Side as WhichSide};
-ghost use Rattle.lvl_profile.specs.Ignored.{nothing};
+ghost use Rattle.lvl_profile.specs.Profiles.{strict};
 ghost use Rattle.lvl_view.specs.Views.{IsWhole};
 ghost use Rattle.lvl.specs.declared.layout.FileFault.{FileFault as FaultOfFile};
 ghost use Rattle.lvl.specs.declared.verdict.Verdict.TheVariants.{Same, Differ};
@@ -21,7 +21,7 @@ use crate::side::{check_side, fit_side, read_side};
 use crate::verdict::{Comparison, Refusal, Tops, Verdict};
 use lvl_cells::{Checked, Library};
 use lvl_io::Read;
-use lvl_profile::Ignore;
+use lvl_profile::{Limits, Profile};
 use lvl_region::Side;
 use lvl_view::View;
 use std::alloc::Global;
@@ -29,18 +29,19 @@ use std::alloc::Global;
 /// Checks the libraries of both files and compares them under the view.
 fn compare_libraries(
     alloc: Global,
+    limits: Limits,
     ours: Library,
     theirs: Library,
     tops: &Tops,
     view: &View,
 ) -> Result<Verdict, Refusal>
     ensures verdict { IfOk result (IsKeptVerdict view.now
-        (library_of ours tops.now.first) (library_of theirs tops.now.second)) }
+        (library_of limits ours tops.now.first) (library_of limits theirs tops.now.second)) }
     ensures refused { IfErr result
-        (IsKeptRefusal (library_of ours tops.now.first) (library_of theirs tops.now.second)) }
+        (IsKeptRefusal (library_of limits ours tops.now.first) (library_of limits theirs tops.now.second)) }
 {
-    let ours = check_side(alloc, Side::First, ours, &tops.first)?;
-    let theirs = check_side(alloc, Side::Second, theirs, &tops.second)?;
+    let ours = check_side(alloc, Side::First, limits, ours, &tops.first)?;
+    let theirs = check_side(alloc, Side::Second, limits, theirs, &tops.second)?;
     compare_checked(alloc, ours, theirs, view)
 }
 
@@ -66,9 +67,8 @@ fn compare_checked(
 
 /// Whether two files draw the same mask.
 ///
-/// A file is accepted if its bytes spell a library that is sound for its top and within the limits: at most
-/// 16,777,216 cells and as many rings are placed, and each coordinate as placed fits in 64 signed bits (own
-/// rule). `Same` is returned only if both files are accepted and cover the same unit squares on every
+/// A file is accepted if its bytes spell a library that is sound for its top and within the standard limits
+/// ([`lvl_profile::Limits`]), and each coordinate as placed fits in 64 signed bits (own rule). `Same` is returned only if both files are accepted and cover the same unit squares on every
 /// Layer, through all references. `Differ` names the least Layer on which they differ, and the least square
 /// on it, by y and then x, that only one side covers. A refusal names a file that isn't accepted, unless it
 /// is out of memory or a failed read.
@@ -80,26 +80,26 @@ pub fn compare_layouts<A: Read, B: Read>(
 ) -> Result<Verdict, Refusal>
     ensures same { (xs ys : List ℕ) → A.remaining first.old ≡ Some xs → B.remaining second.old ≡ Some ys
         → result ≡ Ok Same
-        → AreSame (file nothing xs tops.now.first) (file nothing ys tops.now.second) }
+        → AreSame (file strict xs tops.now.first) (file strict ys tops.now.second) }
     ensures differ { (xs ys : List ℕ) → A.remaining first.old ≡ Some xs → B.remaining second.old ≡ Some ys
         → (layer : Layer) (square : Square) (side : WhichSide) → result ≡ Ok (Differ layer square side)
-        → AreDifferent (file nothing xs tops.now.first) (file nothing ys tops.now.second) layer square side }
+        → AreDifferent (file strict xs tops.now.first) (file strict ys tops.now.second) layer square side }
     ensures first_refused { (xs : List ℕ) → A.remaining first.old ≡ Some xs
-        → IfErr result (λ r. Blames First r → IsUnaccepted (file nothing xs tops.now.first)) }
+        → IfErr result (λ r. Blames First r → IsUnaccepted (file strict xs tops.now.first)) }
     ensures second_refused { (ys : List ℕ) → B.remaining second.old ≡ Some ys
-        → IfErr result (λ r. Blames Second r → IsUnaccepted (file nothing ys tops.now.second)) }
+        → IfErr result (λ r. Blames Second r → IsUnaccepted (file strict ys tops.now.second)) }
     ensures first_reported { (xs : List ℕ) → A.remaining first.old ≡ Some xs
-        → IfErr result (IsReported First (file nothing xs tops.now.first)) }
+        → IfErr result (IsReported First (file strict xs tops.now.first)) }
     ensures second_reported { (ys : List ℕ) → B.remaining second.old ≡ Some ys
-        → IfErr result (IsReported Second (file nothing ys tops.now.second)) }
+        → IfErr result (IsReported Second (file strict ys tops.now.second)) }
     ensures first_passed { (xs : List ℕ) → A.remaining first.old ≡ Some xs
-        → IfErr result (HasPassed First (file nothing xs tops.now.first)) }
+        → IfErr result (HasPassed First (file strict xs tops.now.first)) }
     ensures second_passed { (ys : List ℕ) → B.remaining second.old ≡ Some ys
-        → IfErr result (HasPassed Second (file nothing ys tops.now.second)) }
+        → IfErr result (HasPassed Second (file strict ys tops.now.second)) }
     ensures first_early { (xs : List ℕ) → A.remaining first.old ≡ Some xs
-        → IfErr result (λ r. IsEarlyOf First r → IsHopeless nothing xs (A.remaining first.new)) }
+        → IfErr result (λ r. IsEarlyOf First r → IsHopeless strict xs (A.remaining first.new)) }
     ensures second_early { (ys : List ℕ) → B.remaining second.old ≡ Some ys
-        → IfErr result (λ r. IsEarlyOf Second r → IsHopeless nothing ys (B.remaining second.new)) }
+        → IfErr result (λ r. IsEarlyOf Second r → IsHopeless strict ys (B.remaining second.new)) }
     ensures second_kept { (fault : FaultOfFile) → result ≡ Err (FileRefused First fault) → second.new ≡ second.old }
     ensures first_reads { CountsFailure (A.read_errors first.old) (A.read_errors first.new) (is_read_of First result) }
     ensures second_reads { CountsFailure (B.read_errors second.old) (B.read_errors second.new)
@@ -111,7 +111,7 @@ pub fn compare_layouts<A: Read, B: Read>(
         second,
         tops,
         &View::whole(alloc),
-        Ignore::NOTHING,
+        Profile::STANDARD,
     ) {
         Ok(compared) => Ok(compared.verdict),
         Err(refusal) => Err(refusal),
@@ -133,61 +133,61 @@ pub fn compare_view<A: Read, B: Read>(
     view: &View,
 ) -> Result<Verdict, Refusal>
     ensures verdict { (xs ys : List ℕ) → A.remaining first.old ≡ Some xs → B.remaining second.old ≡ Some ys
-        → IfOk result (IsViewVerdict view.now (file nothing xs tops.now.first) (file nothing ys tops.now.second)) }
+        → IfOk result (IsViewVerdict view.now (file strict xs tops.now.first) (file strict ys tops.now.second)) }
     ensures whole { IsWhole view.now
         → (xs ys : List ℕ) → A.remaining first.old ≡ Some xs → B.remaining second.old ≡ Some ys
-        → IfOk result (IsVerdict (file nothing xs tops.now.first) (file nothing ys tops.now.second)) }
+        → IfOk result (IsVerdict (file strict xs tops.now.first) (file strict ys tops.now.second)) }
     ensures first_refused { (xs : List ℕ) → A.remaining first.old ≡ Some xs
-        → IfErr result (IsRefusalOf First (file nothing xs tops.now.first)) }
+        → IfErr result (IsRefusalOf First (file strict xs tops.now.first)) }
     ensures second_refused { (ys : List ℕ) → B.remaining second.old ≡ Some ys
-        → IfErr result (IsRefusalOf Second (file nothing ys tops.now.second)) }
+        → IfErr result (IsRefusalOf Second (file strict ys tops.now.second)) }
     ensures first_early { (xs : List ℕ) → A.remaining first.old ≡ Some xs
-        → IfErr result (λ r. IsEarlyOf First r → IsHopeless nothing xs (A.remaining first.new)) }
+        → IfErr result (λ r. IsEarlyOf First r → IsHopeless strict xs (A.remaining first.new)) }
     ensures second_early { (ys : List ℕ) → B.remaining second.old ≡ Some ys
-        → IfErr result (λ r. IsEarlyOf Second r → IsHopeless nothing ys (B.remaining second.new)) }
+        → IfErr result (λ r. IsEarlyOf Second r → IsHopeless strict ys (B.remaining second.new)) }
     ensures second_kept { (fault : FaultOfFile) → result ≡ Err (FileRefused First fault) → second.new ≡ second.old }
     ensures first_reads { CountsFailure (A.read_errors first.old) (A.read_errors first.new) (is_read_of First result) }
     ensures second_reads { CountsFailure (B.read_errors second.old) (B.read_errors second.new)
         (is_read_of Second result) }
 {
-    match compare_files(alloc, first, second, tops, view, Ignore::NOTHING) {
+    match compare_files(alloc, first, second, tops, view, Profile::STANDARD) {
         Ok(viewed) => Ok(viewed.verdict),
         Err(refusal) => Err(refusal),
     }
 }
 
-/// Compares two files under a view, with some records ignored, and returns the head of each and the verdict
-/// of [`compare_view`]. The second file isn't read if the first is refused. [`compare_layouts`] and
-/// [`compare_view`] are this call with nothing ignored and without the heads.
+/// Compares two files under a view and a profile, and returns the head of each and the verdict of
+/// [`compare_view`]. The second file isn't read if the first is refused. [`compare_layouts`] and
+/// [`compare_view`] are this call with the standard profile and without the heads.
 pub fn compare_files<A: Read, B: Read>(
     alloc: Global,
     first: &mut A,
     second: &mut B,
     tops: &Tops,
     view: &View,
-    ignore: Ignore,
+    profile: Profile,
 ) -> Result<Comparison, Refusal>
     ensures compared { (xs ys : List ℕ) → A.remaining first.old ≡ Some xs → B.remaining second.old ≡ Some ys
-        → IfOk result (IsComparedIn view.now (file ignore xs tops.now.first) (file ignore ys tops.now.second)) }
+        → IfOk result (IsComparedIn view.now (file profile xs tops.now.first) (file profile ys tops.now.second)) }
     ensures whole { IsWhole view.now
         → (xs ys : List ℕ) → A.remaining first.old ≡ Some xs → B.remaining second.old ≡ Some ys
-        → IfOk result (λ c. IsVerdict (file ignore xs tops.now.first) (file ignore ys tops.now.second) c.verdict) }
+        → IfOk result (λ c. IsVerdict (file profile xs tops.now.first) (file profile ys tops.now.second) c.verdict) }
     ensures first_refused { (xs : List ℕ) → A.remaining first.old ≡ Some xs
-        → IfErr result (IsRefusalOf First (file ignore xs tops.now.first)) }
+        → IfErr result (IsRefusalOf First (file profile xs tops.now.first)) }
     ensures second_refused { (ys : List ℕ) → B.remaining second.old ≡ Some ys
-        → IfErr result (IsRefusalOf Second (file ignore ys tops.now.second)) }
+        → IfErr result (IsRefusalOf Second (file profile ys tops.now.second)) }
     ensures first_early { (xs : List ℕ) → A.remaining first.old ≡ Some xs
-        → IfErr result (λ r. IsEarlyOf First r → IsHopeless ignore xs (A.remaining first.new)) }
+        → IfErr result (λ r. IsEarlyOf First r → IsHopeless profile xs (A.remaining first.new)) }
     ensures second_early { (ys : List ℕ) → B.remaining second.old ≡ Some ys
-        → IfErr result (λ r. IsEarlyOf Second r → IsHopeless ignore ys (B.remaining second.new)) }
+        → IfErr result (λ r. IsEarlyOf Second r → IsHopeless profile ys (B.remaining second.new)) }
     ensures second_kept { (fault : FaultOfFile) → result ≡ Err (FileRefused First fault) → second.new ≡ second.old }
     ensures first_reads { CountsFailure (A.read_errors first.old) (A.read_errors first.new) (is_read_of First result) }
     ensures second_reads { CountsFailure (B.read_errors second.old) (B.read_errors second.new)
         (is_read_of Second result) }
 {
-    let (ours, first_head) = read_side(alloc, Side::First, first, ignore)?;
-    let (theirs, second_head) = read_side(alloc, Side::Second, second, ignore)?;
-    let verdict = compare_libraries(alloc, ours, theirs, tops, view)?;
+    let (ours, first_head) = read_side(alloc, Side::First, first, profile)?;
+    let (theirs, second_head) = read_side(alloc, Side::Second, second, profile)?;
+    let verdict = compare_libraries(alloc, profile.limits, ours, theirs, tops, view)?;
     Ok(Comparison {
         first: first_head,
         second: second_head,

@@ -16,7 +16,7 @@ use crate::verdict::Refusal;
 use lvl_cells::Library;
 use lvl_corners::mask_bytes_decide;
 use lvl_io::Read;
-use lvl_profile::Ignore;
+use lvl_profile::{Limits, Profile};
 use lvl_region::Side;
 use std::alloc::Global;
 
@@ -24,14 +24,15 @@ use std::alloc::Global;
 fn digest_library(
     alloc: Global,
     head: Head,
+    limits: Limits,
     library: Library,
     top: Option<&[u8]>,
 ) -> Result<Digested, Refusal>
     ensures head { IfOk result (λ digested. digested.head ≡ head) }
-    ensures digested { IfOk result (IsDigestedKept (kept_named library (option_copied top.entry))) }
-    ensures refused { IfErr result (IsShowRefusal (kept_named library (option_copied top.entry))) }
+    ensures digested { IfOk result (IsDigestedKept (kept_named limits library (option_copied top.entry))) }
+    ensures refused { IfErr result (IsShowRefusal (kept_named limits library (option_copied top.entry))) }
 {
-    let FlatLibrary { top, flat } = flatten_library(alloc, library, top)?;
+    let FlatLibrary { top, flat } = flatten_library(alloc, limits, library, top)?;
     let Ok(mask) = digest_flat(alloc, &flat) else {
         return Err(Refusal::OutOfMemory);
     };
@@ -49,30 +50,30 @@ fn digest_library(
 ///
 /// ```
 /// use lvl::digest_file;
-/// use lvl_profile::Ignore;
+/// use lvl_profile::Profile;
 /// use lvl_io::fake::Pieces;
 ///
 /// let mut reader = Pieces::new(&bytes, usize::MAX);
-/// let digested = digest_file(alloc, &mut reader, None, Ignore::NOTHING)?;
+/// let digested = digest_file(alloc, &mut reader, None, Profile::STANDARD)?;
 /// assert_eq!(rt; digested.mask.layers.len(), 1);
 /// ```
 pub fn digest_file<R: Read>(
     alloc: Global,
     reader: &mut R,
     top: Option<&[u8]>,
-    ignore: Ignore,
+    profile: Profile,
 ) -> Result<Digested, Refusal>
     ensures digested { (xs : List ℕ) → R.remaining reader.old ≡ Some xs
-        → IfOk result (IsDigestedFile (file_named ignore xs (option_copied top.entry))) }
+        → IfOk result (IsDigestedFile (file_named profile xs (option_copied top.entry))) }
     ensures refused { (xs : List ℕ) → R.remaining reader.old ≡ Some xs
-        → IfErr result (IsRefusalOf First (file_named ignore xs (option_copied top.entry))) }
+        → IfErr result (IsRefusalOf First (file_named profile xs (option_copied top.entry))) }
     ensures early { (xs : List ℕ) → R.remaining reader.old ≡ Some xs
-        → IfErr result (λ r. IsEarlyOf First r → IsHopeless ignore xs (R.remaining reader.new)) }
+        → IfErr result (λ r. IsEarlyOf First r → IsHopeless profile xs (R.remaining reader.new)) }
     ensures side { IfErr result IsOfFirst }
     ensures reads { CountsFailure (R.read_errors reader.old) (R.read_errors reader.new) (is_read_of First result) }
 {
-    let (library, head) = read_side(alloc, Side::First, reader, ignore)?;
-    digest_library(alloc, head, library, top)
+    let (library, head) = read_side(alloc, Side::First, reader, profile)?;
+    digest_library(alloc, head, profile.limits, library, top)
 }
 
 /// Two files draw the same mask if and only if their digests are the same, except for a collision of

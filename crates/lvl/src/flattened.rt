@@ -9,6 +9,7 @@ use crate::side::{check_named, flatten_side};
 use crate::verdict::Refusal;
 use lvl_cells::Library;
 use lvl_flat::Flat;
+use lvl_profile::Limits;
 use lvl_region::Side;
 use std::alloc::Global;
 
@@ -25,13 +26,14 @@ pub(crate) struct FlatLibrary {
 /// places fits in 64 bits. Refusals are of [`Side::First`].
 pub(crate) fn flatten_library(
     alloc: Global,
+    limits: Limits,
     library: Library,
     top: Option<&[u8]>,
 ) -> Result<FlatLibrary, Refusal>
-    ensures flat { IfOk result (IsFlatLibrary (kept_named library (option_copied top.entry))) }
-    ensures refused { IfErr result (IsShowRefusal (kept_named library (option_copied top.entry))) }
+    ensures flat { IfOk result (IsFlatLibrary (kept_named limits library (option_copied top.entry))) }
+    ensures refused { IfErr result (IsShowRefusal (kept_named limits library (option_copied top.entry))) }
 {
-    let checked = check_named(alloc, Side::First, library, top)?;
+    let checked = check_named(alloc, Side::First, limits, library, top)?;
     let Ok(top) = top_name(alloc, &checked) else {
         return Err(Refusal::OutOfMemory);
     };

@@ -4,16 +4,17 @@ ghost use Rattle.std.specs.Io.KnownBytes.{prepend_known};
 ghost use Rattle.lvl_io.specs.Bytes.{CountsFailure, failed};
 ghost use Rattle.lvl_io.specs.Peeked.{given_again};
 ghost use Rattle.lvl_refusal.specs.Refused.{Says};
-ghost use Rattle.lvl_profile.specs.Ignored.{nothing};
-ghost use Rattle.lvl_profile.specs.declared.ignore.Ignore.{Ignore as Ignored};
-ghost use Rattle.lvl.specs.Layouts.{HasFirst, IgnoringKeeps, IsLayoutOf, IsOasis};
+ghost use Rattle.lvl_profile.specs.Profiles.{strict};
+ghost use Rattle.lvl_profile.specs.declared.profile.Profile.{Profile as PlainProfile};
+ghost use Rattle.lvl.specs.Accepted.{WideningKeeps};
+ghost use Rattle.lvl.specs.Layouts.{HasFirst, IsLayoutOf, IsOasis};
 ghost use Rattle.lvl.specs.Answers.{IsEarlyFile, IsHopeless, is_failed_read, read_failed};
 ghost use Rattle.lvl.specs.Sides.{layout_parts, IsFileFault};
 
 use gds_library::{GdsFault, GdsHead, GdsKind, RecordFault, read_gds_by};
 use lvl_cells::Library;
 use lvl_io::{Failure, Peeked, Read};
-use lvl_profile::Ignore;
+use lvl_profile::Profile;
 use lvl_refusal::Cause;
 use oasis_library::{OasisFault, OasisHead, read_oasis_by};
 use std::alloc::Global;
@@ -81,19 +82,19 @@ fn take_first<R: Read>(reader: &mut R) -> Result<Option<u8>, Failure>
 fn read_as_gds<R: Read>(
     alloc: Global,
     reader: &mut R,
-    ignore: Ignore,
+    profile: Profile,
 ) -> Result<Layout, Cause<FileFault>>
     ensures spelled { (xs : List ℕ) → R.remaining reader.old ≡ Some xs
-        → IfOk result (λ layout. IsLayoutOf ignore xs (layout_parts layout).0 (layout_parts layout).1) }
+        → IfOk result (λ layout. IsLayoutOf profile xs (layout_parts layout).0 (layout_parts layout).1) }
     ensures refused { (xs : List ℕ) → R.remaining reader.old ≡ Some xs → (¬ IsOasis xs)
-        → IfErr result (λ refusal. Says refusal (IsFileFault ignore xs)) }
+        → IfErr result (λ refusal. Says refusal (IsFileFault profile xs)) }
     ensures early { (xs : List ℕ) → R.remaining reader.old ≡ Some xs → (¬ IsOasis xs)
         → IfErr result (λ refusal. Says refusal (λ fault. IsEarlyFile fault
-        → IsHopeless ignore xs (R.remaining reader.new))) }
+        → IsHopeless profile xs (R.remaining reader.new))) }
     ensures reads { CountsFailure (R.read_errors reader.old) (R.read_errors reader.new) (is_failed_read result) }
     ensures same { R.lent reader.new ≡ R.lent reader.old }
 {
-    match read_gds_by(alloc, reader, ignore) {
+    match read_gds_by(alloc, reader, profile) {
         Ok((library, head)) => Ok(Layout::Gds(library, head)),
         Err(Cause::Breach(fault)) => Err(Cause::Breach(FileFault::Gds(fault))),
         Err(Cause::OutOfMemory) => Err(Cause::OutOfMemory),
@@ -104,19 +105,19 @@ fn read_as_gds<R: Read>(
 fn read_as_oasis<R: Read>(
     alloc: Global,
     reader: &mut R,
-    ignore: Ignore,
+    profile: Profile,
 ) -> Result<Layout, Cause<FileFault>>
     ensures spelled { (xs : List ℕ) → R.remaining reader.old ≡ Some xs
-        → IfOk result (λ layout. IsLayoutOf ignore xs (layout_parts layout).0 (layout_parts layout).1) }
+        → IfOk result (λ layout. IsLayoutOf profile xs (layout_parts layout).0 (layout_parts layout).1) }
     ensures refused { (xs : List ℕ) → R.remaining reader.old ≡ Some xs → IsOasis xs
-        → IfErr result (λ refusal. Says refusal (IsFileFault ignore xs)) }
+        → IfErr result (λ refusal. Says refusal (IsFileFault profile xs)) }
     ensures early { (xs : List ℕ) → R.remaining reader.old ≡ Some xs → IsOasis xs
         → IfErr result (λ refusal. Says refusal (λ fault. IsEarlyFile fault
-        → IsHopeless ignore xs (R.remaining reader.new))) }
+        → IsHopeless profile xs (R.remaining reader.new))) }
     ensures reads { CountsFailure (R.read_errors reader.old) (R.read_errors reader.new) (is_failed_read result) }
     ensures same { R.lent reader.new ≡ R.lent reader.old }
 {
-    match read_oasis_by(alloc, reader, ignore) {
+    match read_oasis_by(alloc, reader, profile) {
         Ok((library, head)) => Ok(Layout::Oasis(library, head)),
         Err(Cause::Breach(fault)) => Err(Cause::Breach(FileFault::Oasis(fault))),
         Err(Cause::OutOfMemory) => Err(Cause::OutOfMemory),
@@ -135,27 +136,27 @@ fn read_by<R: Read>(
     alloc: Global,
     first: Option<u8>,
     reader: &mut R,
-    ignore: Ignore,
+    profile: Profile,
 ) -> Result<Layout, Cause<FileFault>>
     ensures spelled { (xs : List ℕ) → R.remaining reader.old ≡ Some xs
-        → IfOk result (λ layout. IsLayoutOf ignore xs (layout_parts layout).0 (layout_parts layout).1) }
+        → IfOk result (λ layout. IsLayoutOf profile xs (layout_parts layout).0 (layout_parts layout).1) }
     ensures refused { (xs : List ℕ) → R.remaining reader.old ≡ Some xs → HasFirst first xs
-        → IfErr result (λ refusal. Says refusal (IsFileFault ignore xs)) }
+        → IfErr result (λ refusal. Says refusal (IsFileFault profile xs)) }
     ensures early { (xs : List ℕ) → R.remaining reader.old ≡ Some xs → HasFirst first xs
         → IfErr result (λ refusal. Says refusal (λ fault. IsEarlyFile fault
-        → IsHopeless ignore xs (R.remaining reader.new))) }
+        → IsHopeless profile xs (R.remaining reader.new))) }
     ensures reads { CountsFailure (R.read_errors reader.old) (R.read_errors reader.new) (is_failed_read result) }
     ensures same { R.lent reader.new ≡ R.lent reader.old }
 {
     if is_oasis(first) {
-        return read_as_oasis(alloc, reader, ignore);
+        return read_as_oasis(alloc, reader, profile);
     }
-    read_as_gds(alloc, reader, ignore)
+    read_as_gds(alloc, reader, profile)
 }
 
 /// The fault of a read that failed before there was a byte.
 fn unread() -> FileFault
-    ensures reported { (ignore : Ignored) (xs : List ℕ) → IsFileFault ignore xs result }
+    ensures reported { (profile : PlainProfile) (xs : List ℕ) → IsFileFault profile xs result }
     ensures late { IsEarlyFile result → ⊥ }
     ensures read { read_failed result ≡ true }
 {
@@ -167,7 +168,7 @@ fn unread() -> FileFault
 
 /// The fault of an empty file: it ends before its first record. It isn't read on, since its end was seen.
 fn empty() -> FileFault
-    ensures reported { (ignore : Ignored) → IsFileFault ignore [] result }
+    ensures reported { (profile : PlainProfile) → IsFileFault profile [] result }
     ensures late { IsEarlyFile result → ⊥ }
     ensures read { read_failed result ≡ false }
 {
@@ -192,31 +193,31 @@ fn empty() -> FileFault
 /// ```
 pub fn read_layout<R: Read>(alloc: Global, reader: &mut R) -> Result<Layout, Cause<FileFault>>
     ensures spelled { (xs : List ℕ) → R.remaining reader.old ≡ Some xs
-        → IfOk result (λ layout. IsLayoutOf nothing xs (layout_parts layout).0 (layout_parts layout).1) }
+        → IfOk result (λ layout. IsLayoutOf strict xs (layout_parts layout).0 (layout_parts layout).1) }
     ensures refused { (xs : List ℕ) → R.remaining reader.old ≡ Some xs
-        → IfErr result (λ refusal. Says refusal (IsFileFault nothing xs)) }
+        → IfErr result (λ refusal. Says refusal (IsFileFault strict xs)) }
     ensures early { (xs : List ℕ) → R.remaining reader.old ≡ Some xs
         → IfErr result (λ refusal. Says refusal (λ fault. IsEarlyFile fault
-        → IsHopeless nothing xs (R.remaining reader.new))) }
+        → IsHopeless strict xs (R.remaining reader.new))) }
     ensures reads { CountsFailure (R.read_errors reader.old) (R.read_errors reader.new) (is_failed_read result) }
 {
-    read_layout_by(alloc, reader, Ignore::NOTHING)
+    read_layout_by(alloc, reader, Profile::STANDARD)
 }
 
-/// Reads a file as [`read_layout`] does, with some records ignored, by
+/// Reads a file as [`read_layout`] does, under a profile, by
 /// [`read_gds_by`](gds_library::read_gds_by) or [`read_oasis_by`](oasis_library::read_oasis_by).
 pub fn read_layout_by<R: Read>(
     alloc: Global,
     reader: &mut R,
-    ignore: Ignore,
+    profile: Profile,
 ) -> Result<Layout, Cause<FileFault>>
     ensures spelled { (xs : List ℕ) → R.remaining reader.old ≡ Some xs
-        → IfOk result (λ layout. IsLayoutOf ignore xs (layout_parts layout).0 (layout_parts layout).1) }
+        → IfOk result (λ layout. IsLayoutOf profile xs (layout_parts layout).0 (layout_parts layout).1) }
     ensures refused { (xs : List ℕ) → R.remaining reader.old ≡ Some xs
-        → IfErr result (λ refusal. Says refusal (IsFileFault ignore xs)) }
+        → IfErr result (λ refusal. Says refusal (IsFileFault profile xs)) }
     ensures early { (xs : List ℕ) → R.remaining reader.old ≡ Some xs
         → IfErr result (λ refusal. Says refusal (λ fault. IsEarlyFile fault
-        → IsHopeless ignore xs (R.remaining reader.new))) }
+        → IsHopeless profile xs (R.remaining reader.new))) }
     ensures reads { CountsFailure (R.read_errors reader.old) (R.read_errors reader.new) (is_failed_read result) }
 {
     let Ok(first) = take_first(reader) else {
@@ -226,13 +227,14 @@ pub fn read_layout_by<R: Read>(
         return Err(Cause::Breach(empty()));
     }
     let mut whole = Peeked::new(first, reader);
-    let read = read_by(alloc, first, &mut whole, ignore);
+    let read = read_by(alloc, first, &mut whole, profile);
     let _reader = whole.into_rest();
     read
 }
 
-/// Ignoring more changes no layout that is read with less ignored: bytes that then spell a library still
-/// spell the same one, with the same head. This function states the law and computes nothing.
-pub fn ignoring_keeps()
-    ensures { IgnoringKeeps }
+/// A wider profile changes nothing that is accepted under a narrower one: bytes that spell a library still
+/// spell the same one, with the same head, and a file that is accepted is still accepted, with the same cells
+/// and the same top. This function states the law and computes nothing.
+pub fn widening_keeps()
+    ensures { WideningKeeps }
 {}

@@ -25,7 +25,7 @@
 pub use compare::{compare_files, compare_layouts, compare_view};
 pub use digest::{digest_file, digests_decide};
 pub use digested::{Digested, DigestedLayer, MaskDigest};
-pub use layout::{FileFault, Head, Layout, ignoring_keeps, read_layout, read_layout_by};
+pub use layout::{FileFault, Head, Layout, widening_keeps, read_layout, read_layout_by};
 pub use show::show_file;
 pub use shown::Shown;
 pub use verdict::{Comparison, Refusal, Tops, Verdict};

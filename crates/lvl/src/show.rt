@@ -14,7 +14,7 @@ use crate::verdict::Refusal;
 use lvl_cells::Library;
 use lvl_count::rings_by_layer;
 use lvl_io::Read;
-use lvl_profile::Ignore;
+use lvl_profile::{Limits, Profile};
 use lvl_region::Side;
 use std::alloc::Global;
 
@@ -22,14 +22,15 @@ use std::alloc::Global;
 fn show_library(
     alloc: Global,
     head: Head,
+    limits: Limits,
     library: Library,
     top: Option<&[u8]>,
 ) -> Result<Shown, Refusal>
     ensures head { IfOk result (λ shown. shown.head ≡ head) }
-    ensures shown { IfOk result (IsShownKept (kept_named library (option_copied top.entry))) }
-    ensures refused { IfErr result (IsShowRefusal (kept_named library (option_copied top.entry))) }
+    ensures shown { IfOk result (IsShownKept (kept_named limits library (option_copied top.entry))) }
+    ensures refused { IfErr result (IsShowRefusal (kept_named limits library (option_copied top.entry))) }
 {
-    let checked = check_named(alloc, Side::First, library, top)?;
+    let checked = check_named(alloc, Side::First, limits, library, top)?;
     let Ok(top) = top_name(alloc, &checked) else {
         return Err(Refusal::OutOfMemory);
     };
@@ -54,28 +55,28 @@ fn show_library(
 ///
 /// ```
 /// use lvl::show_file;
-/// use lvl_profile::Ignore;
+/// use lvl_profile::Profile;
 /// use lvl_io::fake::Pieces;
 ///
 /// let mut reader = Pieces::new(&bytes, usize::MAX);
-/// let shown = show_file(alloc, &mut reader, None, Ignore::NOTHING)?;
+/// let shown = show_file(alloc, &mut reader, None, Profile::STANDARD)?;
 /// assert_eq!(rt; shown.layers.first().map(|layer| layer.rings), Some(1));
 /// ```
 pub fn show_file<R: Read>(
     alloc: Global,
     reader: &mut R,
     top: Option<&[u8]>,
-    ignore: Ignore,
+    profile: Profile,
 ) -> Result<Shown, Refusal>
     ensures shown { (xs : List ℕ) → R.remaining reader.old ≡ Some xs
-        → IfOk result (IsShownFile (file_named ignore xs (option_copied top.entry))) }
+        → IfOk result (IsShownFile (file_named profile xs (option_copied top.entry))) }
     ensures refused { (xs : List ℕ) → R.remaining reader.old ≡ Some xs
-        → IfErr result (IsRefusalOf First (file_named ignore xs (option_copied top.entry))) }
+        → IfErr result (IsRefusalOf First (file_named profile xs (option_copied top.entry))) }
     ensures early { (xs : List ℕ) → R.remaining reader.old ≡ Some xs
-        → IfErr result (λ r. IsEarlyOf First r → IsHopeless ignore xs (R.remaining reader.new)) }
+        → IfErr result (λ r. IsEarlyOf First r → IsHopeless profile xs (R.remaining reader.new)) }
     ensures side { IfErr result IsOfFirst }
     ensures reads { CountsFailure (R.read_errors reader.old) (R.read_errors reader.new) (is_read_of First result) }
 {
-    let (library, head) = read_side(alloc, Side::First, reader, ignore)?;
-    show_library(alloc, head, library, top)
+    let (library, head) = read_side(alloc, Side::First, reader, profile)?;
+    show_library(alloc, head, profile.limits, library, top)
 }

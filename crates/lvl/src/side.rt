@@ -12,10 +12,10 @@ ghost use Rattle.lvl.specs.declared.verdict.Refusal.TheVariants.{OutOfMemory};
 
 use crate::layout::{Head, read_layout_by};
 use crate::verdict::Refusal;
-use lvl_cells::{Checked, Library, check};
+use lvl_cells::{Checked, Library, check_with};
 use lvl_flat::{Fitted, Flat, flatten};
 use lvl_io::Read;
-use lvl_profile::Ignore;
+use lvl_profile::{Limits, Profile};
 use lvl_refusal::Cause;
 use lvl_region::Side;
 use std::alloc::Global;
@@ -25,18 +25,18 @@ pub(crate) fn read_side<R: Read>(
     alloc: Global,
     side: Side,
     reader: &mut R,
-    ignore: Ignore,
+    profile: Profile,
 ) -> Result<(Library, Head), Refusal>
     ensures read { (xs : List ℕ) → R.remaining reader.old ≡ Some xs
-        → IfOk result (λ found. IsLayoutOf ignore xs found.0 found.1) }
+        → IfOk result (λ found. IsLayoutOf profile xs found.0 found.1) }
     ensures refused { (xs : List ℕ) → R.remaining reader.old ≡ Some xs
-        → IfErr result (IsReadRefusal side ignore xs) }
+        → IfErr result (IsReadRefusal side profile xs) }
     ensures early { (xs : List ℕ) → R.remaining reader.old ≡ Some xs
-        → IfErr result (λ r. IsEarlyOf side r → IsHopeless ignore xs (R.remaining reader.new)) }
+        → IfErr result (λ r. IsEarlyOf side r → IsHopeless profile xs (R.remaining reader.new)) }
     ensures own { IfErr result (IsOfFile side) }
     ensures reads { CountsFailure (R.read_errors reader.old) (R.read_errors reader.new) (is_read_of side result) }
 {
-    match read_layout_by(alloc, reader, ignore) {
+    match read_layout_by(alloc, reader, profile) {
         Ok(layout) => Ok(layout.into_parts()),
         Err(Cause::Breach(fault)) => Err(Refusal::File(side, fault)),
         Err(Cause::OutOfMemory) => Err(Refusal::OutOfMemory),
@@ -57,13 +57,14 @@ fn name_of(top: &Option<Vec<u8>>) -> Option<&[u8]>
 pub(crate) fn check_named(
     alloc: Global,
     side: Side,
+    limits: Limits,
     library: Library,
     top: Option<&[u8]>,
 ) -> Result<Checked, Refusal>
-    ensures checked { IfOk result (IsCheckedAs (kept_named library (option_copied top.entry))) }
-    ensures refused { IfErr result (IsCheckRefusal side (kept_named library (option_copied top.entry))) }
+    ensures checked { IfOk result (IsCheckedAs (kept_named limits library (option_copied top.entry))) }
+    ensures refused { IfErr result (IsCheckRefusal side (kept_named limits library (option_copied top.entry))) }
 {
-    match check(alloc, library, top) {
+    match check_with(alloc, library, top, limits) {
         Ok(checked) => Ok(checked),
         Err(Cause::Breach(fault)) => Err(Refusal::Cells(side, fault)),
         Err(Cause::OutOfMemory) => Err(Refusal::OutOfMemory),
@@ -74,13 +75,14 @@ pub(crate) fn check_named(
 pub(crate) fn check_side(
     alloc: Global,
     side: Side,
+    limits: Limits,
     library: Library,
     top: &Option<Vec<u8>>,
 ) -> Result<Checked, Refusal>
-    ensures checked { IfOk result (IsCheckedAs (library_of library top.now)) }
-    ensures refused { IfErr result (IsCheckRefusal side (library_of library top.now)) }
+    ensures checked { IfOk result (IsCheckedAs (library_of limits library top.now)) }
+    ensures refused { IfErr result (IsCheckRefusal side (library_of limits library top.now)) }
 {
-    check_named(alloc, side, library, name_of(top))
+    check_named(alloc, side, limits, library, name_of(top))
 }
 
 /// The library, if what its top places fits in 64 bits.

@@ -1,10 +1,6 @@
--- The state of a builder of a library, and the greatest number of cells.
-use Rattle.std.specs.Prelude.{ℕ, List, [], ◌∷◌, ◌++◌}
+-- The state of a builder of a library.
+use Rattle.std.specs.Prelude.{List, [], ◌∷◌, ◌++◌}
 use Rattle.lvl_cells.specs.Cells.{PlainShape, PlainReference, PlainCell, Rings}
-
--- the greatest number of cells of a library (own rule)
-abbrev pub cell_limit : ℕ
-cell_limit = 1048576
 
 -- the cells that are finished, and the one that is open
 pub record Built : Type 0 where

@@ -13,9 +13,6 @@ use std::alloc::{AllocError, Global};
 use std::marker::Model;
 use std::mem;
 
-/// The greatest number of cells of a library (own rule). [`Builder`] doesn't test it: readers do.
-pub const MOST_CELLS: usize = 1_048_576;
-
 /// The cells that are finished, in file order, and the cell that is open.
 ///
 /// [`Builder::open`] begins a cell, [`Builder::close`] finishes it. If there is no memory for an

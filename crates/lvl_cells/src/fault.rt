@@ -26,10 +26,10 @@ pub enum CellFault {
     /// No top was given, and there are two or more cells to which no cell refers.
     #[error("two or more cells are referred to by none")]
     ManyTops,
-    /// More than 16,777,216 cells are placed from the top, the top counted once.
+    /// More cells are placed from the top than the limits allow, the top counted once.
     #[error("too many cells are placed")]
     TooManyPlacements,
-    /// More than 16,777,216 rings are placed from the top.
+    /// More rings are placed from the top than the limits allow.
     #[error("too many rings are placed")]
     TooManyRings,
 }

@@ -24,7 +24,7 @@
 //! ```
 #![tactic(auto)]
 
-pub use builder::{Builder, MOST_CELLS};
+pub use builder::Builder;
 pub use checked::{Checked, check, check_with};
 pub use fault::CellFault;
 pub use library::{Cell, Library};

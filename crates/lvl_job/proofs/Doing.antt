@@ -18,9 +18,9 @@ use Rattle.lvl_view.specs.Views.{PlainView}
 use Rattle.lvl_job.specs.declared.fault.JobFault.{JobFault}
 use Rattle.lvl_job.specs.declared.fault.JobFault.TheVariants.{BadView, BadIgnore, NotOpened, OutOfMemory, Output}
 use Rattle.lvl_job.specs.Ends.{is_cut}
-use Rattle.lvl_profile.specs.declared.ignore.Ignore.{Ignore}
-use Rattle.lvl_job.specs.Jobs.{IsAnswered, IsBadIgnore, IsComparedUnder, IsCut, IsFaultOfJob, IsIgnoreAsked}
-use Rattle.lvl_job.specs.Jobs.{IsIgnoreFault, IsNotOpened, IsViewAsked, Named, UnderView, WithIgnored}
+use Rattle.lvl_profile.specs.declared.profile.Profile.{Profile}
+use Rattle.lvl_job.specs.Jobs.{IsAnswered, IsBadIgnore, IsComparedUnder, IsCut, IsFaultOfJob, IsProfileAsked}
+use Rattle.lvl_job.specs.Jobs.{IsIgnoreFault, IsNotOpened, IsViewAsked, Named, UnderView, UnderProfile}
 use Rattle.lvl_job.specs.Jobs.{named, OfOne, OfTwo}
 use Rattle.lvl_job.specs.inside.Parts.{IsNoIgnore, IsOneAnswered, IsOneFault, IsPairAnswered, IsPairFault, IsViewFault}
 use Rattle.lvl_job.specs.inside.Parts.{fault_of_run}
@@ -32,19 +32,19 @@ failed_run fault = Err fault
 
 module _ {S : Type 0} (opens : S → List ℕ → Option (Option (List ℕ)) → S → Type 0) where
   pub of_one : (old new : S) (a : Named) (xs left : Option (List ℕ)) (e after : ℕ) (Holds : Input → Type 0)
-      → opens old a.name (Some xs) new → e ≡ 0 → Holds (input a.ignore xs left e after a.top)
+      → opens old a.name (Some xs) new → e ≡ 0 → Holds (input a.profile xs left e after a.top)
       → OfOne opens old new a Holds
   of_one old new a xs left e after Holds opened fresh holds = record {
     bytes = xs;
     left = record { bytes = left; errors = after };
     opened = opened;
-    holds = (let P : ℕ → Type 0 = λ n. Holds (input a.ignore xs left n after a.top) in subst P fresh holds);
+    holds = (let P : ℕ → Type 0 = λ n. Holds (input a.profile xs left n after a.top) in subst P fresh holds);
   }
 
   pub of_two : (old between new : S) (a b : Named) (xs ys left rest : Option (List ℕ)) (e f after later : ℕ)
       (Holds : Input → Input → Type 0)
       → opens old a.name (Some xs) between → opens between b.name (Some ys) new → e ≡ 0 → f ≡ 0
-      → Holds (input a.ignore xs left e after a.top) (input b.ignore ys rest f later b.top)
+      → Holds (input a.profile xs left e after a.top) (input b.profile ys rest f later b.top)
       → OfTwo opens old new a b Holds
   of_two old between new a b xs ys left rest e f after later Holds first second fresh new_too holds = record {
     first = xs;
@@ -55,9 +55,9 @@ module _ {S : Type 0} (opens : S → List ℕ → Option (Option (List ℕ)) →
     first_opened = first;
     second_opened = second;
     holds =
-        (let P : ℕ → Type 0 = λ n. Holds (input a.ignore xs left n after a.top)
-        (input b.ignore ys rest f later b.top) in
-        let Q : ℕ → Type 0 = λ n. Holds (input a.ignore xs left 0 after a.top) (input b.ignore ys rest n later b.top) in
+        (let P : ℕ → Type 0 = λ n. Holds (input a.profile xs left n after a.top)
+        (input b.profile ys rest f later b.top) in
+        let Q : ℕ → Type 0 = λ n. Holds (input a.profile xs left 0 after a.top) (input b.profile ys rest n later b.top) in
         subst Q new_too (subst P fresh holds));
   }
 
@@ -89,18 +89,18 @@ module _ {S : Type 0} (opens : S → List ℕ → Option (Option (List ℕ)) →
         go RunOutOfMemory none = none refl
 
     -- a job on one file, by why the file isn't opened and how its answer is cut off
-    fault_of_one : (job : Job) (ignore : Ignore) (file : String Global) (top : Option (String Global)) (old new : S)
+    fault_of_one : (job : Job) (profile : Profile) (file : String Global) (top : Option (String Global)) (old new : S)
         (from to : Option (List ℕ))
         → ((name : List ℕ) → name ≡ string_bytes file → opens old name None new → IsNotOpened opens job old new name)
-        → (OfOne opens old new (named ignore file top) (λ a. IsBegun (IsAnswerOf a) text from to)
+        → (OfOne opens old new (named profile file top) (λ a. IsBegun (IsAnswerOf a) text from to)
         → IsCut opens job old new from to)
         → (r : Result Outcome JobFault)
-        → IfErr r (IsOneFault opens IsAnswerOf text (named ignore file top) old new from to)
+        → IfErr r (IsOneFault opens IsAnswerOf text (named profile file top) old new from to)
         → IfErr r (IsFaultOfJob opens job old new from to)
-    fault_of_one job ignore file top old new from to missing cut (Ok status) h = tt
-    fault_of_one job ignore file top old new from to missing cut (Err fault) h = go fault h
+    fault_of_one job profile file top old new from to missing cut (Ok status) h = tt
+    fault_of_one job profile file top old new from to missing cut (Err fault) h = go fault h
       where
-        go : (fault : JobFault) → IsOneFault opens IsAnswerOf text (named ignore file top) old new from to fault
+        go : (fault : JobFault) → IsOneFault opens IsAnswerOf text (named profile file top) old new from to fault
             → IsFaultOfJob opens job old new from to fault
         go (BadView fault) h = absurd h
         go (BadIgnore fault) h = absurd h
@@ -108,32 +108,32 @@ module _ {S : Type 0} (opens : S → List ℕ → Option (Option (List ℕ)) →
         go OutOfMemory h = h
         go Output h = cut h
 
-  module _ (first second : String Global) (top_a top_b map_text window_text ignored : Option (String Global))
-      (view : Option PlainView) (ignore : Ignore)
+  module _ (first second : String Global) (top_a top_b map_text window_text ignored : Option (String Global)) (is_large : Bool)
+      (view : Option PlainView) (profile : Profile)
       (asked : IsViewAsked (option_map string_bytes map_text) (option_map string_bytes window_text) view)
-      (given : IsIgnoreAsked (option_map string_bytes ignored) ignore) where
-    abbrev both : {Holds : Type 0} → Holds → UnderView map_text window_text (λ _. WithIgnored ignored (λ _. Holds))
-    both h = record { view = view; asked = asked; holds = record { ignore = ignore; asked = given; holds = h } }
+      (given : IsProfileAsked (option_map string_bytes ignored) is_large profile) where
+    abbrev both : {Holds : Type 0} → Holds → UnderView map_text window_text (λ _. UnderProfile ignored is_large (λ _. Holds))
+    both h = record { view = view; asked = asked; holds = record { profile = profile; asked = given; holds = h } }
 
     pub job_answered : (old new : S) (from to : Option (List ℕ)) (r : Result Outcome JobFault)
-        → IfOk r (IsPairAnswered opens view (named ignore first top_a) (named ignore second top_b) old new from to)
-        → IfOk r (IsAnswered opens (Compare first second top_a top_b map_text window_text ignored) old new from to)
+        → IfOk r (IsPairAnswered opens view (named profile first top_a) (named profile second top_b) old new from to)
+        → IfOk r (IsAnswered opens (Compare first second top_a top_b map_text window_text ignored is_large) old new from to)
     job_answered old new from to (Ok status) h = record {
       view = view;
       asked = asked;
-      holds = record { ignore = ignore; asked = given; holds = h };
+      holds = record { profile = profile; asked = given; holds = h };
     }
     job_answered old new from to (Err fault) h = tt
 
     pub job_fault : (old new : S) (from to : Option (List ℕ)) (r : Result Outcome JobFault)
-        → IfErr r (IsPairFault opens view (named ignore first top_a) (named ignore second top_b) old new from to)
-        → IfErr r (IsFaultOfJob opens (Compare first second top_a top_b map_text window_text ignored) old new from to)
+        → IfErr r (IsPairFault opens view (named profile first top_a) (named profile second top_b) old new from to)
+        → IfErr r (IsFaultOfJob opens (Compare first second top_a top_b map_text window_text ignored is_large) old new from to)
     job_fault old new from to (Ok status) h = tt
     job_fault old new from to (Err fault) h = go fault h
       where
         go : (fault : JobFault)
-            → IsPairFault opens view (named ignore first top_a) (named ignore second top_b) old new from to fault
-            → IsFaultOfJob opens (Compare first second top_a top_b map_text window_text ignored) old new from to fault
+            → IsPairFault opens view (named profile first top_a) (named profile second top_b) old new from to fault
+            → IsFaultOfJob opens (Compare first second top_a top_b map_text window_text ignored is_large) old new from to fault
         go (BadView fault) h = absurd h
         go (BadIgnore fault) h = absurd h
         go (NotOpened name) h = (both h.0, h.1)
@@ -141,52 +141,52 @@ module _ {S : Type 0} (opens : S → List ℕ → Option (Option (List ℕ)) →
         go Output h = record {
           view = view;
           asked = asked;
-          holds = record { ignore = ignore; asked = given; holds = h };
+          holds = record { profile = profile; asked = given; holds = h };
         }
 
-  module _ (file : String Global) (top ignored : Option (String Global)) (ignore : Ignore)
-      (given : IsIgnoreAsked (option_map string_bytes ignored) ignore) where
+  module _ (file : String Global) (top ignored : Option (String Global)) (is_large : Bool) (profile : Profile)
+      (given : IsProfileAsked (option_map string_bytes ignored) is_large profile) where
     pub shown_answered : (old new : S) (from to : Option (List ℕ)) (r : Result Outcome JobFault)
-        → IfOk r (IsOneAnswered opens IsShownBy text_of_shown (ends_by (shown_outcome ignore))
-        (named ignore file top) old new from to)
-        → IfOk r (IsAnswered opens (Show file top ignored) old new from to)
-    shown_answered old new from to (Ok status) h = record { ignore = ignore; asked = given; holds = h }
+        → IfOk r (IsOneAnswered opens IsShownBy text_of_shown (ends_by (shown_outcome profile))
+        (named profile file top) old new from to)
+        → IfOk r (IsAnswered opens (Show file top ignored is_large) old new from to)
+    shown_answered old new from to (Ok status) h = record { profile = profile; asked = given; holds = h }
     shown_answered old new from to (Err fault) h = tt
 
     pub digested_answered : (old new : S) (from to : Option (List ℕ)) (r : Result Outcome JobFault)
         → IfOk r
-        (IsOneAnswered opens IsDigestedBy text_of_digested (ends_by (shown_outcome ignore))
-        (named ignore file top) old new from to)
-        → IfOk r (IsAnswered opens (Digest file top ignored) old new from to)
-    digested_answered old new from to (Ok status) h = record { ignore = ignore; asked = given; holds = h }
+        (IsOneAnswered opens IsDigestedBy text_of_digested (ends_by (shown_outcome profile))
+        (named profile file top) old new from to)
+        → IfOk r (IsAnswered opens (Digest file top ignored is_large) old new from to)
+    digested_answered old new from to (Ok status) h = record { profile = profile; asked = given; holds = h }
     digested_answered old new from to (Err fault) h = tt
 
     pub shown_fault : (old new : S) (from to : Option (List ℕ)) (r : Result Outcome JobFault)
-        → IfErr r (IsOneFault opens IsShownBy text_of_shown (named ignore file top) old new from to)
-        → IfErr r (IsFaultOfJob opens (Show file top ignored) old new from to)
+        → IfErr r (IsOneFault opens IsShownBy text_of_shown (named profile file top) old new from to)
+        → IfErr r (IsFaultOfJob opens (Show file top ignored is_large) old new from to)
     shown_fault old new from to =
-        fault_of_one IsShownBy text_of_shown (Show file top ignored) ignore file top old new from to
-        (λ name e o. record { ignore = ignore; asked = given; holds = (e, o) })
-        (λ h. record { ignore = ignore; asked = given; holds = h })
+        fault_of_one IsShownBy text_of_shown (Show file top ignored is_large) profile file top old new from to
+        (λ name e o. record { profile = profile; asked = given; holds = (e, o) })
+        (λ h. record { profile = profile; asked = given; holds = h })
 
     pub digested_fault : (old new : S) (from to : Option (List ℕ)) (r : Result Outcome JobFault)
-        → IfErr r (IsOneFault opens IsDigestedBy text_of_digested (named ignore file top) old new from to)
-        → IfErr r (IsFaultOfJob opens (Digest file top ignored) old new from to)
+        → IfErr r (IsOneFault opens IsDigestedBy text_of_digested (named profile file top) old new from to)
+        → IfErr r (IsFaultOfJob opens (Digest file top ignored is_large) old new from to)
     digested_fault old new from to =
-        fault_of_one IsDigestedBy text_of_digested (Digest file top ignored) ignore file top old new from to
-        (λ name e o. record { ignore = ignore; asked = given; holds = (e, o) })
-        (λ h. record { ignore = ignore; asked = given; holds = h })
+        fault_of_one IsDigestedBy text_of_digested (Digest file top ignored is_large) profile file top old new from to
+        (λ name e o. record { profile = profile; asked = given; holds = (e, o) })
+        (λ h. record { profile = profile; asked = given; holds = h })
 
-  pub view_fault : (first second : String Global) (top_a top_b map_text window_text ignored : Option (String Global))
+  pub view_fault : (first second : String Global) (top_a top_b map_text window_text ignored : Option (String Global)) (is_large : Bool)
       (old : S) (from : Option (List ℕ)) (fault : JobFault)
       → IsViewFault (option_map string_bytes map_text) (option_map string_bytes window_text) fault
-      → IsFaultOfJob opens (Compare first second top_a top_b map_text window_text ignored) old old from from fault
-  view_fault first second top_a top_b map_text window_text ignored old from (BadView fault) h =
+      → IsFaultOfJob opens (Compare first second top_a top_b map_text window_text ignored is_large) old old from from fault
+  view_fault first second top_a top_b map_text window_text ignored is_large old from (BadView fault) h =
       (h, refl, keeps_same from)
-  view_fault first second top_a top_b map_text window_text ignored old from (BadIgnore fault) h = absurd h
-  view_fault first second top_a top_b map_text window_text ignored old from (NotOpened name) h = absurd h
-  view_fault first second top_a top_b map_text window_text ignored old from OutOfMemory h = keeps_same from
-  view_fault first second top_a top_b map_text window_text ignored old from Output h = absurd h
+  view_fault first second top_a top_b map_text window_text ignored is_large old from (BadIgnore fault) h = absurd h
+  view_fault first second top_a top_b map_text window_text ignored is_large old from (NotOpened name) h = absurd h
+  view_fault first second top_a top_b map_text window_text ignored is_large old from OutOfMemory h = keeps_same from
+  view_fault first second top_a top_b map_text window_text ignored is_large old from Output h = absurd h
 
   -- a job whose text of what is ignored is bad
   no_ignore : (job : Job) (text : Option (List ℕ)) (old : S) (from : Option (List ℕ)) (fault : JobFault)
@@ -198,26 +198,26 @@ module _ {S : Type 0} (opens : S → List ℕ → Option (Option (List ℕ)) →
   no_ignore job text old from OutOfMemory bad h = keeps_same from
   no_ignore job text old from Output bad h = absurd h
 
-  pub ignore_fault : (first second : String Global) (top_a top_b map_text window_text ignored : Option (String Global))
+  pub ignore_fault : (first second : String Global) (top_a top_b map_text window_text ignored : Option (String Global)) (is_large : Bool)
       (view : Option PlainView)
       → IsViewAsked (option_map string_bytes map_text) (option_map string_bytes window_text) view
       → (old : S) (from : Option (List ℕ)) (fault : JobFault) → IsNoIgnore (option_map string_bytes ignored) fault
-      → IsFaultOfJob opens (Compare first second top_a top_b map_text window_text ignored) old old from from fault
-  ignore_fault first second top_a top_b map_text window_text ignored view asked old from fault =
-      no_ignore (Compare first second top_a top_b map_text window_text ignored) (option_map string_bytes ignored) old
+      → IsFaultOfJob opens (Compare first second top_a top_b map_text window_text ignored is_large) old old from from fault
+  ignore_fault first second top_a top_b map_text window_text ignored is_large view asked old from fault =
+      no_ignore (Compare first second top_a top_b map_text window_text ignored is_large) (option_map string_bytes ignored) old
       from fault (λ h. record { view = view; asked = asked; holds = h })
 
-  pub shown_ignore_fault : (file : String Global) (top ignored : Option (String Global)) (old : S)
+  pub shown_ignore_fault : (file : String Global) (top ignored : Option (String Global)) (is_large : Bool) (old : S)
       (from : Option (List ℕ)) (fault : JobFault) → IsNoIgnore (option_map string_bytes ignored) fault
-      → IsFaultOfJob opens (Show file top ignored) old old from from fault
-  shown_ignore_fault file top ignored old from fault =
-      no_ignore (Show file top ignored) (option_map string_bytes ignored) old from fault (λ h. h)
+      → IsFaultOfJob opens (Show file top ignored is_large) old old from from fault
+  shown_ignore_fault file top ignored is_large old from fault =
+      no_ignore (Show file top ignored is_large) (option_map string_bytes ignored) old from fault (λ h. h)
 
-  pub digested_ignore_fault : (file : String Global) (top ignored : Option (String Global)) (old : S)
+  pub digested_ignore_fault : (file : String Global) (top ignored : Option (String Global)) (is_large : Bool) (old : S)
       (from : Option (List ℕ)) (fault : JobFault) → IsNoIgnore (option_map string_bytes ignored) fault
-      → IsFaultOfJob opens (Digest file top ignored) old old from from fault
-  digested_ignore_fault file top ignored old from fault =
-      no_ignore (Digest file top ignored) (option_map string_bytes ignored) old from fault (λ h. h)
+      → IsFaultOfJob opens (Digest file top ignored is_large) old old from from fault
+  digested_ignore_fault file top ignored is_large old from fault =
+      no_ignore (Digest file top ignored is_large) (option_map string_bytes ignored) old from fault (λ h. h)
 
 pub cut_is : (fault : RunFault) → is_cut (Err (fault_of_run fault)) ≡ is_output {A = Outcome} (Err fault)
 cut_is RunOutput = refl

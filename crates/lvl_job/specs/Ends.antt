@@ -9,7 +9,8 @@ use Rattle.lvl_profile.specs.declared.ignore.Ignore.{Ignore}
 use Rattle.lvl_region.specs.declared.region.Side.{Side}
 use Rattle.lvl_region.specs.declared.region.Side.TheVariants.{First, Second}
 use Rattle.lvl_report.specs.declared.hint.Hint.{Hint}
-use Rattle.lvl_report.specs.declared.hint.Hint.TheVariants.{IgnoreMore, Unpack, WithoutBlocks, NameTop, NameTopOf}
+use Rattle.lvl_report.specs.declared.hint.Hint.TheVariants.{IgnoreMore, LiftLimits, Unpack, WithoutBlocks, NameTop}
+use Rattle.lvl_report.specs.declared.hint.Hint.TheVariants.{NameTopOf}
 use Rattle.lvl_report.specs.declared.outcome.Outcome.{Outcome}
 use Rattle.lvl_text.specs.Faults.{ignore_fault, view_fault}
 use Rattle.lvl_report.specs.Texts.{line}
@@ -57,6 +58,7 @@ top_option Second = codes "--top-b"
 -- what would mend a refusal, on one line
 abbrev pub hint_text : Hint → List ℕ
 hint_text (IgnoreMore more) = line (codes "lvl: try --ignore " ++ ignore_words more)
+hint_text LiftLimits = line (codes "lvl: try " ++ codes "--large")
 hint_text Unpack =
     line (codes "lvl: neither GDSII nor OASIS: " ++ codes "if the file is compressed (gzip), unpack it first")
 hint_text WithoutBlocks =

@@ -1,11 +1,16 @@
 -- What a job does: which files it opens, in which order, and what it writes.
 use Rattle.std.specs.Prelude.{◌≡◌, ℕ, List, Option, Some, None, Result, Bool, true, false, ◌||◌, is_some, option_map}
+use Rattle.std.specs.Prelude.{if◌then◌else◌}
 use Rattle.std.specs.Prelude.{◌⊎◌}
 use Rattle.std.specs.Prelude.{String, string_bytes}
 use Rattle.std.specs.Global.{Global}
 use Rattle.std.specs.Io.KnownBytes.{Keeps}
 use Rattle.lvl_profile.specs.Ignored.{nothing, IsText}
+use Rattle.lvl_profile.specs.Limits.{standard}
 use Rattle.lvl_profile.specs.declared.ignore.Ignore.{Ignore}
+use Rattle.lvl_profile.specs.declared.limits.Limits.{Limits}
+use Rattle.lvl_profile.specs.declared.profile.Profile.{Profile}
+use Rattle.lvl_report.specs.Hints.{large}
 use Rattle.lvl.specs.declared.verdict.Comparison.{Comparison}
 use Rattle.lvl.specs.declared.verdict.Refusal.{Refusal}
 use Rattle.lvl_line.specs.declared.job.Job.{Job}
@@ -20,15 +25,15 @@ use Rattle.lvl_view.specs.Views.{PlainView, IsViewOf, IsFaultOf}
 use Rattle.lvl_job.specs.declared.fault.JobFault.{JobFault}
 use Rattle.lvl_job.specs.declared.fault.JobFault.TheVariants.{BadView, BadIgnore, NotOpened, OutOfMemory, Output}
 
--- the name of a file in a job, what is ignored in the file, and the name of its top
+-- the name of a file in a job, its profile, and the name of its top
 pub record Named : Type 0 where
-  pub ignore : Ignore
+  pub profile : Profile
   pub name : List ℕ
   pub top : Option (List ℕ)
 
 -- a file by its words in the command line
-abbrev pub named : Ignore → String Global → Option (String Global) → Named
-named ignore file top = record { ignore = ignore; name = string_bytes file; top = option_map string_bytes top }
+abbrev pub named : Profile → String Global → Option (String Global) → Named
+named profile file top = record { profile = profile; name = string_bytes file; top = option_map string_bytes top }
 
 -- a file after it was read: the bytes that are left, if they are known, and how many errors its reader returned
 pub record Left : Type 0 where
@@ -36,8 +41,8 @@ pub record Left : Type 0 where
   pub errors : ℕ
 
 -- a reader of these bytes, which had returned no errors before the run
-abbrev pub reader_of : Ignore → Option (List ℕ) → Left → Option (List ℕ) → Input
-reader_of ignore bytes left top = input ignore bytes left.bytes 0 left.errors top
+abbrev pub reader_of : Profile → Option (List ℕ) → Left → Option (List ℕ) → Input
+reader_of profile bytes left top = input profile bytes left.bytes 0 left.errors top
 
 -- the file was opened, and Holds is true of its reader; no other file was opened
 pub record OfOne {S : Type 0} (opens : S → List ℕ → Option (Option (List ℕ)) → S → Type 0) (old new : S) (a : Named)
@@ -45,7 +50,7 @@ pub record OfOne {S : Type 0} (opens : S → List ℕ → Option (Option (List �
   pub bytes : Option (List ℕ)
   pub left : Left
   pub opened : opens old a.name (Some bytes) new
-  pub holds : Holds (reader_of a.ignore bytes left a.top)
+  pub holds : Holds (reader_of a.profile bytes left a.top)
 
 -- both files were opened, `a` before `b`, and Holds is true of their readers; no other file was opened
 pub record OfTwo {S : Type 0} (opens : S → List ℕ → Option (Option (List ℕ)) → S → Type 0) (old new : S) (a b : Named)
@@ -57,7 +62,7 @@ pub record OfTwo {S : Type 0} (opens : S → List ℕ → Option (Option (List �
   pub second_left : Left
   pub first_opened : opens old a.name (Some first) between
   pub second_opened : opens between b.name (Some second) new
-  pub holds : Holds (reader_of a.ignore first first_left a.top) (reader_of b.ignore second second_left b.top)
+  pub holds : Holds (reader_of a.profile first first_left a.top) (reader_of b.profile second second_left b.top)
 
 -- the first file was opened, but then the second could not be
 pub record IsSecondMissing {S : Type 0} (opens : S → List ℕ → Option (Option (List ℕ)) → S → Type 0) (old new : S)
@@ -94,11 +99,20 @@ abbrev pub IsIgnoreAsked : Option (List ℕ) → Ignore → Type 0
 IsIgnoreAsked None ignore = ignore ≡ nothing
 IsIgnoreAsked (Some text) ignore = IsText text ignore
 
--- Holds is true of the set that a text of what is ignored gives
-pub record WithIgnored (ignored : Option (String Global)) (Holds : Ignore → Type 0) : Type 0 where
-  pub ignore : Ignore
-  pub asked : IsIgnoreAsked (option_map string_bytes ignored) ignore
-  pub holds : Holds ignore
+-- the limits that are asked for
+abbrev pub limits_asked : Bool → Limits
+limits_asked is_large = if is_large then large else standard
+
+-- the profile has the set that a text of what is ignored gives, and the limits that are asked for
+pub record IsProfileAsked (text : Option (List ℕ)) (is_large : Bool) (profile : Profile) : Type 0 where
+  pub ignore : IsIgnoreAsked text profile.ignore
+  pub limits : profile.limits ≡ limits_asked is_large
+
+-- Holds is true of the profile that is asked for
+pub record UnderProfile (ignored : Option (String Global)) (is_large : Bool) (Holds : Profile → Type 0) : Type 0 where
+  pub profile : Profile
+  pub asked : IsProfileAsked (option_map string_bytes ignored) is_large profile
+  pub holds : Holds profile
 
 -- the text gives no set of what is ignored
 abbrev pub IsIgnoreFault : Option (List ℕ) → Type 0
@@ -113,55 +127,55 @@ IsComparedUnder (Some view) = IsViewedBy view
 -- the answer to a job was written, and the job ends as it does for this answer
 abbrev pub IsAnswered : {S : Type 0} → (S → List ℕ → Option (Option (List ℕ)) → S → Type 0) → Job → S → S
     → Option (List ℕ) → Option (List ℕ) → Outcome → Type 0
-IsAnswered opens (Compare first second top_a top_b map_text window_text ignored) old new from to outcome =
-    UnderView map_text window_text (λ view. WithIgnored ignored (λ ignore.
-    OfTwo opens old new (named ignore first top_a) (named ignore second top_b) (λ a b.
-    IsWritten (IsComparedUnder view a b) text_of (IsOutcomeOf ignore) from to outcome)))
-IsAnswered opens (Show file top ignored) old new from to outcome =
-    WithIgnored ignored (λ ignore. OfOne opens old new (named ignore file top) (λ a.
-    IsWritten (IsShownBy a) text_of_shown (ends_by (shown_outcome ignore)) from to outcome))
-IsAnswered opens (Digest file top ignored) old new from to outcome =
-    WithIgnored ignored (λ ignore. OfOne opens old new (named ignore file top) (λ a.
-    IsWritten (IsDigestedBy a) text_of_digested (ends_by (shown_outcome ignore)) from to outcome))
+IsAnswered opens (Compare first second top_a top_b map_text window_text ignored is_large) old new from to outcome =
+    UnderView map_text window_text (λ view. UnderProfile ignored is_large (λ profile.
+    OfTwo opens old new (named profile first top_a) (named profile second top_b) (λ a b.
+    IsWritten (IsComparedUnder view a b) text_of (IsOutcomeOf profile) from to outcome)))
+IsAnswered opens (Show file top ignored is_large) old new from to outcome =
+    UnderProfile ignored is_large (λ profile. OfOne opens old new (named profile file top) (λ a.
+    IsWritten (IsShownBy a) text_of_shown (ends_by (shown_outcome profile)) from to outcome))
+IsAnswered opens (Digest file top ignored is_large) old new from to outcome =
+    UnderProfile ignored is_large (λ profile. OfOne opens old new (named profile file top) (λ a.
+    IsWritten (IsDigestedBy a) text_of_digested (ends_by (shown_outcome profile)) from to outcome))
 
 -- a beginning of the answer to a job was written
 abbrev pub IsCut : {S : Type 0} → (S → List ℕ → Option (Option (List ℕ)) → S → Type 0) → Job → S → S
     → Option (List ℕ) → Option (List ℕ) → Type 0
-IsCut opens (Compare first second top_a top_b map_text window_text ignored) old new from to =
-    UnderView map_text window_text (λ view. WithIgnored ignored (λ ignore.
-    OfTwo opens old new (named ignore first top_a) (named ignore second top_b) (λ a b.
+IsCut opens (Compare first second top_a top_b map_text window_text ignored is_large) old new from to =
+    UnderView map_text window_text (λ view. UnderProfile ignored is_large (λ profile.
+    OfTwo opens old new (named profile first top_a) (named profile second top_b) (λ a b.
     IsBegun (IsComparedUnder view a b) text_of from to)))
-IsCut opens (Show file top ignored) old new from to =
-    WithIgnored ignored (λ ignore.
-    OfOne opens old new (named ignore file top) (λ a. IsBegun (IsShownBy a) text_of_shown from to))
-IsCut opens (Digest file top ignored) old new from to =
-    WithIgnored ignored (λ ignore.
-    OfOne opens old new (named ignore file top) (λ a. IsBegun (IsDigestedBy a) text_of_digested from to))
+IsCut opens (Show file top ignored is_large) old new from to =
+    UnderProfile ignored is_large (λ profile.
+    OfOne opens old new (named profile file top) (λ a. IsBegun (IsShownBy a) text_of_shown from to))
+IsCut opens (Digest file top ignored is_large) old new from to =
+    UnderProfile ignored is_large (λ profile.
+    OfOne opens old new (named profile file top) (λ a. IsBegun (IsDigestedBy a) text_of_digested from to))
 
 -- the file of this name is the first in the job that could not be opened
 abbrev pub IsNotOpened : {S : Type 0} → (S → List ℕ → Option (Option (List ℕ)) → S → Type 0) → Job → S → S → List ℕ
     → Type 0
-IsNotOpened opens (Compare first second top_a top_b map_text window_text ignored) old new name =
-    UnderView map_text window_text (λ _. WithIgnored ignored (λ _.
+IsNotOpened opens (Compare first second top_a top_b map_text window_text ignored is_large) old new name =
+    UnderView map_text window_text (λ _. UnderProfile ignored is_large (λ _.
     IsMissing opens old new (string_bytes first) (string_bytes second) name))
-IsNotOpened opens (Show file top ignored) old new name =
-    WithIgnored ignored (λ _. (name ≡ string_bytes file) × opens old name None new)
-IsNotOpened opens (Digest file top ignored) old new name =
-    WithIgnored ignored (λ _. (name ≡ string_bytes file) × opens old name None new)
+IsNotOpened opens (Show file top ignored is_large) old new name =
+    UnderProfile ignored is_large (λ _. (name ≡ string_bytes file) × opens old name None new)
+IsNotOpened opens (Digest file top ignored is_large) old new name =
+    UnderProfile ignored is_large (λ _. (name ≡ string_bytes file) × opens old name None new)
 
 -- why the texts of a map and a window give no view; a job on one file has no such texts
 abbrev pub IsBadView : Job → ViewFault → Type 0
-IsBadView (Compare first second top_a top_b map_text window_text ignored) fault =
+IsBadView (Compare first second top_a top_b map_text window_text ignored is_large) fault =
     IsFaultOf (option_map string_bytes map_text) (option_map string_bytes window_text) fault
-IsBadView (Show file top ignored) fault = ⊥
-IsBadView (Digest file top ignored) fault = ⊥
+IsBadView (Show file top ignored is_large) fault = ⊥
+IsBadView (Digest file top ignored is_large) fault = ⊥
 
 -- the text of what is ignored gives no set, but the texts of a map and a window give a view
 abbrev pub IsBadIgnore : Job → Type 0
-IsBadIgnore (Compare first second top_a top_b map_text window_text ignored) =
+IsBadIgnore (Compare first second top_a top_b map_text window_text ignored is_large) =
     UnderView map_text window_text (λ _. IsIgnoreFault (option_map string_bytes ignored))
-IsBadIgnore (Show file top ignored) = IsIgnoreFault (option_map string_bytes ignored)
-IsBadIgnore (Digest file top ignored) = IsIgnoreFault (option_map string_bytes ignored)
+IsBadIgnore (Show file top ignored is_large) = IsIgnoreFault (option_map string_bytes ignored)
+IsBadIgnore (Digest file top ignored is_large) = IsIgnoreFault (option_map string_bytes ignored)
 
 -- the fault is true: if a text is bad, no file was opened; and unless the output failed, nothing was written
 abbrev pub IsFaultOfJob : {S : Type 0} → (S → List ℕ → Option (Option (List ℕ)) → S → Type 0) → Job → S → S

@@ -5,7 +5,8 @@ ghost use Rattle.std.specs.Prelude.{string_bytes};
 ghost use Rattle.lvl.specs.Sides.{given_name};
 ghost use Rattle.lvl_io.specs.Bytes.{CountsFailure};
 ghost use Rattle.lvl_job.specs.Ends.{IsSaid, end_code, end_text, is_cut};
-ghost use Rattle.lvl_job.specs.Jobs.{IsAnswered, IsComparedUnder, IsFaultOfJob, IsIgnoreAsked, IsViewAsked};
+ghost use Rattle.lvl_job.specs.Jobs.{IsAnswered, IsComparedUnder, IsFaultOfJob, IsIgnoreAsked, IsProfileAsked};
+ghost use Rattle.lvl_job.specs.Jobs.{IsViewAsked};
 ghost use Rattle.lvl_job.specs.Opening.{held};
 ghost use Rattle.lvl_job.specs.inside.Parts.{IsOneAnswered, IsOneFault, IsPairAnswered, IsPairFault, IsViewFault};
 ghost use Rattle.lvl_job.specs.inside.Parts.{fault_of_run, IsNoIgnore};
@@ -20,7 +21,7 @@ use crate::said::{say, say_outcome};
 use lvl::Tops;
 use lvl_io::{Read, Write};
 use lvl_line::Job;
-use lvl_profile::Ignore;
+use lvl_profile::{Ignore, Limits, Profile};
 use lvl_refusal::Cause;
 use lvl_report::{Outcome, RunFault, run_by, run_digest, run_show_by, run_view_by};
 use lvl_view::View;
@@ -82,6 +83,21 @@ fn ignore_of(alloc: Global, text: &Option<String>) -> Result<Ignore, JobFault>
     }
 }
 
+/// The profile that is asked for: the text of what is ignored, and whether the limits are those for whole
+/// chips.
+fn profile_of(alloc: Global, ignored: &Option<String>, large: bool) -> Result<Profile, JobFault>
+    ensures asked { IfOk result (IsProfileAsked (option_map string_bytes ignored.now) large) }
+    ensures fault { IfErr result (IsNoIgnore (option_map string_bytes ignored.now)) }
+{
+    let ignore = ignore_of(alloc, ignored)?;
+    let limits = if large {
+        Limits::LARGE
+    } else {
+        Limits::STANDARD
+    };
+    Ok(Profile { ignore, limits })
+}
+
 /// The fault of a run as one of its job.
 fn fault_of(fault: RunFault) -> JobFault
     ensures { result ≡ fault_of_run fault }
@@ -99,29 +115,29 @@ fn run_under<A: Read, B: Read, O: Write>(
     second: &mut B,
     tops: &Tops,
     view: Option<&View>,
-    ignore: Ignore,
+    profile: Profile,
     out: &mut O,
 ) -> Result<Outcome, RunFault>
     ensures written { IfOk result (IsWritten
         (IsComparedUnder (option_map (λ v. v.now) view.entry)
-        (input ignore (A.remaining first.old) (A.remaining first.new)
+        (input profile (A.remaining first.old) (A.remaining first.new)
         (A.read_errors first.old) (A.read_errors first.new) (given_name tops.now.first))
-        (input ignore (B.remaining second.old) (B.remaining second.new)
+        (input profile (B.remaining second.old) (B.remaining second.new)
         (B.read_errors second.old) (B.read_errors second.new) (given_name tops.now.second)))
-        text_of (IsOutcomeOf ignore) (O.contents out.old) (O.contents out.new)) }
+        text_of (IsOutcomeOf profile) (O.contents out.old) (O.contents out.new)) }
     ensures begun { OnErr result (IsBegun
         (IsComparedUnder (option_map (λ v. v.now) view.entry)
-        (input ignore (A.remaining first.old) (A.remaining first.new)
+        (input profile (A.remaining first.old) (A.remaining first.new)
         (A.read_errors first.old) (A.read_errors first.new) (given_name tops.now.first))
-        (input ignore (B.remaining second.old) (B.remaining second.new)
+        (input profile (B.remaining second.old) (B.remaining second.new)
         (B.read_errors second.old) (B.read_errors second.new) (given_name tops.now.second)))
         text_of (O.contents out.old) (O.contents out.new)) }
     ensures nothing { result ≡ Err RunFault.OutOfMemory → Keeps (O.contents out.old) (O.contents out.new) }
     ensures errors { CountsFailure (O.write_errors out.old) (O.write_errors out.new) (is_output result) }
 {
     match view {
-        Some(view) => run_view_by(alloc, first, second, tops, view, ignore, out),
-        None => run_by(alloc, first, second, tops, ignore, out),
+        Some(view) => run_view_by(alloc, first, second, tops, view, profile, out),
+        None => run_by(alloc, first, second, tops, profile, out),
     }
 }
 
@@ -131,23 +147,23 @@ fn compare<F: Files, O: Write>(
     names: (String, String),
     tops: &Tops,
     view: Option<&View>,
-    ignore: Ignore,
+    profile: Profile,
     files: &mut F,
     out: &mut O,
 ) -> Result<Outcome, JobFault>
     ensures answered { IfOk result (IsPairAnswered F.opens (option_map (λ v. v.now) view.entry)
-        (record { ignore = ignore; name = string_bytes names.0; top = given_name tops.now.first })
-        (record { ignore = ignore; name = string_bytes names.1; top = given_name tops.now.second })
+        (record { profile = profile; name = string_bytes names.0; top = given_name tops.now.first })
+        (record { profile = profile; name = string_bytes names.1; top = given_name tops.now.second })
         files.old files.new (O.contents out.old) (O.contents out.new)) }
     ensures fault { IfErr result (IsPairFault F.opens (option_map (λ v. v.now) view.entry)
-        (record { ignore = ignore; name = string_bytes names.0; top = given_name tops.now.first })
-        (record { ignore = ignore; name = string_bytes names.1; top = given_name tops.now.second })
+        (record { profile = profile; name = string_bytes names.0; top = given_name tops.now.first })
+        (record { profile = profile; name = string_bytes names.1; top = given_name tops.now.second })
         files.old files.new (O.contents out.old) (O.contents out.new)) }
     ensures errors { CountsFailure (O.write_errors out.old) (O.write_errors out.new) (is_cut result) }
 {
     let mut first = open(files, names.0)?;
     let mut second = open(files, names.1)?;
-    match run_under(alloc, &mut first, &mut second, tops, view, ignore, out) {
+    match run_under(alloc, &mut first, &mut second, tops, view, profile, out) {
         Ok(outcome) => Ok(outcome),
         Err(fault) => Err(fault_of(fault)),
     }
@@ -158,20 +174,20 @@ fn show<F: Files, O: Write>(
     alloc: Global,
     name: String,
     top: Option<&[u8]>,
-    ignore: Ignore,
+    profile: Profile,
     files: &mut F,
     out: &mut O,
 ) -> Result<Outcome, JobFault>
-    ensures answered { IfOk result (IsOneAnswered F.opens IsShownBy text_of_shown (ends_by (shown_outcome ignore))
-        (record { ignore = ignore; name = string_bytes name; top = option_copied top.entry })
+    ensures answered { IfOk result (IsOneAnswered F.opens IsShownBy text_of_shown (ends_by (shown_outcome profile))
+        (record { profile = profile; name = string_bytes name; top = option_copied top.entry })
         files.old files.new (O.contents out.old) (O.contents out.new)) }
     ensures fault { IfErr result (IsOneFault F.opens IsShownBy text_of_shown
-        (record { ignore = ignore; name = string_bytes name; top = option_copied top.entry })
+        (record { profile = profile; name = string_bytes name; top = option_copied top.entry })
         files.old files.new (O.contents out.old) (O.contents out.new)) }
     ensures errors { CountsFailure (O.write_errors out.old) (O.write_errors out.new) (is_cut result) }
 {
     let mut file = open(files, name)?;
-    match run_show_by(alloc, &mut file, top, ignore, out) {
+    match run_show_by(alloc, &mut file, top, profile, out) {
         Ok(outcome) => Ok(outcome),
         Err(fault) => Err(fault_of(fault)),
     }
@@ -182,20 +198,20 @@ fn digest<F: Files, O: Write>(
     alloc: Global,
     name: String,
     top: Option<&[u8]>,
-    ignore: Ignore,
+    profile: Profile,
     files: &mut F,
     out: &mut O,
 ) -> Result<Outcome, JobFault>
-    ensures answered { IfOk result (IsOneAnswered F.opens IsDigestedBy text_of_digested (ends_by (shown_outcome ignore))
-        (record { ignore = ignore; name = string_bytes name; top = option_copied top.entry })
+    ensures answered { IfOk result (IsOneAnswered F.opens IsDigestedBy text_of_digested (ends_by (shown_outcome profile))
+        (record { profile = profile; name = string_bytes name; top = option_copied top.entry })
         files.old files.new (O.contents out.old) (O.contents out.new)) }
     ensures fault { IfErr result (IsOneFault F.opens IsDigestedBy text_of_digested
-        (record { ignore = ignore; name = string_bytes name; top = option_copied top.entry })
+        (record { profile = profile; name = string_bytes name; top = option_copied top.entry })
         files.old files.new (O.contents out.old) (O.contents out.new)) }
     ensures errors { CountsFailure (O.write_errors out.old) (O.write_errors out.new) (is_cut result) }
 {
     let mut file = open(files, name)?;
-    match run_digest(alloc, &mut file, top, ignore, out) {
+    match run_digest(alloc, &mut file, top, profile, out) {
         Ok(outcome) => Ok(outcome),
         Err(fault) => Err(fault_of(fault)),
     }
@@ -223,9 +239,10 @@ fn perform<F: Files, O: Write>(
             map,
             window,
             ignore,
+            large,
         } => {
             let view = view_of(alloc, &map, &window)?;
-            let ignore = ignore_of(alloc, &ignore)?;
+            let profile = profile_of(alloc, &ignore, large)?;
             let tops = Tops {
                 first: top_of(top_a),
                 second: top_of(top_b),
@@ -235,25 +252,35 @@ fn perform<F: Files, O: Write>(
                 (first, second),
                 &tops,
                 view.as_ref(),
-                ignore,
+                profile,
                 files,
                 out,
             )
         }
-        Job::Show { file, top, ignore } => {
-            let ignore = ignore_of(alloc, &ignore)?;
+        Job::Show {
+            file,
+            top,
+            ignore,
+            large,
+        } => {
+            let profile = profile_of(alloc, &ignore, large)?;
             let top = top_of(top);
             show(alloc, file, top.as_deref(), ignore, files, out)
         }
-        Job::Digest { file, top, ignore } => {
-            let ignore = ignore_of(alloc, &ignore)?;
+        Job::Digest {
+            file,
+            top,
+            ignore,
+            large,
+        } => {
+            let profile = profile_of(alloc, &ignore, large)?;
             let top = top_of(top);
             digest(alloc, file, top.as_deref(), ignore, files, out)
         }
     }
 }
 
-/// Does a job: reads the texts of its view and of what is ignored, opens its files by `files`, the first
+/// Does a job: reads the texts of its view and of what is ignored, takes the limits that it asks for, opens its files by `files`, the first
 /// before the second, and writes its answer to `out`. If there is no answer, it writes one line to `err`
 /// that says why; if the answer is a refusal that something would mend, one line that says what; and if it
 /// is a verdict on files whose grid steps differ, one line that says so.

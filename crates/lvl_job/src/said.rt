@@ -118,6 +118,7 @@ fn words_of_hint(hint: Hint) -> (&'static str, &'static str)
 {
     match hint {
         Hint::IgnoreMore(more) => ("lvl: try --ignore ", ignore_words(more)),
+        Hint::LiftLimits => ("lvl: try ", "--large"),
         Hint::Unpack => (
             "lvl: neither GDSII nor OASIS: ",
             "if the file is compressed (gzip), unpack it first",

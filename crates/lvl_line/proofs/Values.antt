@@ -1,6 +1,7 @@
 -- If a level of a parse ends without a fault, each argument that was given has a value.
 use Rattle.std.proofs.Common.{◌≡◌, ◌∙◌, ◌<◌, ◌+◌, min, ◌&&◌, ◌||◌, ◌⊎◌, ℕ, Bool, cond, true, false, zero, suc, refl}
 use Rattle.std.proofs.Common.{sym, ap, arith, List, [], ◌∷◌, ◌++◌, length, drop, Option, Some, None, inl, inr, is_some}
+use Rattle.std.proofs.Common.{ltb-true}
 use Rattle.std.specs.Prelude.{encode_utf8, slice_get, nat_lt, option_and_then}
 use Rattle.std.specs.Option.{option_map_or}
 use Rattle.std.specs.List.{find, fold, list_all, list_any}
@@ -73,9 +74,10 @@ have_with_count id how s n rows h =
 
 -- ---- one use of an argument
 
--- a use of the argument asks for help or the version, or needs at least one value
+-- a use of the argument asks for help or the version, or needs at least one value, or has values that stand for none
 abbrev pub wants_value : Rule → Bool
-wants_value a = is_request (action_of a) || nat_lt 0 (unwrap_or_range a.range).start_inclusive
+wants_value a =
+    is_request (action_of a) || (nat_lt 0 (unwrap_or_range a.range).start_inclusive || nat_lt 0 (length a.missing))
 
 abbrev pub WantValues : List Rule → Type 0
 WantValues c = list_all wants_value c ≡ true
@@ -136,12 +138,22 @@ have_used : (again : Bool) (a : Rule) (values : List Text) (rows : List Row) →
 have_used again a values rows wants none h =
     have_used_as (action_of a) a.id (reading_by a) (values_or_missing a values) rows (some (either _ _ wants)) h
   where
-    some : (is_request (action_of a) ≡ true) ⊎ (nat_lt 0 (unwrap_or_range a.range).start_inclusive ≡ true)
+    stands : (vs : List Text) → 0 < length a.missing → 0 < length (values_or_missing a vs)
+    stands [] lt = lt
+    stands (v ∷ vs) lt = omega arith
+
+    least : (nat_lt 0 (unwrap_or_range a.range).start_inclusive ≡ true) ⊎ (nat_lt 0 (length a.missing) ≡ true)
+        → 0 < length (values_or_missing a values)
+    least (inl e) =
+        let lt = given_some _ _ values e (neither _ _ none).0 in
+        rw (same_values a values lt) lt
+    least (inr e) = stands values (ltb-true 0 (length a.missing) e)
+
+    some : (is_request (action_of a) ≡ true)
+        ⊎ ((nat_lt 0 (unwrap_or_range a.range).start_inclusive || nat_lt 0 (length a.missing)) ≡ true)
         → (is_request (action_of a) ≡ true) ⊎ (0 < length (values_or_missing a values))
     some (inl e) = inl e
-    some (inr e) =
-        let lt = given_some _ _ values e (neither _ _ none).0 in
-        inr (rw (same_values a values lt) lt)
+    some (inr e) = inr (least (either _ _ e))
 
 -- ---- the walk
 

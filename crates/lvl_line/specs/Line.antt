@@ -1,11 +1,14 @@
 -- The command line of the program, as `clap` reads it, and what its words mean (own rule).
-use Rattle.std.specs.Prelude.{◌≡◌, List, Option, Some, None, true, codes, option_map}
+use Rattle.std.specs.Prelude.{◌≡◌, Bool, List, Option, Some, None, true, false, codes, option_map}
+use Rattle.std.specs.Option.{option_map_or}
+use Rattle.std.specs.Str.{bytes_eq}
 use Rattle.std.specs.String.{string_bytes}
 use Rattle.clap.specs.Walk.{Row, Rule, Text, first_of}
 use Rattle.clap.specs.Values.{kind_of}
 use Rattle.clap.specs.Kinds.{IsAmong}
 use Rattle.clap.specs.Faults.{fault_of}
 use Rattle.clap.specs.Simple.{App, new_app, new_rule, subcommand_of, with_rule, with_subcommand}
+use Rattle.clap.specs.declared.builder.action.ArgAction.TheVariants.{SetTrue}
 use Rattle.lvl_line.specs.declared.job.Job.{Job}
 use Rattle.lvl_line.specs.declared.job.Job.TheVariants as job
 use Rattle.lvl_line.specs.declared.job.LineFault.{LineFault}
@@ -19,17 +22,22 @@ file_rule id = record (new_rule id) { required = true }
 abbrev pub option_rule : Text → Rule
 option_rule id = record (new_rule id) { long = Some id; value_names = 1 }
 
--- `compare A B [--top-a NAME] [--top-b NAME] [--map PAIRS] [--window RANGES] [--ignore WORDS]`
+-- an option with no value
+abbrev pub flag_rule : Text → Rule
+flag_rule id = record (new_rule id) { long = Some id; action = Some SetTrue }
+
+-- `compare A B [--top-a NAME] [--top-b NAME] [--map PAIRS] [--window RANGES] [--ignore WORDS] [--large]`
 abbrev pub compare_app : App
-compare_app = with_rule (with_rule (with_rule (with_rule (with_rule (with_rule (with_rule (new_app (codes "compare"))
+compare_app = with_rule (with_rule (with_rule (with_rule (with_rule (with_rule (with_rule (with_rule
+    (new_app (codes "compare"))
     (file_rule (codes "A"))) (file_rule (codes "B")))
     (option_rule (codes "top-a"))) (option_rule (codes "top-b")))
-    (option_rule (codes "map"))) (option_rule (codes "window"))) (option_rule (codes "ignore"))
+    (option_rule (codes "map"))) (option_rule (codes "window"))) (option_rule (codes "ignore"))) (flag_rule (codes "large"))
 
--- `NAME A [--top NAME] [--ignore WORDS]`
+-- `NAME A [--top NAME] [--ignore WORDS] [--large]`
 abbrev pub one_file_app : Text → App
-one_file_app name = with_rule (with_rule (with_rule (new_app name) (file_rule (codes "A")))
-    (option_rule (codes "top"))) (option_rule (codes "ignore"))
+one_file_app name = with_rule (with_rule (with_rule (with_rule (new_app name) (file_rule (codes "A")))
+    (option_rule (codes "top"))) (option_rule (codes "ignore"))) (flag_rule (codes "large"))
 
 -- the line without subcommands
 abbrev pub plain_line : App
@@ -41,9 +49,13 @@ line = with_subcommand (with_subcommand (with_subcommand (record plain_line {
   top = record plain_line.top { has_version = true; subcommand_required = true };
 }) compare_app.top) (one_file_app (codes "show")).top) (one_file_app (codes "digest")).top
 
+-- whether the option with no value is given: `clap` then gives it the text `true`
+abbrev pub is_set : Text → List Row → Bool
+is_set id rows = option_map_or (λ text. bytes_eq text (codes "true")) (first_of id rows) false
+
 -- the job has the values that `clap` finds in the words, under the subcommand of that name
 abbrev pub IsNamed : Job → Option (Text × List Row) → Type 0
-IsNamed (job.Compare first second top_a top_b layers window ignored) (Some (name, rows)) =
+IsNamed (job.Compare first second top_a top_b layers window ignored large) (Some (name, rows)) =
     (name ≡ codes "compare")
     × (first_of (codes "A") rows ≡ Some (string_bytes first))
     × (first_of (codes "B") rows ≡ Some (string_bytes second))
@@ -52,16 +64,19 @@ IsNamed (job.Compare first second top_a top_b layers window ignored) (Some (name
     × (first_of (codes "map") rows ≡ option_map string_bytes layers)
     × (first_of (codes "window") rows ≡ option_map string_bytes window)
     × (first_of (codes "ignore") rows ≡ option_map string_bytes ignored)
-IsNamed (job.Show file top ignored) (Some (name, rows)) =
+    × (is_set (codes "large") rows ≡ large)
+IsNamed (job.Show file top ignored large) (Some (name, rows)) =
     (name ≡ codes "show")
     × (first_of (codes "A") rows ≡ Some (string_bytes file))
     × (first_of (codes "top") rows ≡ option_map string_bytes top)
     × (first_of (codes "ignore") rows ≡ option_map string_bytes ignored)
-IsNamed (job.Digest file top ignored) (Some (name, rows)) =
+    × (is_set (codes "large") rows ≡ large)
+IsNamed (job.Digest file top ignored large) (Some (name, rows)) =
     (name ≡ codes "digest")
     × (first_of (codes "A") rows ≡ Some (string_bytes file))
     × (first_of (codes "top") rows ≡ option_map string_bytes top)
     × (first_of (codes "ignore") rows ≡ option_map string_bytes ignored)
+    × (is_set (codes "large") rows ≡ large)
 IsNamed _ None = ⊥
 
 -- the words mean the job, by `clap`

@@ -14,12 +14,16 @@ pub enum Job {
         map: Option<String>,
         window: Option<String>,
         ignore: Option<String>,
+        /// Whether the limits are those for whole chips.
+        large: bool,
     },
     /// To show a file, with the name of its top cell and the text of what is ignored if they are given.
     Show {
         file: String,
         top: Option<String>,
         ignore: Option<String>,
+        /// Whether the limits are those for whole chips.
+        large: bool,
     },
     /// To hash what a file draws, with the name of its top cell and the text of what is ignored if they are
     /// given.
@@ -27,6 +31,8 @@ pub enum Job {
         file: String,
         top: Option<String>,
         ignore: Option<String>,
+        /// Whether the limits are those for whole chips.
+        large: bool,
     },
 }
 

@@ -2,7 +2,7 @@
 ghost use Rattle.std.specs.Prelude.{◌≡◌, ◌≢◌, ◌⊎◌, Some, true, codes, map, option_map, IfOk, IfErr};
 ghost use Rattle.std.specs.String.{string_bytes};
 ghost use Rattle.clap.specs.Words.{first_of, found_of, kind_of, rows_of, takes};
-ghost use Rattle.lvl_line.specs.Line.{line, IsJob, IsNamed, IsRefusal};
+ghost use Rattle.lvl_line.specs.Line.{line, is_set, IsJob, IsNamed, IsRefusal};
 ghost use Rattle.lvl_line.specs.declared.job.LineFault.TheVariants.{OutOfMemory, Words};
 ghost use Rattle.lvl_line.specs.inside.Given.{HasValue, IsJobOf};
 
@@ -19,6 +19,16 @@ fn value_of(alloc: Global, matches: &ArgMatches<'_>, id: &str) -> Result<Option<
     match matches.get_str(id) {
         Some(text) => Ok(Some(String::from_str(alloc, text)?)),
         None => Ok(None),
+    }
+}
+
+/// Whether an option with no value is given.
+fn is_set(matches: &ArgMatches<'_>, id: &str) -> bool
+    ensures { result ≡ is_set id.now (rows_of (found_of matches.now)) }
+{
+    match matches.get_str(id) {
+        Some(text) => text == "true",
+        None => false,
     }
 }
 
@@ -47,6 +57,7 @@ fn compare_of(alloc: Global, matches: &ArgMatches<'_>) -> Result<Job, AllocError
         map: value_of(alloc, matches, "map")?,
         window: value_of(alloc, matches, "window")?,
         ignore: value_of(alloc, matches, "ignore")?,
+        large: is_set(matches, "large"),
     })
 }
 
@@ -61,10 +72,21 @@ fn job_of(alloc: Global, name: &str, matches: &ArgMatches<'_>) -> Result<Job, Al
     let file = file_of(alloc, matches, "A")?;
     let top = value_of(alloc, matches, "top")?;
     let ignore = value_of(alloc, matches, "ignore")?;
+    let large = is_set(matches, "large");
     if name == "show" {
-        return Ok(Job::Show { file, top, ignore });
+        return Ok(Job::Show {
+            file,
+            top,
+            ignore,
+            large,
+        });
     }
-    Ok(Job::Digest { file, top, ignore })
+    Ok(Job::Digest {
+        file,
+        top,
+        ignore,
+        large,
+    })
 }
 
 /// The fault for an error of `clap`, which may be a failed allocation.

@@ -14,9 +14,9 @@ steps a i b j = record { x = (pos i *ℤ a.x) +ℤ (pos j *ℤ b.x); y = (pos i 
 abbrev pub lattice : Point → ℕ → Point → ℕ → List Point
 lattice a m b n = map (λ k. steps a (k % m) b (k / m)) (range_with_len 0 (m * n))
 
--- the greatest number of shifts of a lattice (own rule)
+-- the greatest number of shifts of a lattice, 2 ^ 60 (own rule)
 abbrev pub most_places : ℕ
-most_places = 16777216
+most_places = 1152921504606846976
 
 -- the lattice may be kept: both counts are at least 1, it has at most `most_places` shifts, and each fits in
 -- 64 signed bits

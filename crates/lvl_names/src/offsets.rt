@@ -13,8 +13,8 @@ use std::marker::Model;
 use std::mem;
 use std::rc::Rc;
 
-/// The greatest number of shifts of a lattice (own rule).
-const MOST_PLACES: u64 = 16_777_216;
+/// The greatest number of shifts of a lattice, 2^60 (own rule).
+const MOST_PLACES: u64 = 1 << 60;
 
 /// How shifts are stored. A lattice has a step and a count along each of its two directions.
 #[derive(Debug, Drop)]
@@ -199,7 +199,7 @@ impl Offsets {
     }
 
     /// The shifts `i * a + j * b` with `i < m` and `j < n`, ordered by `j`, then by `i`. None if
-    /// `m` or `n` is 0, if there are more than 16,777,216 shifts, or if one is outside 64 signed
+    /// `m` or `n` is 0, if there are more than 2^60 shifts, or if one is outside 64 signed
     /// bits (own rules). Takes constant time.
     pub fn lattice(a: Point, m: u64, b: Point, n: u64) -> Option<Offsets>
         ensures some { IsSome result ↔ IsLattice a m b n }

@@ -1,7 +1,7 @@
 -- What a run wrote, by its answer.
 use Rattle.std.proofs.Common.{◌≡◌, ℕ, List, Option, Result, Ok, Err, IfOk, OnOk, OnErr, ap}
 use Rattle.std.specs.Io.KnownBytes.{Appends}
-use Rattle.lvl_profile.specs.declared.ignore.Ignore.{Ignore}
+use Rattle.lvl_profile.specs.declared.profile.Profile.{Profile}
 use Rattle.lvl_report.specs.declared.status.RunFault.{RunFault}
 use Rattle.lvl_view.specs.Views.{IsWhole, PlainView}
 use Rattle.lvl.specs.Answers.{IsCompared}
@@ -70,15 +70,15 @@ ends_as text Ends part Then old new so ended w = record {
   ends = so w.answer ended w.ends;
 }
 
-pub status_is : (ignore : Ignore) (answer : Result Comparison Refusal) (o : Outcome) → IsOutcomeOf ignore answer o
+pub status_is : (profile : Profile) (answer : Result Comparison Refusal) (o : Outcome) → IsOutcomeOf profile answer o
     → o.status ≡ status_of answer
-status_is ignore (Ok comparison) o end = end.status_is
-status_is ignore (Err refusal) o end = end.status_is
+status_is profile (Ok comparison) o end = end.status_is
+status_is profile (Err refusal) o end = end.status_is
 
-pub shown_status_is : {X : Type 0} (ignore : Ignore) (answer : Result X Refusal) (o : Outcome)
-    → o ≡ shown_outcome ignore answer → o.status ≡ shown_status answer
-shown_status_is ignore (Ok x) o end = ap (λ (p : Outcome). p.status) end
-shown_status_is ignore (Err refusal) o end = ap (λ (p : Outcome). p.status) end
+pub shown_status_is : {X : Type 0} (profile : Profile) (answer : Result X Refusal) (o : Outcome)
+    → o ≡ shown_outcome profile answer → o.status ≡ shown_status answer
+shown_status_is profile (Ok x) o end = ap (λ (p : Outcome). p.status) end
+shown_status_is profile (Err refusal) o end = ap (λ (p : Outcome). p.status) end
 
 whole_said : (view : PlainView) → IsWhole view → (a b : File) (answer : Result Comparison Refusal)
     → IfOk answer (IsComparedIn view a b) → IfOk answer (IsCompared a b)

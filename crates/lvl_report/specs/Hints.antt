@@ -1,19 +1,26 @@
--- What would mend a refusal: to ignore more, to give an option, or to use another program (own rule).
-use Rattle.std.specs.Prelude.{ℕ, ◌==◌, ◌&&◌, if◌then◌else◌, Bool, true, false, List, [], ◌∷◌, Option, Some, None}
+-- What would mend a refusal: to ignore more, to lift limits, to give another option, or to use another program (own
+-- rule).
+use Rattle.std.specs.Prelude.{ℕ, ◌==◌, ◌&&◌, nat_lt, if◌then◌else◌, Bool, true, false, List, [], ◌∷◌, Option, Some, None}
 use Rattle.std.specs.Prelude.{◌≡◌, Result, Ok, Err, is_ok, option_map}
-use Rattle.lvl_cells.specs.declared.fault.CellFault.TheVariants.{ManyTops}
+use Rattle.lvl_cells.specs.declared.fault.CellFault.TheVariants.{ManyTops, TooManyPlacements, TooManyRings}
+use Rattle.lvl_cells.specs.declared.fault.CellFault.{CellFault}
 use Rattle.lvl_profile.specs.declared.ignore.Ignore.{Ignore}
+use Rattle.lvl_profile.specs.declared.limits.Limits.{Limits}
+use Rattle.lvl_profile.specs.declared.profile.Profile.{Profile}
 use Rattle.gds_records.specs.Table.{is_ignored}
 use Rattle.gds_records.specs.declared.fault.RecordFault.{RecordFault}
 use Rattle.gds_records.specs.declared.fault.RecordFault.TheVariants.{BadLength, BadDataType, UnknownRecord}
+use Rattle.gds_records.specs.declared.fault.RecordFault.TheVariants.{TooLong as RecordTooLong}
+use Rattle.gds_elements.specs.declared.fault.ElementRule.TheVariants.{Repetition}
 use Rattle.gds_elements.specs.declared.fault.Misplaced.TheVariants.{Unsupported as UnsupportedType}
 use Rattle.gds_library.specs.declared.fault.GdsKind.{GdsKind}
-use Rattle.gds_library.specs.declared.fault.GdsKind.TheVariants.{Record as GdsRecord, Misplaced}
-use Rattle.oasis_values.specs.declared.fault.ValueFault.TheVariants.{IntegerTooLarge}
+use Rattle.gds_library.specs.declared.fault.GdsKind.TheVariants.{Record as GdsRecord, Misplaced, Element}
+use Rattle.gds_library.specs.declared.fault.GdsKind.TheVariants.{TooManyCells as TooManyStructures}
+use Rattle.oasis_values.specs.declared.fault.ValueFault.TheVariants.{IntegerTooLarge, RepetitionSize, TooLong}
 use Rattle.oasis_records.specs.Records.{record_type}
 use Rattle.oasis_records.specs.declared.fault.RecordRule.TheVariants.{Unsupported as UnsupportedId}
 use Rattle.oasis_stream.specs.declared.fault.OasisKind.{OasisKind}
-use Rattle.oasis_stream.specs.declared.fault.OasisKind.TheVariants.{Value, Record}
+use Rattle.oasis_stream.specs.declared.fault.OasisKind.TheVariants.{Value, Record, TooManyCells}
 use Rattle.oasis_library.specs.declared.fault.OasisFault.TheVariants.{At, Unresolved}
 use Rattle.lvl.specs.declared.layout.FileFault.{FileFault}
 use Rattle.lvl.specs.declared.layout.FileFault.TheVariants.{Gds, Oasis}
@@ -26,24 +33,34 @@ use Rattle.lvl_report.specs.declared.status.Status.TheVariants.{Shown as ShownSt
 use Rattle.lvl_report.specs.Steps.{AreStepsSaid}
 use Rattle.lvl_report.specs.declared.outcome.Outcome.{Outcome}
 use Rattle.lvl_report.specs.declared.hint.Hint.{Hint}
-use Rattle.lvl_report.specs.declared.hint.Hint.TheVariants.{IgnoreMore, Unpack, WithoutBlocks, NameTop, NameTopOf}
+use Rattle.lvl_report.specs.declared.hint.Hint.TheVariants.{IgnoreMore, LiftLimits, Unpack, WithoutBlocks, NameTop}
+use Rattle.lvl_report.specs.declared.hint.Hint.TheVariants.{NameTopOf}
 
--- whether the record for which a GDSII file is refused is read if `ignore` is ignored
-abbrev pub reads_record : Ignore → GdsKind → Bool
-reads_record ignore (Misplaced (UnsupportedType kind)) = is_ignored ignore kind
-reads_record ignore kind = false
+-- the limits for whole chips
+abbrev pub large : Limits
+large = record {
+  file = 1152921504606846976;
+  cells = 16777216;
+  placed = 1152921504606846976;
+  array = 1073676289;
+}
 
--- whether the record or the integer for which an OASIS file is refused is read if `ignore` is ignored
-abbrev pub reads_spelling : Ignore → OasisKind → Bool
-reads_spelling ignore (Value IntegerTooLarge) = ignore.padding
-reads_spelling ignore (Record (UnsupportedId id)) = is_ok (record_type ignore id)
-reads_spelling ignore kind = false
+-- whether the record for which a GDSII file is refused is read under the profile
+abbrev pub reads_record : Profile → GdsKind → Bool
+reads_record profile (Misplaced (UnsupportedType kind)) = is_ignored profile.ignore kind
+reads_record profile kind = false
+
+-- whether the record or the integer for which an OASIS file is refused is read under the profile
+abbrev pub reads_spelling : Profile → OasisKind → Bool
+reads_spelling profile (Value IntegerTooLarge) = profile.ignore.padding
+reads_spelling profile (Record (UnsupportedId id)) = is_ok (record_type profile id)
+reads_spelling profile kind = false
 
 -- the same for a file of either format
-abbrev pub is_read_by : Ignore → FileFault → Bool
-is_read_by ignore (Gds fault) = reads_record ignore fault.kind
-is_read_by ignore (Oasis (At offset kind)) = reads_spelling ignore kind
-is_read_by ignore (Oasis (Unresolved number)) = false
+abbrev pub is_read_by : Profile → FileFault → Bool
+is_read_by profile (Gds fault) = reads_record profile fault.kind
+is_read_by profile (Oasis (At offset kind)) = reads_spelling profile kind
+is_read_by profile (Oasis (Unresolved number)) = false
 
 -- the sets with one more word than `given`, in the order of the words
 abbrev pub with_one_more : Ignore → List Ignore
@@ -51,16 +68,43 @@ with_one_more given =
     record given { properties = true } ∷ record given { texts = true } ∷ record given { names = true }
     ∷ record given { padding = true } ∷ []
 
--- the first of the sets with which the record or integer is read
-abbrev pub first_that_reads : FileFault → List Ignore → Option Ignore
-first_that_reads fault [] = None
-first_that_reads fault (more ∷ others) =
-    if is_read_by more fault then Some more else first_that_reads fault others
+-- the first of the sets with which the record or integer is read, within these limits
+abbrev pub first_that_reads : Limits → FileFault → List Ignore → Option Ignore
+first_that_reads limits fault [] = None
+first_that_reads limits fault (more ∷ others) =
+    if is_read_by (record { ignore = more; limits = limits }) fault then Some more
+    else first_that_reads limits fault others
 
 -- what to ignore so that it is read; None if it is read already, or if no word would change that
-abbrev pub to_ignore : Ignore → FileFault → Option Ignore
+abbrev pub to_ignore : Profile → FileFault → Option Ignore
 to_ignore given fault =
-    if is_read_by given fault then None else first_that_reads fault (with_one_more given)
+    if is_read_by given fault then None else first_that_reads given.limits fault (with_one_more given.ignore)
+
+-- whether a GDSII file is refused by a limit that is lower than the one for whole chips
+abbrev pub lifts_gds : Limits → GdsKind → Bool
+lifts_gds given (GdsRecord RecordTooLong) = nat_lt given.file large.file
+lifts_gds given (Element Repetition) = nat_lt given.array large.array
+lifts_gds given TooManyStructures = nat_lt given.cells large.cells
+lifts_gds given kind = false
+
+-- the same for an OASIS file
+abbrev pub lifts_oasis : Limits → OasisKind → Bool
+lifts_oasis given (Value TooLong) = nat_lt given.file large.file
+lifts_oasis given (Value RepetitionSize) = nat_lt given.placed large.placed
+lifts_oasis given TooManyCells = nat_lt given.cells large.cells
+lifts_oasis given kind = false
+
+-- the same for a file of either format
+abbrev pub lifts_file : Limits → FileFault → Bool
+lifts_file given (Gds fault) = lifts_gds given fault.kind
+lifts_file given (Oasis (At offset kind)) = lifts_oasis given kind
+lifts_file given (Oasis (Unresolved number)) = false
+
+-- whether a library is refused by such a limit
+abbrev pub lifts_cells : Limits → CellFault → Bool
+lifts_cells given TooManyPlacements = nat_lt given.placed large.placed
+lifts_cells given TooManyRings = nat_lt given.placed large.placed
+lifts_cells given fault = false
 
 -- whether the fault is one of the header of a record, other than that the input ends
 abbrev pub is_headless : RecordFault → Bool
@@ -95,17 +139,19 @@ ignore_or (Some more) other = Some (IgnoreMore more)
 ignore_or None other = other
 
 -- the hint for a file that is refused
-abbrev pub hint_of_file : Ignore → FileFault → Option Hint
-hint_of_file given fault = ignore_or (to_ignore given fault) (other_program fault)
+abbrev pub hint_of_file : Profile → FileFault → Option Hint
+hint_of_file given fault =
+    if lifts_file given.limits fault then Some LiftLimits else ignore_or (to_ignore given fault) (other_program fault)
 
 -- the hint if the only file is refused
-abbrev pub hint_of_one : Ignore → Refusal → Option Hint
+abbrev pub hint_of_one : Profile → Refusal → Option Hint
 hint_of_one given (File side fault) = hint_of_file given fault
 hint_of_one given (Cells side ManyTops) = Some NameTop
+hint_of_one given (Cells side fault) = if lifts_cells given.limits fault then Some LiftLimits else None
 hint_of_one given refusal = None
 
 -- the hint if one of two files is refused
-abbrev pub hint_of_two : Ignore → Refusal → Option Hint
+abbrev pub hint_of_two : Profile → Refusal → Option Hint
 hint_of_two given (Cells side ManyTops) = Some (NameTopOf side)
 hint_of_two given refusal = hint_of_one given refusal
 
@@ -115,12 +161,12 @@ pub record IsEnd (status : Status) (hint : Option Hint) (Steps : Option (List �
   pub hint_is : o.hint ≡ hint
   pub steps : Steps (option_map (λ text. text.items) o.steps)
 
-abbrev pub IsOutcomeOf : Ignore → Result Comparison Refusal → Outcome → Type 0
+abbrev pub IsOutcomeOf : Profile → Result Comparison Refusal → Outcome → Type 0
 IsOutcomeOf given (Ok comparison) =
     IsEnd (verdict_status comparison.verdict) None (AreStepsSaid comparison.first comparison.second)
 IsOutcomeOf given (Err refusal) = IsEnd Refused (hint_of_two given refusal) (λ text. text ≡ None)
 
 -- how a run on a single file ends
-abbrev pub shown_outcome : {X : Type 0} → Ignore → Result X Refusal → Outcome
+abbrev pub shown_outcome : {X : Type 0} → Profile → Result X Refusal → Outcome
 shown_outcome given (Ok x) = record { status = ShownStatus; hint = None; steps = None }
 shown_outcome given (Err refusal) = record { status = Refused; hint = hint_of_one given refusal; steps = None }

@@ -1,7 +1,7 @@
 -- What a run may write: the text of an answer, or a beginning of it if the output fails.
 use Rattle.std.specs.Prelude.{◌≡◌, ℕ, List, Option, Some, Result, IfOk, IfErr}
 use Rattle.std.specs.Io.KnownBytes.{Appends}
-use Rattle.lvl_profile.specs.declared.ignore.Ignore.{Ignore}
+use Rattle.lvl_profile.specs.declared.profile.Profile.{Profile}
 use Rattle.lvl_io.specs.Bytes.{CountsFailure}
 use Rattle.lvl_region.specs.declared.region.Side.TheVariants.{First, Second}
 use Rattle.lvl.specs.Digested.{IsDigestedFile}
@@ -20,31 +20,31 @@ use Rattle.lvl_report.specs.Writing.{AppendsBeginning}
 -- a reader in a run: what of it is ignored, its bytes before the run and those left after it (None if they aren't
 -- known), how many errors it had returned before and after, and the name of the top
 pub record Input : Type 0 where
-  pub ignore : Ignore
+  pub profile : Profile
   pub bytes : Option (List ℕ)
   pub left : Option (List ℕ)
   pub before : ℕ
   pub after : ℕ
   pub top : Option (List ℕ)
 
-abbrev pub input : Ignore → Option (List ℕ) → Option (List ℕ) → ℕ → ℕ → Option (List ℕ) → Input
-input ignore bytes left before after top =
-    record { ignore = ignore; bytes = bytes; left = left; before = before; after = after; top = top }
+abbrev pub input : Profile → Option (List ℕ) → Option (List ℕ) → ℕ → ℕ → Option (List ℕ) → Input
+input profile bytes left before after top =
+    record { profile = profile; bytes = bytes; left = left; before = before; after = after; top = top }
 
 -- the answer is possible for the comparison of two files: a comparison satisfies `Says`, and a refusal is true of the
 -- files
 pub record IsAnswerBy (Says : File → File → Comparison → Type 0) (a b : Input)
     (answer : Result Comparison Refusal) : Type 0 where
   pub compared : (xs ys : List ℕ) → a.bytes ≡ Some xs → b.bytes ≡ Some ys
-      → IfOk answer (Says (file_named a.ignore xs a.top) (file_named b.ignore ys b.top))
+      → IfOk answer (Says (file_named a.profile xs a.top) (file_named b.profile ys b.top))
   pub first_refused : (xs : List ℕ) → a.bytes ≡ Some xs
-      → IfErr answer (IsRefusalOf First (file_named a.ignore xs a.top))
+      → IfErr answer (IsRefusalOf First (file_named a.profile xs a.top))
   pub second_refused : (ys : List ℕ) → b.bytes ≡ Some ys
-      → IfErr answer (IsRefusalOf Second (file_named b.ignore ys b.top))
+      → IfErr answer (IsRefusalOf Second (file_named b.profile ys b.top))
   pub first_early : (xs : List ℕ) → a.bytes ≡ Some xs
-      → IfErr answer (λ r. IsEarlyOf First r → IsHopeless a.ignore xs a.left)
+      → IfErr answer (λ r. IsEarlyOf First r → IsHopeless a.profile xs a.left)
   pub second_early : (ys : List ℕ) → b.bytes ≡ Some ys
-      → IfErr answer (λ r. IsEarlyOf Second r → IsHopeless b.ignore ys b.left)
+      → IfErr answer (λ r. IsEarlyOf Second r → IsHopeless b.profile ys b.left)
   pub first_reads : CountsFailure a.before a.after (is_read_of First answer)
   pub second_reads : CountsFailure b.before b.after (is_read_of Second answer)
 
@@ -58,9 +58,9 @@ IsViewedBy view = IsAnswerBy (IsComparedIn view)
 
 -- the answer is possible for one file: what was found satisfies `Says`, and a refusal is true of the file
 pub record IsFoundBy {X : Type 0} (Says : File → X → Type 0) (a : Input) (answer : Result X Refusal) : Type 0 where
-  pub found : (xs : List ℕ) → a.bytes ≡ Some xs → IfOk answer (Says (file_named a.ignore xs a.top))
-  pub refused : (xs : List ℕ) → a.bytes ≡ Some xs → IfErr answer (IsRefusalOf First (file_named a.ignore xs a.top))
-  pub early : (xs : List ℕ) → a.bytes ≡ Some xs → IfErr answer (λ r. IsEarlyOf First r → IsHopeless a.ignore xs a.left)
+  pub found : (xs : List ℕ) → a.bytes ≡ Some xs → IfOk answer (Says (file_named a.profile xs a.top))
+  pub refused : (xs : List ℕ) → a.bytes ≡ Some xs → IfErr answer (IsRefusalOf First (file_named a.profile xs a.top))
+  pub early : (xs : List ℕ) → a.bytes ≡ Some xs → IfErr answer (λ r. IsEarlyOf First r → IsHopeless a.profile xs a.left)
   pub side : IfErr answer IsOfFirst
   pub reads : CountsFailure a.before a.after (is_read_of First answer)
 

@@ -1,14 +1,16 @@
-//! What would mend a refusal: to ignore more, to give an option, or to use another program.
+//! What would mend a refusal: to ignore more, to lift limits, to give another option, or to use another
+//! program.
 ghost use Rattle.std.specs.Prelude.{◌≡◌};
 ghost use Rattle.lvl_report.specs.Hints.{reads_record, reads_spelling, is_read_by, with_one_more, first_that_reads};
 ghost use Rattle.lvl_report.specs.Hints.{to_ignore, is_headless, of_first, of_block, other_program, ignore_or};
+ghost use Rattle.lvl_report.specs.Hints.{lifts_gds, lifts_oasis, lifts_file, lifts_cells};
 ghost use Rattle.lvl_report.specs.Hints.{hint_of_file, hint_of_one, hint_of_two};
 
-use gds_library::{GdsKind, Misplaced, RecordFault};
+use gds_library::{ElementRule, GdsKind, Misplaced, RecordFault};
 use gds_records::is_ignored;
 use lvl::{FileFault, Refusal};
 use lvl_cells::CellFault;
-use lvl_profile::Ignore;
+use lvl_profile::{Ignore, Limits, Profile};
 use lvl_region::Side;
 use oasis_library::{OasisFault, OasisKind, RecordRule, ValueFault};
 use oasis_records::RecordType;
@@ -21,6 +23,8 @@ const CBLOCK: u64 = 34;
 pub enum Hint {
     /// To ignore this, one word more than before: then the record that was refused is read.
     IgnoreMore(Ignore),
+    /// To take the limits for whole chips, [`Limits::LARGE`]: the limit that refuses is higher there.
+    LiftLimits,
     /// To unpack the file: it begins neither with a record of GDSII nor as OASIS does, so it may be
     /// compressed.
     Unpack,
@@ -32,35 +36,34 @@ pub enum Hint {
     NameTopOf(Side),
 }
 
-/// Whether the record for which a GDSII file is refused is read if `ignore` is ignored.
-fn reads_record(ignore: Ignore, kind: &GdsKind) -> bool
-    ensures { result ≡ reads_record ignore kind.now }
+/// Whether the record for which a GDSII file is refused is read under the profile.
+fn reads_record(profile: Profile, kind: &GdsKind) -> bool
+    ensures { result ≡ reads_record profile kind.now }
 {
     match kind {
-        GdsKind::Misplaced(Misplaced::Unsupported(kind)) => is_ignored(ignore, *kind),
+        GdsKind::Misplaced(Misplaced::Unsupported(kind)) => is_ignored(profile.ignore, *kind),
         _ => false,
     }
 }
 
-/// Whether the record or the integer for which an OASIS file is refused is read if `ignore` is
-/// ignored.
-fn reads_spelling(ignore: Ignore, kind: &OasisKind) -> bool
-    ensures { result ≡ reads_spelling ignore kind.now }
+/// Whether the record or the integer for which an OASIS file is refused is read under the profile.
+fn reads_spelling(profile: Profile, kind: &OasisKind) -> bool
+    ensures { result ≡ reads_spelling profile kind.now }
 {
     match kind {
-        OasisKind::Value(ValueFault::IntegerTooLarge) => ignore.padding,
-        OasisKind::Record(RecordRule::Unsupported(id)) => RecordType::of(*id, ignore).is_ok(),
+        OasisKind::Value(ValueFault::IntegerTooLarge) => profile.ignore.padding,
+        OasisKind::Record(RecordRule::Unsupported(id)) => RecordType::of(*id, profile).is_ok(),
         _ => false,
     }
 }
 
 /// The same for a file of either format.
-fn is_read_by(ignore: Ignore, fault: &FileFault) -> bool
-    ensures { result ≡ is_read_by ignore fault.now }
+fn is_read_by(profile: Profile, fault: &FileFault) -> bool
+    ensures { result ≡ is_read_by profile fault.now }
 {
     match fault {
-        FileFault::Gds(fault) => reads_record(ignore, &fault.kind),
-        FileFault::Oasis(OasisFault::At { kind, .. }) => reads_spelling(ignore, kind),
+        FileFault::Gds(fault) => reads_record(profile, &fault.kind),
+        FileFault::Oasis(OasisFault::At { kind, .. }) => reads_spelling(profile, kind),
         FileFault::Oasis(OasisFault::Unresolved(_)) => false,
     }
 }
@@ -89,12 +92,16 @@ fn with_one_more(given: Ignore) -> [Ignore; 4]
     ]
 }
 
-/// The first of the sets with which the record or integer is read.
-fn first_that_reads(fault: &FileFault, sets: &[Ignore]) -> Option<Ignore>
-    ensures { result ≡ first_that_reads fault.now sets.now }
+/// The first of the sets with which the record or integer is read, within these limits.
+fn first_that_reads(limits: Limits, fault: &FileFault, sets: &[Ignore]) -> Option<Ignore>
+    ensures { result ≡ first_that_reads limits fault.now sets.now }
 {
     for more in sets {
-        if is_read_by(*more, fault) {
+        let profile = Profile {
+            ignore: *more,
+            limits,
+        };
+        if is_read_by(profile, fault) {
             return Some(*more);
         }
     }
@@ -102,13 +109,60 @@ fn first_that_reads(fault: &FileFault, sets: &[Ignore]) -> Option<Ignore>
 }
 
 /// What to ignore so that it is read; `None` if it is read already, or if no word would change that.
-fn to_ignore(given: Ignore, fault: &FileFault) -> Option<Ignore>
+fn to_ignore(given: Profile, fault: &FileFault) -> Option<Ignore>
     ensures { result ≡ to_ignore given fault.now }
 {
     if is_read_by(given, fault) {
         return None;
     }
-    first_that_reads(fault, &with_one_more(given))
+    first_that_reads(given.limits, fault, &with_one_more(given.ignore))
+}
+
+/// Whether a GDSII file is refused by a limit that is lower than the one for whole chips.
+fn lifts_gds(given: Limits, kind: &GdsKind) -> bool
+    ensures { result ≡ lifts_gds given kind.now }
+{
+    match kind {
+        GdsKind::Record(RecordFault::TooLong) => given.file < Limits::LARGE.file,
+        GdsKind::Element(ElementRule::Repetition) => given.array < Limits::LARGE.array,
+        GdsKind::TooManyCells => given.cells < Limits::LARGE.cells,
+        _ => false,
+    }
+}
+
+/// The same for an OASIS file.
+fn lifts_oasis(given: Limits, kind: &OasisKind) -> bool
+    ensures { result ≡ lifts_oasis given kind.now }
+{
+    match kind {
+        OasisKind::Value(ValueFault::TooLong) => given.file < Limits::LARGE.file,
+        OasisKind::Value(ValueFault::RepetitionSize) => given.placed < Limits::LARGE.placed,
+        OasisKind::TooManyCells => given.cells < Limits::LARGE.cells,
+        _ => false,
+    }
+}
+
+/// The same for a file of either format.
+fn lifts_file(given: Limits, fault: &FileFault) -> bool
+    ensures { result ≡ lifts_file given fault.now }
+{
+    match fault {
+        FileFault::Gds(fault) => lifts_gds(given, &fault.kind),
+        FileFault::Oasis(OasisFault::At { kind, .. }) => lifts_oasis(given, kind),
+        FileFault::Oasis(OasisFault::Unresolved(_)) => false,
+    }
+}
+
+/// Whether a library is refused by such a limit.
+fn lifts_cells(given: Limits, fault: &CellFault) -> bool
+    ensures { result ≡ lifts_cells given fault.now }
+{
+    match fault {
+        CellFault::TooManyPlacements | CellFault::TooManyRings => {
+            given.placed < Limits::LARGE.placed
+        }
+        _ => false,
+    }
 }
 
 /// Whether the fault is one of the header of a record, other than that the input ends.
@@ -153,28 +207,32 @@ fn other_program(fault: &FileFault) -> Option<Hint>
 }
 
 /// The hint for a file that is refused.
-fn hint_of_file(given: Ignore, fault: &FileFault) -> Option<Hint>
+fn hint_of_file(given: Profile, fault: &FileFault) -> Option<Hint>
     ensures { result ≡ hint_of_file given fault.now }
 {
+    if lifts_file(given.limits, fault) {
+        return Some(Hint::LiftLimits);
+    }
     match to_ignore(given, fault) {
         Some(more) => Some(Hint::IgnoreMore(more)),
         None => other_program(fault),
     }
 }
 
-/// The hint if the only file is refused. `given` is what was ignored.
-pub(crate) fn hint_of_one(given: Ignore, refusal: &Refusal) -> Option<Hint>
+/// The hint if the only file is refused. `given` is its profile.
+pub(crate) fn hint_of_one(given: Profile, refusal: &Refusal) -> Option<Hint>
     ensures { result ≡ hint_of_one given refusal.now }
 {
     match refusal {
         Refusal::File(_, fault) => hint_of_file(given, fault),
         Refusal::Cells(_, CellFault::ManyTops) => Some(Hint::NameTop),
+        Refusal::Cells(_, fault) if lifts_cells(given.limits, fault) => Some(Hint::LiftLimits),
         _ => None,
     }
 }
 
-/// The hint if one of two files is refused. `given` is what was ignored.
-pub(crate) fn hint_of_two(given: Ignore, refusal: &Refusal) -> Option<Hint>
+/// The hint if one of two files is refused. `given` is its profile.
+pub(crate) fn hint_of_two(given: Profile, refusal: &Refusal) -> Option<Hint>
     ensures { result ≡ hint_of_two given refusal.now }
 {
     match refusal {

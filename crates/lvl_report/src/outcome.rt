@@ -7,7 +7,7 @@ ghost use Rattle.lvl_report.specs.Writing.{verdict_status};
 use crate::hint::{Hint, hint_of_one, hint_of_two};
 use crate::status::Status;
 use lvl::{Comparison, Refusal, Verdict};
-use lvl_profile::Ignore;
+use lvl_profile::Profile;
 
 /// Which answer was written; if it is a refusal, what would mend it; and if it is a verdict on files whose grid steps
 /// differ, the line that says so.
@@ -29,12 +29,12 @@ fn verdict_status(verdict: &Verdict) -> Status
 
 /// How a run on two files ends. `ignore` is what was ignored, `steps` the line on their grid steps.
 pub(crate) fn outcome_of(
-    ignore: Ignore,
+    profile: Profile,
     answer: &Result<Comparison, Refusal>,
     steps: Option<Vec<u8>>,
 ) -> Outcome
     requires { AreStepsOf answer.now (option_map (λ text. text.items) steps) }
-    ensures { IsOutcomeOf ignore answer.now result }
+    ensures { IsOutcomeOf profile answer.now result }
 {
     match answer {
         Ok(comparison) => Outcome {
@@ -44,15 +44,15 @@ pub(crate) fn outcome_of(
         },
         Err(refusal) => Outcome {
             status: Status::Refused,
-            hint: hint_of_two(ignore, refusal),
+            hint: hint_of_two(profile, refusal),
             steps,
         },
     }
 }
 
 /// How a run on one file ends. `ignore` is what was ignored.
-pub(crate) fn shown_outcome<X>(ignore: Ignore, answer: &Result<X, Refusal>) -> Outcome
-    ensures { result ≡ shown_outcome ignore answer.now }
+pub(crate) fn shown_outcome<X>(profile: Profile, answer: &Result<X, Refusal>) -> Outcome
+    ensures { result ≡ shown_outcome profile answer.now }
 {
     match answer {
         Ok(_) => Outcome {
@@ -62,7 +62,7 @@ pub(crate) fn shown_outcome<X>(ignore: Ignore, answer: &Result<X, Refusal>) -> O
         },
         Err(refusal) => Outcome {
             status: Status::Refused,
-            hint: hint_of_one(ignore, refusal),
+            hint: hint_of_one(profile, refusal),
             steps: None,
         },
     }

@@ -4,7 +4,7 @@ ghost use Rattle.std.specs.Io.KnownBytes.{Keeps};
 ghost use Rattle.lvl_io.specs.Bytes.{CountsFailure};
 ghost use Rattle.lvl_report.specs.Runs.{IsComparedBy, IsDigestedBy, IsShownBy, IsViewedBy, IsWritten, IsBegun, input};
 ghost use Rattle.lvl.specs.Sides.{given_name};
-ghost use Rattle.lvl_profile.specs.Ignored.{nothing};
+ghost use Rattle.lvl_profile.specs.Profiles.{strict};
 ghost use Rattle.lvl_report.specs.Texts.{text_of, text_of_digested, text_of_shown};
 ghost use Rattle.lvl_report.specs.Hints.{IsOutcomeOf, shown_outcome};
 ghost use Rattle.lvl_report.specs.Writing.{ends_by, status_of, shown_status, is_output};
@@ -14,7 +14,7 @@ use crate::status::{RunFault, Status};
 use crate::tell::{tell, tell_digest, tell_shown};
 use lvl::{Tops, compare_files, digest_file, show_file};
 use lvl_io::{Read, Write};
-use lvl_profile::Ignore;
+use lvl_profile::Profile;
 use lvl_view::View;
 use std::alloc::Global;
 
@@ -31,22 +31,22 @@ pub fn run<A: Read, B: Read, W: Write>(
     out: &mut W,
 ) -> Result<Status, RunFault>
     ensures written { IfOk result (IsWritten
-        (IsComparedBy (input nothing (A.remaining first.old) (A.remaining first.new)
+        (IsComparedBy (input strict (A.remaining first.old) (A.remaining first.new)
         (A.read_errors first.old) (A.read_errors first.new) (given_name tops.now.first))
-        (input nothing (B.remaining second.old) (B.remaining second.new)
+        (input strict (B.remaining second.old) (B.remaining second.new)
         (B.read_errors second.old) (B.read_errors second.new) (given_name tops.now.second)))
         text_of (ends_by status_of) (W.contents out.old) (W.contents out.new)) }
     ensures begun { OnErr result (IsBegun
-        (IsComparedBy (input nothing (A.remaining first.old) (A.remaining first.new)
+        (IsComparedBy (input strict (A.remaining first.old) (A.remaining first.new)
         (A.read_errors first.old) (A.read_errors first.new) (given_name tops.now.first))
-        (input nothing (B.remaining second.old) (B.remaining second.new)
+        (input strict (B.remaining second.old) (B.remaining second.new)
         (B.read_errors second.old) (B.read_errors second.new) (given_name tops.now.second)))
         text_of (W.contents out.old) (W.contents out.new)) }
     ensures nothing { result ≡ Err RunFault.OutOfMemory → Keeps (W.contents out.old) (W.contents out.new) }
     ensures errors { CountsFailure (W.write_errors out.old) (W.write_errors out.new) (is_output result) }
     ensures same { W.lent out.new ≡ W.lent out.old }
 {
-    let outcome = run_by(alloc, first, second, tops, Ignore::NOTHING, out)?;
+    let outcome = run_by(alloc, first, second, tops, Profile::STANDARD, out)?;
     Ok(outcome.status)
 }
 
@@ -59,26 +59,26 @@ pub fn run_by<A: Read, B: Read, W: Write>(
     first: &mut A,
     second: &mut B,
     tops: &Tops,
-    ignore: Ignore,
+    profile: Profile,
     out: &mut W,
 ) -> Result<Outcome, RunFault>
     ensures written { IfOk result (IsWritten
-        (IsComparedBy (input ignore (A.remaining first.old) (A.remaining first.new)
+        (IsComparedBy (input profile (A.remaining first.old) (A.remaining first.new)
         (A.read_errors first.old) (A.read_errors first.new) (given_name tops.now.first))
-        (input ignore (B.remaining second.old) (B.remaining second.new)
+        (input profile (B.remaining second.old) (B.remaining second.new)
         (B.read_errors second.old) (B.read_errors second.new) (given_name tops.now.second)))
-        text_of (IsOutcomeOf ignore) (W.contents out.old) (W.contents out.new)) }
+        text_of (IsOutcomeOf profile) (W.contents out.old) (W.contents out.new)) }
     ensures begun { OnErr result (IsBegun
-        (IsComparedBy (input ignore (A.remaining first.old) (A.remaining first.new)
+        (IsComparedBy (input profile (A.remaining first.old) (A.remaining first.new)
         (A.read_errors first.old) (A.read_errors first.new) (given_name tops.now.first))
-        (input ignore (B.remaining second.old) (B.remaining second.new)
+        (input profile (B.remaining second.old) (B.remaining second.new)
         (B.read_errors second.old) (B.read_errors second.new) (given_name tops.now.second)))
         text_of (W.contents out.old) (W.contents out.new)) }
     ensures nothing { result ≡ Err RunFault.OutOfMemory → Keeps (W.contents out.old) (W.contents out.new) }
     ensures errors { CountsFailure (W.write_errors out.old) (W.write_errors out.new) (is_output result) }
     ensures same { W.lent out.new ≡ W.lent out.old }
 {
-    run_view_by(alloc, first, second, tops, &View::whole(alloc), ignore, out)
+    run_view_by(alloc, first, second, tops, &View::whole(alloc), profile, out)
 }
 
 /// Compares two files under a view, with the Layers of the second mapped and only within the
@@ -94,22 +94,22 @@ pub fn run_view<A: Read, B: Read, W: Write>(
     out: &mut W,
 ) -> Result<Status, RunFault>
     ensures written { IfOk result (IsWritten
-        (IsViewedBy view.now (input nothing (A.remaining first.old) (A.remaining first.new)
+        (IsViewedBy view.now (input strict (A.remaining first.old) (A.remaining first.new)
         (A.read_errors first.old) (A.read_errors first.new) (given_name tops.now.first))
-        (input nothing (B.remaining second.old) (B.remaining second.new)
+        (input strict (B.remaining second.old) (B.remaining second.new)
         (B.read_errors second.old) (B.read_errors second.new) (given_name tops.now.second)))
         text_of (ends_by status_of) (W.contents out.old) (W.contents out.new)) }
     ensures begun { OnErr result (IsBegun
-        (IsViewedBy view.now (input nothing (A.remaining first.old) (A.remaining first.new)
+        (IsViewedBy view.now (input strict (A.remaining first.old) (A.remaining first.new)
         (A.read_errors first.old) (A.read_errors first.new) (given_name tops.now.first))
-        (input nothing (B.remaining second.old) (B.remaining second.new)
+        (input strict (B.remaining second.old) (B.remaining second.new)
         (B.read_errors second.old) (B.read_errors second.new) (given_name tops.now.second)))
         text_of (W.contents out.old) (W.contents out.new)) }
     ensures nothing { result ≡ Err RunFault.OutOfMemory → Keeps (W.contents out.old) (W.contents out.new) }
     ensures errors { CountsFailure (W.write_errors out.old) (W.write_errors out.new) (is_output result) }
     ensures same { W.lent out.new ≡ W.lent out.old }
 {
-    let outcome = run_view_by(alloc, first, second, tops, view, Ignore::NOTHING, out)?;
+    let outcome = run_view_by(alloc, first, second, tops, view, Profile::STANDARD, out)?;
     Ok(outcome.status)
 }
 
@@ -122,27 +122,27 @@ pub fn run_view_by<A: Read, B: Read, W: Write>(
     second: &mut B,
     tops: &Tops,
     view: &View,
-    ignore: Ignore,
+    profile: Profile,
     out: &mut W,
 ) -> Result<Outcome, RunFault>
     ensures written { IfOk result (IsWritten
-        (IsViewedBy view.now (input ignore (A.remaining first.old) (A.remaining first.new)
+        (IsViewedBy view.now (input profile (A.remaining first.old) (A.remaining first.new)
         (A.read_errors first.old) (A.read_errors first.new) (given_name tops.now.first))
-        (input ignore (B.remaining second.old) (B.remaining second.new)
+        (input profile (B.remaining second.old) (B.remaining second.new)
         (B.read_errors second.old) (B.read_errors second.new) (given_name tops.now.second)))
-        text_of (IsOutcomeOf ignore) (W.contents out.old) (W.contents out.new)) }
+        text_of (IsOutcomeOf profile) (W.contents out.old) (W.contents out.new)) }
     ensures begun { OnErr result (IsBegun
-        (IsViewedBy view.now (input ignore (A.remaining first.old) (A.remaining first.new)
+        (IsViewedBy view.now (input profile (A.remaining first.old) (A.remaining first.new)
         (A.read_errors first.old) (A.read_errors first.new) (given_name tops.now.first))
-        (input ignore (B.remaining second.old) (B.remaining second.new)
+        (input profile (B.remaining second.old) (B.remaining second.new)
         (B.read_errors second.old) (B.read_errors second.new) (given_name tops.now.second)))
         text_of (W.contents out.old) (W.contents out.new)) }
     ensures nothing { result ≡ Err RunFault.OutOfMemory → Keeps (W.contents out.old) (W.contents out.new) }
     ensures errors { CountsFailure (W.write_errors out.old) (W.write_errors out.new) (is_output result) }
     ensures same { W.lent out.new ≡ W.lent out.old }
 {
-    let answer = compare_files(alloc, first, second, tops, view, ignore);
-    tell(alloc, ignore, &answer, out)
+    let answer = compare_files(alloc, first, second, tops, view, profile);
+    tell(alloc, profile, &answer, out)
 }
 
 /// Shows a file: writes what it says about itself, the name of its top, the number of its cells,
@@ -157,18 +157,18 @@ pub fn run_show<R: Read, W: Write>(
     out: &mut W,
 ) -> Result<Status, RunFault>
     ensures written { IfOk result (IsWritten
-        (IsShownBy (input nothing (R.remaining reader.old) (R.remaining reader.new)
+        (IsShownBy (input strict (R.remaining reader.old) (R.remaining reader.new)
         (R.read_errors reader.old) (R.read_errors reader.new) (option_copied top.entry)))
         text_of_shown (ends_by shown_status) (W.contents out.old) (W.contents out.new)) }
     ensures begun { OnErr result (IsBegun
-        (IsShownBy (input nothing (R.remaining reader.old) (R.remaining reader.new)
+        (IsShownBy (input strict (R.remaining reader.old) (R.remaining reader.new)
         (R.read_errors reader.old) (R.read_errors reader.new) (option_copied top.entry)))
         text_of_shown (W.contents out.old) (W.contents out.new)) }
     ensures nothing { result ≡ Err RunFault.OutOfMemory → Keeps (W.contents out.old) (W.contents out.new) }
     ensures errors { CountsFailure (W.write_errors out.old) (W.write_errors out.new) (is_output result) }
     ensures same { W.lent out.new ≡ W.lent out.old }
 {
-    let outcome = run_show_by(alloc, reader, top, Ignore::NOTHING, out)?;
+    let outcome = run_show_by(alloc, reader, top, Profile::STANDARD, out)?;
     Ok(outcome.status)
 }
 
@@ -179,23 +179,23 @@ pub fn run_show_by<R: Read, W: Write>(
     alloc: Global,
     reader: &mut R,
     top: Option<&[u8]>,
-    ignore: Ignore,
+    profile: Profile,
     out: &mut W,
 ) -> Result<Outcome, RunFault>
     ensures written { IfOk result (IsWritten
-        (IsShownBy (input ignore (R.remaining reader.old) (R.remaining reader.new)
+        (IsShownBy (input profile (R.remaining reader.old) (R.remaining reader.new)
         (R.read_errors reader.old) (R.read_errors reader.new) (option_copied top.entry)))
-        text_of_shown (ends_by (shown_outcome ignore)) (W.contents out.old) (W.contents out.new)) }
+        text_of_shown (ends_by (shown_outcome profile)) (W.contents out.old) (W.contents out.new)) }
     ensures begun { OnErr result (IsBegun
-        (IsShownBy (input ignore (R.remaining reader.old) (R.remaining reader.new)
+        (IsShownBy (input profile (R.remaining reader.old) (R.remaining reader.new)
         (R.read_errors reader.old) (R.read_errors reader.new) (option_copied top.entry)))
         text_of_shown (W.contents out.old) (W.contents out.new)) }
     ensures nothing { result ≡ Err RunFault.OutOfMemory → Keeps (W.contents out.old) (W.contents out.new) }
     ensures errors { CountsFailure (W.write_errors out.old) (W.write_errors out.new) (is_output result) }
     ensures same { W.lent out.new ≡ W.lent out.old }
 {
-    let answer = show_file(alloc, reader, top, ignore);
-    tell_shown(alloc, ignore, &answer, out)
+    let answer = show_file(alloc, reader, top, profile);
+    tell_shown(alloc, profile, &answer, out)
 }
 
 /// Writes the digest of a file: what it says about itself; the name of its top; for each Layer on which the
@@ -208,21 +208,21 @@ pub fn run_digest<R: Read, W: Write>(
     alloc: Global,
     reader: &mut R,
     top: Option<&[u8]>,
-    ignore: Ignore,
+    profile: Profile,
     out: &mut W,
 ) -> Result<Outcome, RunFault>
     ensures written { IfOk result (IsWritten
-        (IsDigestedBy (input ignore (R.remaining reader.old) (R.remaining reader.new)
+        (IsDigestedBy (input profile (R.remaining reader.old) (R.remaining reader.new)
         (R.read_errors reader.old) (R.read_errors reader.new) (option_copied top.entry)))
-        text_of_digested (ends_by (shown_outcome ignore)) (W.contents out.old) (W.contents out.new)) }
+        text_of_digested (ends_by (shown_outcome profile)) (W.contents out.old) (W.contents out.new)) }
     ensures begun { OnErr result (IsBegun
-        (IsDigestedBy (input ignore (R.remaining reader.old) (R.remaining reader.new)
+        (IsDigestedBy (input profile (R.remaining reader.old) (R.remaining reader.new)
         (R.read_errors reader.old) (R.read_errors reader.new) (option_copied top.entry)))
         text_of_digested (W.contents out.old) (W.contents out.new)) }
     ensures nothing { result ≡ Err RunFault.OutOfMemory → Keeps (W.contents out.old) (W.contents out.new) }
     ensures errors { CountsFailure (W.write_errors out.old) (W.write_errors out.new) (is_output result) }
     ensures same { W.lent out.new ≡ W.lent out.old }
 {
-    let answer = digest_file(alloc, reader, top, ignore);
-    tell_digest(alloc, ignore, &answer, out)
+    let answer = digest_file(alloc, reader, top, profile);
+    tell_digest(alloc, profile, &answer, out)
 }

@@ -14,19 +14,19 @@ use crate::steps::steps_of;
 use crate::text::{form, form_shown};
 use lvl::{Comparison, Digested, Refusal, Shown};
 use lvl_io::Write;
-use lvl_profile::Ignore;
+use lvl_profile::Profile;
 use std::alloc::Global;
 
 /// Writes the text of an answer about two files, and returns how the run ends. `ignore` is what was
 /// ignored.
 pub(crate) fn tell<W: Write>(
     alloc: Global,
-    ignore: Ignore,
+    profile: Profile,
     answer: &Result<Comparison, Refusal>,
     out: &mut W,
 ) -> Result<Outcome, RunFault>
     ensures whole { OnOk result (Appends (W.contents out.old) (W.contents out.new) (text_of answer.now)) }
-    ensures outcome { IfOk result (IsOutcomeOf ignore answer.now) }
+    ensures outcome { IfOk result (IsOutcomeOf profile answer.now) }
     ensures begun { OnErr result (AppendsBeginning (W.contents out.old) (W.contents out.new) (text_of answer.now)) }
     ensures nothing { result ≡ Err RunFault.OutOfMemory → Keeps (W.contents out.old) (W.contents out.new) }
     ensures errors { CountsFailure (W.write_errors out.old) (W.write_errors out.new) (is_output result) }
@@ -39,18 +39,18 @@ pub(crate) fn tell<W: Write>(
         return Err(RunFault::OutOfMemory);
     };
     put(out, &text)?;
-    Ok(outcome_of(ignore, answer, steps))
+    Ok(outcome_of(profile, answer, steps))
 }
 
 /// Writes the text of what is shown, and returns how the run ends. `ignore` is what was ignored.
 pub(crate) fn tell_shown<W: Write>(
     alloc: Global,
-    ignore: Ignore,
+    profile: Profile,
     answer: &Result<Shown, Refusal>,
     out: &mut W,
 ) -> Result<Outcome, RunFault>
     ensures whole { OnOk result (Appends (W.contents out.old) (W.contents out.new) (text_of_shown answer.now)) }
-    ensures outcome { IfOk result (λ outcome. outcome ≡ shown_outcome ignore answer.now) }
+    ensures outcome { IfOk result (λ outcome. outcome ≡ shown_outcome profile answer.now) }
     ensures begun { OnErr result
         (AppendsBeginning (W.contents out.old) (W.contents out.new) (text_of_shown answer.now)) }
     ensures nothing { result ≡ Err RunFault.OutOfMemory → Keeps (W.contents out.old) (W.contents out.new) }
@@ -61,18 +61,18 @@ pub(crate) fn tell_shown<W: Write>(
         return Err(RunFault::OutOfMemory);
     };
     put(out, &text)?;
-    Ok(shown_outcome(ignore, answer))
+    Ok(shown_outcome(profile, answer))
 }
 
 /// Writes the text of a digest, and returns how the run ends. `ignore` is what was ignored.
 pub(crate) fn tell_digest<W: Write>(
     alloc: Global,
-    ignore: Ignore,
+    profile: Profile,
     answer: &Result<Digested, Refusal>,
     out: &mut W,
 ) -> Result<Outcome, RunFault>
     ensures whole { OnOk result (Appends (W.contents out.old) (W.contents out.new) (text_of_digested answer.now)) }
-    ensures outcome { IfOk result (λ outcome. outcome ≡ shown_outcome ignore answer.now) }
+    ensures outcome { IfOk result (λ outcome. outcome ≡ shown_outcome profile answer.now) }
     ensures begun { OnErr result
         (AppendsBeginning (W.contents out.old) (W.contents out.new) (text_of_digested answer.now)) }
     ensures nothing { result ≡ Err RunFault.OutOfMemory → Keeps (W.contents out.old) (W.contents out.new) }
@@ -83,5 +83,5 @@ pub(crate) fn tell_digest<W: Write>(
         return Err(RunFault::OutOfMemory);
     };
     put(out, &text)?;
-    Ok(shown_outcome(ignore, answer))
+    Ok(shown_outcome(profile, answer))
 }

@@ -12,6 +12,7 @@ mod failing;
 mod growths;
 mod ignored;
 mod large;
+mod limits;
 mod reads;
 mod refusals;
 mod refused;

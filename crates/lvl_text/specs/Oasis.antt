@@ -4,7 +4,7 @@ use Rattle.oasis_values.specs.declared.fault.ValueFault.{ValueFault}
 use Rattle.oasis_values.specs.declared.fault.ValueFault.TheVariants.{Truncated, IntegerTooLarge, StringByte, RealType}
 use Rattle.oasis_values.specs.declared.fault.ValueFault.TheVariants.{ZeroDenominator}
 use Rattle.oasis_values.specs.declared.fault.ValueFault.TheVariants.{PointListType, PointCount, RepetitionType}
-use Rattle.oasis_values.specs.declared.fault.ValueFault.TheVariants.{RepetitionSize}
+use Rattle.oasis_values.specs.declared.fault.ValueFault.TheVariants.{RepetitionSize, ListSize}
 use Rattle.oasis_values.specs.declared.fault.ValueFault.TheVariants.{OutOfRange, TooLong, Read, Failed, NoModal}
 use Rattle.oasis_values.specs.declared.number.Real.{Real}
 use Rattle.oasis_values.specs.declared.number.Real.TheVariants.{Whole, NegWhole, Reciprocal, NegReciprocal, Ratio}
@@ -60,6 +60,7 @@ value_fault PointListType = codes "6 PointListType"
 value_fault PointCount = codes "7 PointCount"
 value_fault RepetitionType = codes "8 RepetitionType"
 value_fault RepetitionSize = codes "9 RepetitionSize"
+value_fault ListSize = codes "9 RepetitionSize"
 value_fault OutOfRange = codes "10 OutOfRange"
 value_fault TooLong = codes "11 TooLong"
 value_fault Read = codes "12 Read"

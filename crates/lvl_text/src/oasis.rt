@@ -71,7 +71,7 @@ fn value_fault(fault: ValueFault) -> &'static str
         ValueFault::PointListType => "6 PointListType",
         ValueFault::PointCount => "7 PointCount",
         ValueFault::RepetitionType => "8 RepetitionType",
-        ValueFault::RepetitionSize => "9 RepetitionSize",
+        ValueFault::RepetitionSize | ValueFault::ListSize => "9 RepetitionSize",
         ValueFault::OutOfRange => "10 OutOfRange",
         ValueFault::TooLong => "11 TooLong",
         ValueFault::Read => "12 Read",

@@ -4,7 +4,7 @@ use crate::fence::fence;
 use gds_records::Records;
 use gds_records::fake::{SQUARE, Stream};
 use lvl_io::fake::Pieces;
-use lvl_profile::Ignore;
+use lvl_profile::Profile;
 use oasis_values::{Input, Real};
 use std::alloc::Global;
 use std::test::Fail;
@@ -54,7 +54,7 @@ const VALUES: &[u8] = b"\x07\xE8\x07\x0B\x02\x05\x29\x2F\xA8\x01\x02";
 #[test]
 fn no_growths_of_values(rt: HostRuntime) -> Result<(), Fail> {
     let alloc = rt.alloc();
-    let mut values = Input::new(Pieces::new(VALUES, 3), Ignore::NOTHING);
+    let mut values = Input::new(Pieces::new(VALUES, 3), Profile::STANDARD);
     fence(alloc)?;
     let (byte, unsigned) = (values.byte(), values.unsigned());
     let (signed, real) = (values.signed(), values.real());

@@ -1,16 +1,16 @@
--- What is ignored changes no answer that was given without it.
+-- A wider profile changes no answer that was given under a narrower one.
 use Rattle.std.proofs.Common.{ℕ, List}
 use Rattle.lvl_path.specs.Figure.{Figure}
 use Rattle.lvl_cells.specs.Cells.{PlainCell, Rings}
-use Rattle.lvl_profile.specs.Ignored.{IsSubsetOf}
-use Rattle.lvl_profile.specs.declared.ignore.Ignore.{Ignore}
+use Rattle.lvl_profile.specs.Profiles.{IsWider}
+use Rattle.lvl_profile.specs.declared.profile.Profile.{Profile}
 use Rattle.oasis_stream.proofs.Growing.{whole_grows}
 use Rattle.oasis_library.specs.Library.{SpellsLibrary, IsRead}
 use Rattle.oasis_library.specs.declared.head.OasisHead.{OasisHead}
 use Rattle.oasis_library.proofs.Readable.{law_only}
 
--- a file that spells a library when less is ignored spells the same library, with the same head, when more is
-pub library_grows : (less more : Ignore) → IsSubsetOf less more → (bytes : List ℕ) (cells : List (PlainCell Figure))
+-- a file that spells a library under a profile spells the same library, with the same head, under each wider one
+pub library_grows : (less more : Profile) → IsWider less more → (bytes : List ℕ) (cells : List (PlainCell Figure))
     (h : OasisHead) → SpellsLibrary less bytes cells h → SpellsLibrary more bytes cells h
 library_grows less more within bytes cells h p =
     record {
@@ -20,8 +20,8 @@ library_grows less more within bytes cells h p =
       head_is = p.head_is;
     }
 
--- what is read when less is ignored is read when more is
-pub read_grows : (less more : Ignore) → IsSubsetOf less more → (bytes : List ℕ) (found : List (PlainCell Rings))
+-- what is read under a profile is read under each wider one
+pub read_grows : (less more : Profile) → IsWider less more → (bytes : List ℕ) (found : List (PlainCell Rings))
     (h : OasisHead) → IsRead less bytes found h → IsRead more bytes found h
 read_grows less more within bytes found h p =
     let spelled = library_grows less more within bytes p.cells h p.spelled in

@@ -3,12 +3,12 @@ use Rattle.std.proofs.Common.{◌≡◌, ℕ, ◌<◌, true, false, List, [], �
 use Rattle.std.proofs.Common.{sym, ap, ◌∙◌, subst, arith, length-append}
 use Rattle.std.specs.Prelude.{Option, Result}
 use Rattle.lvl_refusal.specs.declared.Cause.{Cause}
-use Rattle.lvl_profile.specs.declared.ignore.Ignore.{Ignore}
+use Rattle.lvl_profile.specs.declared.profile.Profile.{Profile}
 use Rattle.oasis_stream.proofs.Seen.{answers_under}
 use Rattle.oasis_values.specs.declared.fault.ValueFault.{ValueFault}
 use Rattle.std.specs.Borrow.{GName}
 use Rattle.lvl_grammar.specs.inside.ReadTo.{ReadTo}
-use Rattle.oasis_values.specs.Input.{bytes_left, input_offset, has_failed, input_reader, input_ignore}
+use Rattle.oasis_values.specs.Input.{bytes_left, input_offset, has_failed, input_reader, input_profile}
 use Rattle.oasis_values.specs.Reads.{Reads}
 use Rattle.oasis_values.specs.declared.input.Input.{Input}
 use Rattle.oasis_records.specs.declared.end.Validation.{Validation}
@@ -43,9 +43,9 @@ none_ended e = omega (arith, ap length e.2, length-append e.0 (item (End e.1) �
 abbrev IsNothing : List Item → Type 0
 IsNothing is = is ≡ []
 
-start_to : (ignore : Ignore) (xs : List ℕ) (at : ℕ) (left : Option (List ℕ)) → at ≡ 0 → left ≡ Some xs
-    → ReadTo (oasis ignore) xs at IsNothing left
-start_to ignore xs at left e k = record {
+start_to : (profile : Profile) (xs : List ℕ) (at : ℕ) (left : Option (List ℕ)) → at ≡ 0 → left ≡ Some xs
+    → ReadTo (oasis profile) xs at IsNothing left
+start_to profile xs at left e k = record {
   records = [];
   front = record {
     spelled = ap (λ i. take i xs) e;
@@ -58,17 +58,17 @@ start_to ignore xs at left e k = record {
 }
 
 -- the magic string was read
-pub first_on : {R : Type 0} {remaining : R → Option (List ℕ)} {errors : R → ℕ} {lent : R → List GName} (ignore : Ignore)
+pub first_on : {R : Type 0} {remaining : R → Option (List ℕ)} {errors : R → ℕ} {lent : R → List GName} (profile : Profile)
     (xs : List ℕ)
     (x : Reading) {old new : Input R}
-    → has_failed old ≡ false → input_ignore old ≡ ignore → input_offset old ≡ 0 → bytes_left remaining old ≡ Some xs
+    → has_failed old ≡ false → input_profile old ≡ profile → input_offset old ≡ 0 → bytes_left remaining old ≡ Some xs
     → Holds x []
     → Reads remaining errors lent (IsItem []) old new (Ok (Ok magic))
-    → ReadTo (oasis ignore) xs (input_offset new) (HasBegun x) (bytes_left remaining new)
-first_on {remaining = remaining} {errors = errors} {lent = lent} ignore xs x {old = old} {new =
+    → ReadTo (oasis profile) xs (input_offset new) (HasBegun x) (bytes_left remaining new)
+first_on {remaining = remaining} {errors = errors} {lent = lent} profile xs x {old = old} {new =
     new} live under start known h p =
-    let to = start_to ignore xs (input_offset old) (bytes_left remaining old) start known in
-    item_on ignore xs IsNothing (HasBegun x) to magic live under
+    let to = start_to profile xs (input_offset old) (bytes_left remaining old) start known in
+    item_on profile xs IsNothing (HasBegun x) to magic live under
     (subst (λ is. Reads remaining errors lent (IsItem is) old new (Ok (Ok magic))) (sym to.holds) p)
     (λ e. none_ended (subst IsEnded to.holds e))
     (subst (λ is. HasBegun x (is ++ magic ∷ [])) (sym to.holds)
@@ -76,15 +76,15 @@ first_on {remaining = remaining} {errors = errors} {lent = lent} ignore xs x {ol
 
 -- or refused
 pub first_refused : {R : Type 0} {remaining : R → Option (List ℕ)} {errors : R → ℕ} {lent : R → List GName}
-    (ignore : Ignore) (xs : List ℕ) {old new : Input R} (k : OasisKind)
-    → has_failed old ≡ false → input_ignore old ≡ ignore → input_offset old ≡ 0 → bytes_left remaining old ≡ Some xs
+    (profile : Profile) (xs : List ℕ) {old new : Input R} (k : OasisKind)
+    → has_failed old ≡ false → input_profile old ≡ profile → input_offset old ≡ 0 → bytes_left remaining old ≡ Some xs
     → Reads remaining errors lent (IsItem []) old new (of_kind k)
-    → RefusesAt ignore xs (remaining (input_reader new)) 0 k
-first_refused {remaining = remaining} {errors = errors} {lent = lent} ignore xs {old = old} {new =
+    → RefusesAt profile xs (remaining (input_reader new)) 0 k
+first_refused {remaining = remaining} {errors = errors} {lent = lent} profile xs {old = old} {new =
     new} k live under start known p =
-    let to = start_to ignore xs (input_offset old) (bytes_left remaining old) start known in
-    subst (λ i. RefusesAt ignore xs (remaining (input_reader new)) i k) start
-    (next_refuses ignore xs to k live under (λ e. none_ended (subst IsEnded to.holds e))
+    let to = start_to profile xs (input_offset old) (bytes_left remaining old) start known in
+    subst (λ i. RefusesAt profile xs (remaining (input_reader new)) i k) start
+    (next_refuses profile xs to k live under (λ e. none_ended (subst IsEnded to.holds e))
     (subst (λ is. Reads remaining errors lent (IsItem is) old new (of_kind k)) (sym to.holds) p))
 
 -- after the magic string, the next item is a record
@@ -101,15 +101,15 @@ abbrev pub HasMore : Reading → Record → List Item → Type 0
 HasMore y r js = HasRead y js × (is : List Item) × (js ≡ is ++ item r ∷ []) × (rest : List Item) × (is ≡ magic ∷ rest)
 
 pub record_on : {R : Type 0} {remaining : R → Option (List ℕ)} {errors : R → ℕ} {lent : R → List GName}
-    (ignore : Ignore) (xs : List ℕ)
+    (profile : Profile) (xs : List ℕ)
     (x y : Reading) (r : Record) {old new : Input R}
-    (to : ReadTo (oasis ignore) xs (input_offset old) (HasBegun x) (bytes_left remaining old))
-    → has_failed old ≡ false → input_ignore old ≡ ignore
+    (to : ReadTo (oasis profile) xs (input_offset old) (HasBegun x) (bytes_left remaining old))
+    → has_failed old ≡ false → input_profile old ≡ profile
     → Reads remaining errors lent (IsNext (records to.records)) old new (Ok (Ok (item r)))
     → Holds y (records to.records ++ r ∷ []) → KeepsRules (records to.records) r
-    → ReadTo (oasis ignore) xs (input_offset new) (HasMore y r) (bytes_left remaining new)
-record_on {R = R} ignore xs x y r to live under p h none =
-    item_on ignore xs (HasBegun x) (HasMore y r) to (item r) live under (as_item x to.records to.holds p)
+    → ReadTo (oasis profile) xs (input_offset new) (HasMore y r) (bytes_left remaining new)
+record_on {R = R} profile xs x y r to live under p h none =
+    item_on profile xs (HasBegun x) (HasMore y r) to (item r) live under (as_item x to.records to.holds p)
     (to.holds.1, none)
     (subst (Holds y) (sym (records-snoc to.records r)) h, to.records, refl, to.holds.2, to.holds.3)
 
@@ -135,9 +135,9 @@ more_whole y r js e m =
     let v = end_is r e in
     (m.0, (m.1, v.0, m.2 ∙ ap (λ (i : Record). m.1 ++ item i ∷ []) v.1))
 
-abbrev pub reads_as : (ignore : Ignore) (xs : List ℕ) (at : ℕ) (P Q : List Item → Type 0) (left : Option (List ℕ))
-    → ReadTo (oasis ignore) xs at P left → ((is : List Item) → P is → Q is) → ReadTo (oasis ignore) xs at Q left
-reads_as ignore xs at P Q left to h =
+abbrev pub reads_as : (profile : Profile) (xs : List ℕ) (at : ℕ) (P Q : List Item → Type 0) (left : Option (List ℕ))
+    → ReadTo (oasis profile) xs at P left → ((is : List Item) → P is → Q is) → ReadTo (oasis profile) xs at Q left
+reads_as profile xs at P Q left to h =
     record {
       records = to.records;
       front = to.front;
@@ -148,48 +148,48 @@ reads_as ignore xs at P Q left to h =
 
 -- a record takes at least one byte
 pub record_takes : {R : Type 0} {remaining : R → Option (List ℕ)} {errors : R → ℕ} {lent : R → List GName}
-    (ignore : Ignore) (xs : List ℕ)
+    (profile : Profile) (xs : List ℕ)
     (x : Reading) (i : Item) {old new : Input R}
-    (to : ReadTo (oasis ignore) xs (input_offset old) (HasBegun x) (bytes_left remaining old))
-    → has_failed old ≡ false → input_ignore old ≡ ignore
+    (to : ReadTo (oasis profile) xs (input_offset old) (HasBegun x) (bytes_left remaining old))
+    → has_failed old ≡ false → input_profile old ≡ profile
     → Reads remaining errors lent (IsNext (records to.records)) old new (Ok (Ok i))
     → input_offset old < input_offset new
-record_takes {R = R} ignore xs x i {old = old} to live under p =
+record_takes {R = R} profile xs x i {old = old} to live under p =
     let q = as_item x to.records to.holds p in
-    let f = (answers_under ignore under q live (drop (input_offset old) xs) to.left_is).0 in
-    omega (arith, item_needs ignore to.records f.bytes (Ok (Ok i)) f.says, f.count)
+    let f = (answers_under profile under q live (drop (input_offset old) xs) to.left_is).0 in
+    omega (arith, item_needs profile to.records f.bytes (Ok (Ok i)) f.says, f.count)
 
 pub first_takes : {R : Type 0} {remaining : R → Option (List ℕ)} {errors : R → ℕ} {lent : R → List GName}
-    (ignore : Ignore) (xs : List ℕ)
+    (profile : Profile) (xs : List ℕ)
     (i : Item) {old new : Input R}
-    → has_failed old ≡ false → input_ignore old ≡ ignore → bytes_left remaining old ≡ Some xs
+    → has_failed old ≡ false → input_profile old ≡ profile → bytes_left remaining old ≡ Some xs
     → Reads remaining errors lent (IsItem []) old new (Ok (Ok i)) → 0 < input_offset new
-first_takes ignore xs i live under known p =
-    let f = (answers_under ignore under p live xs known).0 in
-    omega (arith, item_needs ignore [] f.bytes (Ok (Ok i)) f.says, f.count)
+first_takes profile xs i live under known p =
+    let f = (answers_under profile under p live xs known).0 in
+    omega (arith, item_needs profile [] f.bytes (Ok (Ok i)) f.says, f.count)
 
 -- the next record was refused while it was read
 pub next_refused : {R : Type 0} {remaining : R → Option (List ℕ)} {errors : R → ℕ} {lent : R → List GName}
-    (ignore : Ignore) (xs : List ℕ)
+    (profile : Profile) (xs : List ℕ)
     (x : Reading) {old new : Input R}
-    (to : ReadTo (oasis ignore) xs (input_offset old) (HasBegun x) (bytes_left remaining old)) (e : Cause OasisKind)
-    → has_failed old ≡ false → input_ignore old ≡ ignore
+    (to : ReadTo (oasis profile) xs (input_offset old) (HasBegun x) (bytes_left remaining old)) (e : Cause OasisKind)
+    → has_failed old ≡ false → input_profile old ≡ profile
     → Reads remaining errors lent (IsNext (records to.records)) old new (reported_record (Err e))
-    → Says (refused_at (input_offset old) e) (Refuses ignore xs (remaining (input_reader new)))
-next_refused ignore xs x to (Breach k) live under p = next_refuses ignore xs to k live under to.holds.1
+    → Says (refused_at (input_offset old) e) (Refuses profile xs (remaining (input_reader new)))
+next_refused profile xs x to (Breach k) live under p = next_refuses profile xs to k live under to.holds.1
     (as_item x to.records to.holds p)
-next_refused ignore xs x to OutOfMemory live under p = tt
+next_refused profile xs x to OutOfMemory live under p = tt
 
 -- a complete record was refused
 pub take_refused : {R : Type 0} {remaining : R → Option (List ℕ)} {errors : R → ℕ} {lent : R → List GName}
-    (ignore : Ignore) (xs : List ℕ)
+    (profile : Profile) (xs : List ℕ)
     (x : Reading) (r : Record) {old new : Input R}
-    (to : ReadTo (oasis ignore) xs (input_offset old) (HasBegun x) (bytes_left remaining old)) (e : Cause OasisKind)
-    → has_failed old ≡ false → input_ignore old ≡ ignore
+    (to : ReadTo (oasis profile) xs (input_offset old) (HasBegun x) (bytes_left remaining old)) (e : Cause OasisKind)
+    → has_failed old ≡ false → input_profile old ≡ profile
     → Reads remaining errors lent (IsNext (records to.records)) old new (Ok (Ok (item r)))
     → Says e (λ k. (rs : List Record) → Holds x rs → RecordBreaches rs r k)
-    → Says (refused_at (input_offset old) e) (Refuses ignore xs (remaining (input_reader new)))
-take_refused ignore xs x r to (Breach k) live under p b =
-    breach_refuses ignore xs to (item r) k live under to.holds.1 (b (records to.records) to.holds.0)
+    → Says (refused_at (input_offset old) e) (Refuses profile xs (remaining (input_reader new)))
+take_refused profile xs x r to (Breach k) live under p b =
+    breach_refuses profile xs to (item r) k live under to.holds.1 (b (records to.records) to.holds.0)
     (as_item x to.records to.holds p)
-take_refused ignore xs x r to OutOfMemory live under p b = tt
+take_refused profile xs x r to OutOfMemory live under p b = tt

@@ -11,7 +11,7 @@ use Rattle.lvl_grammar.proofs.Reading.{unread_front}
 use Rattle.lvl_grammar.proofs.Stuck.{seen_stuck, seen_hopeless, stuck_none, truncated_none}
 use Rattle.lvl_path.specs.Figure.{Figure}
 use Rattle.lvl_cells.specs.Cells.{PlainCell, Rings}
-use Rattle.lvl_profile.specs.declared.ignore.Ignore.{Ignore}
+use Rattle.lvl_profile.specs.declared.profile.Profile.{Profile}
 use Rattle.oasis_values.specs.declared.fault.ValueFault.TheVariants.{Truncated, Read}
 use Rattle.oasis_stream.specs.Ends.{ReportsAt}
 use Rattle.oasis_stream.specs.Front.{oasis}
@@ -33,16 +33,16 @@ use Rattle.oasis_library.specs.declared.fault.OasisFault.TheVariants.{At, Unreso
 use Rattle.oasis_library.specs.declared.head.OasisHead.{OasisHead}
 use Rattle.oasis_library.proofs.Resolving.{cells_named, unnamed_none, same_cells, kept_cells, numbers_kept}
 
-same_items : (ignore : Ignore) (xs : List ℕ) (is js : List Item) → SpellsWhole (oasis ignore) xs is
-    → SpellsWhole (oasis ignore) xs js → is ≡ js
-same_items ignore xs is js p q = one_whole (oasis ignore) (is_grammar ignore) xs is js p q
+same_items : (profile : Profile) (xs : List ℕ) (is js : List Item) → SpellsWhole (oasis profile) xs is
+    → SpellsWhole (oasis profile) xs js → is ≡ js
+same_items profile xs is js p q = one_whole (oasis profile) (is_grammar profile) xs is js p q
 
 -- bytes spell at most one library
-pub law_only : (ignore : Ignore) (xs : List ℕ) (cells ds : List (PlainCell Figure)) (h g : OasisHead)
-    → SpellsLibrary ignore xs cells h
-    → SpellsLibrary ignore xs ds g → (ds ≡ cells) × (g ≡ h)
-law_only ignore xs cells ds h g p q =
-    let e = same_items ignore xs q.items p.items q.whole p.whole in
+pub law_only : (profile : Profile) (xs : List ℕ) (cells ds : List (PlainCell Figure)) (h g : OasisHead)
+    → SpellsLibrary profile xs cells h
+    → SpellsLibrary profile xs ds g → (ds ≡ cells) × (g ≡ h)
+law_only profile xs cells ds h g p q =
+    let e = same_items profile xs q.items p.items q.whole p.whole in
     let are : AreCells (names_in (records p.items)) (drawings (records p.items)) ds =
     subst (λ is. AreCells (names_in (records is)) (drawings (records is)) ds) e q.cells_are in (
       same_cells (names_in (records p.items)) (drawings (records p.items)) cells ds p.cells_are are,
@@ -51,13 +51,13 @@ law_only ignore xs cells ds h g p q =
     )
 
 -- what was read of a whole file is the library that it spells
-pub law_read : (ignore : Ignore) (xs : List ℕ) (is : List Item) (found : List (PlainCell Rings)) (h : OasisHead)
-    → SpellsWhole (oasis ignore) xs is
+pub law_read : (profile : Profile) (xs : List ℕ) (is : List Item) (found : List (PlainCell Rings)) (h : OasisHead)
+    → SpellsWhole (oasis profile) xs is
     → AreCells (names_in (records is)) (map with_rings (drawings (records is))) found → h ≡ head_of (records is)
-    → IsRead ignore xs found h
-law_read ignore xs is found h whole are head =
+    → IsRead profile xs found h
+law_read profile xs is found h whole are head =
     let k = kept_cells (names_in (records is)) (drawings (records is)) found are in
-    let spelled : SpellsLibrary ignore xs k.cells h = record {
+    let spelled : SpellsLibrary profile xs k.cells h = record {
       items = is;
       whole = whole;
       cells_are = k.are;
@@ -66,126 +66,126 @@ law_read ignore xs is found h whole are head =
     record {
       cells = k.cells;
       spelled = spelled;
-      only = λ others g q. law_only ignore xs k.cells others h g spelled q;
+      only = λ others g q. law_only profile xs k.cells others h g spelled q;
       kept_as = k.kept_as;
     }
 
 -- a number that no name has, in the cells as they are kept
-pub law_unresolved : (ignore : Ignore) (xs : List ℕ) (is : List Item) (n : ℕ) → SpellsWhole (oasis ignore) xs is
+pub law_unresolved : (profile : Profile) (xs : List ℕ) (is : List Item) (n : ℕ) → SpellsWhole (oasis profile) xs is
     → IsUnnamed (names_in (records is)) (numbers_used (map with_rings (drawings (records is)))) n
-    → ReportsUnresolved ignore xs n
-law_unresolved ignore xs is n whole u =
+    → ReportsUnresolved profile xs n
+law_unresolved profile xs is n whole u =
     (is, whole, subst (λ l. IsUnnamed (names_in (records is)) l n) (numbers_kept (drawings (records is))) u)
 
 -- if the bytes aren't a whole file, they spell no library
-none_spelled : (ignore : Ignore) (xs : List ℕ) → SpellsNothing (oasis ignore) xs → SpellsNone ignore xs
-none_spelled ignore xs n cells h p = n p.items p.whole
+none_spelled : (profile : Profile) (xs : List ℕ) → SpellsNothing (oasis profile) xs → SpellsNone profile xs
+none_spelled profile xs n cells h p = n p.items p.whole
 
-none_resolved : (ignore : Ignore) (xs : List ℕ) (n : ℕ) → ReportsUnresolved ignore xs n → SpellsNone ignore xs
-none_resolved ignore xs n t cells h p =
-    let e = same_items ignore xs p.items t.0 p.whole t.1 in
+none_resolved : (profile : Profile) (xs : List ℕ) (n : ℕ) → ReportsUnresolved profile xs n → SpellsNone profile xs
+none_resolved profile xs n t cells h p =
+    let e = same_items profile xs p.items t.0 p.whole t.1 in
     let are : AreCells (names_in (records t.0)) (drawings (records t.0)) cells =
     subst (λ is. AreCells (names_in (records is)) (drawings (records is)) cells) e p.cells_are in
     unnamed_none (names_in (records t.0)) (numbers_used (drawings (records t.0))) n
     (cells_named (names_in (records t.0)) (drawings (records t.0)) cells are) t.2
 
 -- what a refusal says
-reports_at : (ignore : Ignore) (xs : List ℕ) (left : Option (List ℕ)) (at : ℕ) (k : OasisKind)
-    → RefusesAt ignore xs left at k → ReportsAt ignore xs at k
-reports_at ignore xs left at (Value Truncated) x = x
-reports_at ignore xs left at (Value Read) x = unread_front (oasis_faults ignore) xs left at x
-reports_at ignore xs left at other x = seen_stuck (oasis_faults ignore) (are_faults ignore) xs at left other x
+reports_at : (profile : Profile) (xs : List ℕ) (left : Option (List ℕ)) (at : ℕ) (k : OasisKind)
+    → RefusesAt profile xs left at k → ReportsAt profile xs at k
+reports_at profile xs left at (Value Truncated) x = x
+reports_at profile xs left at (Value Read) x = unread_front (oasis_faults profile) xs left at x
+reports_at profile xs left at other x = seen_stuck (oasis_faults profile) (are_faults profile) xs at left other x
 
-reports : (ignore : Ignore) (xs : List ℕ) (left : Option (List ℕ)) (f : OasisFault) → Refuses ignore xs left f
-    → Reports ignore xs f
-reports ignore xs left (At at k) x = reports_at ignore xs left at k x
-reports ignore xs left (Unresolved n) x = x
+reports : (profile : Profile) (xs : List ℕ) (left : Option (List ℕ)) (f : OasisFault) → Refuses profile xs left f
+    → Reports profile xs f
+reports profile xs left (At at k) x = reports_at profile xs left at k x
+reports profile xs left (Unresolved n) x = x
 
-none_at : (ignore : Ignore) (xs : List ℕ) (left : Option (List ℕ)) (at : ℕ) (k : OasisKind)
-    → RefusesAt ignore xs left at k
+none_at : (profile : Profile) (xs : List ℕ) (left : Option (List ℕ)) (at : ℕ) (k : OasisKind)
+    → RefusesAt profile xs left at k
     → (IsExcused (At at k) → ⊥)
-    → SpellsNone ignore xs
-none_at ignore xs left at (Value Truncated) x n = none_spelled ignore xs
-    (truncated_none (oasis_faults ignore) (are_faults ignore) xs at x)
-none_at ignore xs left at (Value Read) x n = absurd (n tt)
-none_at ignore xs left at other x n =
-    none_spelled ignore xs (stuck_none (oasis ignore) xs at
-    (seen_stuck (oasis_faults ignore) (are_faults ignore) xs at left other x).0)
+    → SpellsNone profile xs
+none_at profile xs left at (Value Truncated) x n = none_spelled profile xs
+    (truncated_none (oasis_faults profile) (are_faults profile) xs at x)
+none_at profile xs left at (Value Read) x n = absurd (n tt)
+none_at profile xs left at other x n =
+    none_spelled profile xs (stuck_none (oasis profile) xs at
+    (seen_stuck (oasis_faults profile) (are_faults profile) xs at left other x).0)
 
-none_of : (ignore : Ignore) (xs : List ℕ) (left : Option (List ℕ)) (f : OasisFault) → Refuses ignore xs left f
+none_of : (profile : Profile) (xs : List ℕ) (left : Option (List ℕ)) (f : OasisFault) → Refuses profile xs left f
     → (IsExcused f → ⊥)
-    → SpellsNone ignore xs
-none_of ignore xs left (At at k) x n = none_at ignore xs left at k x n
-none_of ignore xs left (Unresolved m) x n = none_resolved ignore xs m x
+    → SpellsNone profile xs
+none_of profile xs left (At at k) x n = none_at profile xs left at k x n
+none_of profile xs left (Unresolved m) x n = none_resolved profile xs m x
 
-early_at : (ignore : Ignore) (xs : List ℕ) (left : Option (List ℕ)) (at : ℕ) (k : OasisKind)
-    → RefusesAt ignore xs left at k → IsEarly (At at k)
-    → IsHopeless (oasis ignore) xs left
-early_at ignore xs left at (Value Truncated) x i = absurd i
-early_at ignore xs left at (Value Read) x i = absurd i
-early_at ignore xs left at other x i = seen_hopeless (oasis_faults ignore) (are_faults ignore) xs at left other x
+early_at : (profile : Profile) (xs : List ℕ) (left : Option (List ℕ)) (at : ℕ) (k : OasisKind)
+    → RefusesAt profile xs left at k → IsEarly (At at k)
+    → IsHopeless (oasis profile) xs left
+early_at profile xs left at (Value Truncated) x i = absurd i
+early_at profile xs left at (Value Read) x i = absurd i
+early_at profile xs left at other x i = seen_hopeless (oasis_faults profile) (are_faults profile) xs at left other x
 
-early_of : (ignore : Ignore) (xs : List ℕ) (left : Option (List ℕ)) (f : OasisFault) → Refuses ignore xs left f
+early_of : (profile : Profile) (xs : List ℕ) (left : Option (List ℕ)) (f : OasisFault) → Refuses profile xs left f
     → IsEarly f
-    → IsHopeless (oasis ignore) xs left
-early_of ignore xs left (At at k) x i = early_at ignore xs left at k x i
-early_of ignore xs left (Unresolved n) x i = absurd i
+    → IsHopeless (oasis profile) xs left
+early_of profile xs left (At at k) x i = early_at profile xs left at k x i
+early_of profile xs left (Unresolved n) x i = absurd i
 
-unread_at : (ignore : Ignore) (xs : List ℕ) (left : Option (List ℕ)) (at : ℕ) (k : OasisKind)
-    → RefusesAt ignore xs left at k
-    → ReportsUnread ignore xs left (At at k)
-unread_at ignore xs left at (Value Read) x = x
-unread_at ignore xs left at other x = tt
+unread_at : (profile : Profile) (xs : List ℕ) (left : Option (List ℕ)) (at : ℕ) (k : OasisKind)
+    → RefusesAt profile xs left at k
+    → ReportsUnread profile xs left (At at k)
+unread_at profile xs left at (Value Read) x = x
+unread_at profile xs left at other x = tt
 
-unread_of : (ignore : Ignore) (xs : List ℕ) (left : Option (List ℕ)) (f : OasisFault) → Refuses ignore xs left f
-    → ReportsUnread ignore xs left f
-unread_of ignore xs left (At at k) x = unread_at ignore xs left at k x
-unread_of ignore xs left (Unresolved n) x = tt
+unread_of : (profile : Profile) (xs : List ℕ) (left : Option (List ℕ)) (f : OasisFault) → Refuses profile xs left f
+    → ReportsUnread profile xs left f
+unread_of profile xs left (At at k) x = unread_at profile xs left at k x
+unread_of profile xs left (Unresolved n) x = tt
 
 -- the same for a result
-refused : {A : Type 0} (ignore : Ignore) (xs : List ℕ) (left : Option (List ℕ)) (P : OasisFault → Type 0)
-    → ((f : OasisFault) → Refuses ignore xs left f → P f) → (r : Result A (Cause OasisFault))
-    → IfErr r (λ e. Says e (Refuses ignore xs left)) → IfErr r (λ e. Says e P)
-refused ignore xs left P h (Ok x) s = tt
-refused ignore xs left P h (Err (Breach f)) s = h f s
-refused ignore xs left P h (Err OutOfMemory) s = tt
+refused : {A : Type 0} (profile : Profile) (xs : List ℕ) (left : Option (List ℕ)) (P : OasisFault → Type 0)
+    → ((f : OasisFault) → Refuses profile xs left f → P f) → (r : Result A (Cause OasisFault))
+    → IfErr r (λ e. Says e (Refuses profile xs left)) → IfErr r (λ e. Says e P)
+refused profile xs left P h (Ok x) s = tt
+refused profile xs left P h (Err (Breach f)) s = h f s
+refused profile xs left P h (Err OutOfMemory) s = tt
 
-pub refused_reports : {A : Type 0} (ignore : Ignore) (xs : List ℕ) (left : Option (List ℕ))
+pub refused_reports : {A : Type 0} (profile : Profile) (xs : List ℕ) (left : Option (List ℕ))
     (r : Result A (Cause OasisFault))
-    → IfErr r (λ e. Says e (Refuses ignore xs left)) → IfErr r (λ e. Says e (Reports ignore xs))
-refused_reports ignore xs left = refused ignore xs left (Reports ignore xs) (reports ignore xs left)
+    → IfErr r (λ e. Says e (Refuses profile xs left)) → IfErr r (λ e. Says e (Reports profile xs))
+refused_reports profile xs left = refused profile xs left (Reports profile xs) (reports profile xs left)
 
-pub refused_none : {A : Type 0} (ignore : Ignore) (xs : List ℕ) (left : Option (List ℕ))
+pub refused_none : {A : Type 0} (profile : Profile) (xs : List ℕ) (left : Option (List ℕ))
     (r : Result A (Cause OasisFault))
-    → IfErr r (λ e. Says e (Refuses ignore xs left))
-    → IfErr r (λ e. Says e (λ f. (IsExcused f → ⊥) → SpellsNone ignore xs))
-refused_none ignore xs left = refused ignore xs left (λ f. (IsExcused f → ⊥) → SpellsNone ignore xs)
-    (none_of ignore xs left)
+    → IfErr r (λ e. Says e (Refuses profile xs left))
+    → IfErr r (λ e. Says e (λ f. (IsExcused f → ⊥) → SpellsNone profile xs))
+refused_none profile xs left = refused profile xs left (λ f. (IsExcused f → ⊥) → SpellsNone profile xs)
+    (none_of profile xs left)
 
-pub refused_early : {A : Type 0} (ignore : Ignore) (xs : List ℕ) (left : Option (List ℕ))
+pub refused_early : {A : Type 0} (profile : Profile) (xs : List ℕ) (left : Option (List ℕ))
     (r : Result A (Cause OasisFault))
-    → IfErr r (λ e. Says e (Refuses ignore xs left))
-    → IfErr r (λ e. Says e (λ f. IsEarly f → IsHopeless (oasis ignore) xs left))
-refused_early ignore xs left = refused ignore xs left (λ f. IsEarly f → IsHopeless (oasis ignore) xs left)
-    (early_of ignore xs left)
+    → IfErr r (λ e. Says e (Refuses profile xs left))
+    → IfErr r (λ e. Says e (λ f. IsEarly f → IsHopeless (oasis profile) xs left))
+refused_early profile xs left = refused profile xs left (λ f. IsEarly f → IsHopeless (oasis profile) xs left)
+    (early_of profile xs left)
 
-refused_unread : {A : Type 0} (ignore : Ignore) (xs : List ℕ) (left : Option (List ℕ))
+refused_unread : {A : Type 0} (profile : Profile) (xs : List ℕ) (left : Option (List ℕ))
     (r : Result A (Cause OasisFault))
-    → IfErr r (λ e. Says e (Refuses ignore xs left)) → IfErr r (λ e. Says e (ReportsUnread ignore xs left))
-refused_unread ignore xs left = refused ignore xs left (ReportsUnread ignore xs left) (unread_of ignore xs left)
+    → IfErr r (λ e. Says e (Refuses profile xs left)) → IfErr r (λ e. Says e (ReportsUnread profile xs left))
+refused_unread profile xs left = refused profile xs left (ReportsUnread profile xs left) (unread_of profile xs left)
 
 -- the same for the bytes that are left in the end
-pub unread_left : {A : Type 0} (ignore : Ignore) (xs : List ℕ) (left left' : Option (List ℕ))
+pub unread_left : {A : Type 0} (profile : Profile) (xs : List ℕ) (left left' : Option (List ℕ))
     (r : Result A (Cause OasisFault))
-    → IfErr r (λ e. Says e (Refuses ignore xs left)) → left ≡ left'
-    → IfErr r (λ e. Says e (ReportsUnread ignore xs left'))
-unread_left ignore xs left left' r h e =
-    subst (λ l. IfErr r (λ e. Says e (ReportsUnread ignore xs l))) e (refused_unread ignore xs left r h)
+    → IfErr r (λ e. Says e (Refuses profile xs left)) → left ≡ left'
+    → IfErr r (λ e. Says e (ReportsUnread profile xs left'))
+unread_left profile xs left left' r h e =
+    subst (λ l. IfErr r (λ e. Says e (ReportsUnread profile xs l))) e (refused_unread profile xs left r h)
 
-pub early_left : {A : Type 0} (ignore : Ignore) (xs : List ℕ) (left left' : Option (List ℕ))
+pub early_left : {A : Type 0} (profile : Profile) (xs : List ℕ) (left left' : Option (List ℕ))
     (r : Result A (Cause OasisFault))
-    → IfErr r (λ e. Says e (Refuses ignore xs left)) → left ≡ left'
-    → IfErr r (λ e. Says e (λ f. IsEarly f → IsHopeless (oasis ignore) xs left'))
-early_left ignore xs left left' r h e =
-    subst (λ l. IfErr r (λ e. Says e (λ f. IsEarly f → IsHopeless (oasis ignore) xs l))) e
-    (refused_early ignore xs left r h)
+    → IfErr r (λ e. Says e (Refuses profile xs left)) → left ≡ left'
+    → IfErr r (λ e. Says e (λ f. IsEarly f → IsHopeless (oasis profile) xs left'))
+early_left profile xs left left' r h e =
+    subst (λ l. IfErr r (λ e. Says e (λ f. IsEarly f → IsHopeless (oasis profile) xs l))) e
+    (refused_early profile xs left r h)

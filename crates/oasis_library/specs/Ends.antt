@@ -4,7 +4,7 @@ use Rattle.lvl_refusal.specs.declared.Cause.{Cause}
 use Rattle.lvl_refusal.specs.declared.Cause.TheVariants.{Breach, OutOfMemory}
 use Rattle.lvl_grammar.specs.Front.{SpellsWhole}
 use Rattle.lvl_grammar.specs.Refused.{IsUnread}
-use Rattle.lvl_profile.specs.declared.ignore.Ignore.{Ignore}
+use Rattle.lvl_profile.specs.declared.profile.Profile.{Profile}
 use Rattle.oasis_values.specs.declared.fault.ValueFault.TheVariants.{Truncated, Read}
 use Rattle.oasis_stream.specs.Ends.{ReportsAt, is_read_kind}
 use Rattle.oasis_stream.specs.Front.{oasis}
@@ -18,15 +18,15 @@ use Rattle.oasis_library.specs.declared.fault.OasisFault.{OasisFault}
 use Rattle.oasis_library.specs.declared.fault.OasisFault.TheVariants.{At, Unresolved}
 
 -- the bytes are a whole file, and n is the first number used in it that no CELLNAME has
-abbrev pub ReportsUnresolved : Ignore → List ℕ → ℕ → Type 0
-ReportsUnresolved ignore xs n =
-    (is : List Item) × SpellsWhole (oasis ignore) xs is × IsUnnamed (names_in (records is))
+abbrev pub ReportsUnresolved : Profile → List ℕ → ℕ → Type 0
+ReportsUnresolved profile xs n =
+    (is : List Item) × SpellsWhole (oasis profile) xs is × IsUnnamed (names_in (records is))
     (numbers_used (drawings (records is))) n
 
 -- the fault and its offset are right
-abbrev pub Reports : Ignore → List ℕ → OasisFault → Type 0
-Reports ignore xs (At at k) = ReportsAt ignore xs at k
-Reports ignore xs (Unresolved n) = ReportsUnresolved ignore xs n
+abbrev pub Reports : Profile → List ℕ → OasisFault → Type 0
+Reports profile xs (At at k) = ReportsAt profile xs at k
+Reports profile xs (Unresolved n) = ReportsUnresolved profile xs n
 
 -- the fault says nothing about the input, since the reader failed
 abbrev pub IsExcused : OasisFault → Type 0
@@ -35,9 +35,9 @@ IsExcused f = ⊥
 
 -- if the reader failed, the bytes before the offset are a front; of those from it on, the ones that it gave are none or
 -- an unfinished beginning of a record, and it has the others left
-abbrev pub ReportsUnread : Ignore → List ℕ → Option (List ℕ) → OasisFault → Type 0
-ReportsUnread ignore xs left (At at (Value Read)) = IsUnread (oasis_faults ignore) xs left at
-ReportsUnread ignore xs left f = Unit {0}
+abbrev pub ReportsUnread : Profile → List ℕ → Option (List ℕ) → OasisFault → Type 0
+ReportsUnread profile xs left (At at (Value Read)) = IsUnread (oasis_faults profile) xs left at
+ReportsUnread profile xs left f = Unit {0}
 
 -- the fault is decided by the bytes that were taken, whatever comes after them: it is neither that the input ended nor
 -- that the reader failed

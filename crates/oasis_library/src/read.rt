@@ -4,8 +4,8 @@ ghost use Rattle.lvl_io.specs.Bytes.{CountsFailure};
 ghost use Rattle.lvl_refusal.specs.Refused.{Says};
 ghost use Rattle.lvl_grammar.specs.Refused.{IsHopeless};
 ghost use Rattle.lvl_grammar.specs.inside.ReadTo.{ReadTo};
-ghost use Rattle.lvl_profile.specs.Ignored.{nothing};
-ghost use Rattle.oasis_values.specs.Input.{has_failed, bytes_left, input_ignore, input_offset, input_reader};
+ghost use Rattle.lvl_profile.specs.Profiles.{strict};
+ghost use Rattle.oasis_values.specs.Input.{has_failed, bytes_left, input_profile, input_offset, input_reader};
 ghost use Rattle.lvl_grammar.specs.Front.{SpellsWhole};
 ghost use Rattle.oasis_stream.specs.Front.{oasis};
 ghost use Rattle.oasis_stream.specs.Items.{IsEnded};
@@ -21,17 +21,14 @@ use crate::head::OasisHead;
 use crate::reading::Reading;
 use lvl_cells::Library;
 use lvl_io::Read;
-use lvl_profile::Ignore;
+use lvl_profile::Profile;
 use lvl_refusal::Cause;
 use oasis_records::Record;
 use oasis_stream::{OasisKind, read_first, read_next};
 use oasis_values::{Input, ValueFault};
 use std::alloc::Global;
 
-/// The greatest number of records of a file: each has at least one byte.
-const MOST_RECORDS: u64 = 4_294_967_295;
-
-/// The library that an OASIS file spells, and its head. Nothing is ignored.
+/// The library that an OASIS file spells, and its head. Nothing is ignored, and the standard limits hold.
 ///
 /// A file is the magic string, a START record, records, and an END record of 256 bytes (SEMI P39 OASIS
 /// 1.0). A cell has the shapes and the references of the records after its CELL, in their order. A field
@@ -45,67 +42,68 @@ pub fn read_oasis<R: Read>(
 ) -> Result<(Library, OasisHead), Cause<OasisFault>>
     // A library is returned only if the bytes spell it, and they spell no other.
     ensures spelled { (xs : List ℕ) → R.remaining reader.old ≡ Some xs
-        → IfOk result (λ read. IsRead nothing xs read.0 read.1) }
+        → IfOk result (λ read. IsRead strict xs read.0 read.1) }
 
     // A refusal names what is wrong, and the bytes spell no library, unless an allocation or the reader
     // failed.
     ensures refused { (xs : List ℕ) → R.remaining reader.old ≡ Some xs
-        → IfErr result (λ refusal. Says refusal (Reports nothing xs)) }
+        → IfErr result (λ refusal. Says refusal (Reports strict xs)) }
     ensures none { (xs : List ℕ) → R.remaining reader.old ≡ Some xs
-        → IfErr result (λ refusal. Says refusal (λ fault. (¬ IsExcused fault) → SpellsNone nothing xs)) }
+        → IfErr result (λ refusal. Says refusal (λ fault. (¬ IsExcused fault) → SpellsNone strict xs)) }
 
     // If the reader failed, it had given no whole record from the offset on.
     ensures unread { (xs : List ℕ) → R.remaining reader.old ≡ Some xs
-        → IfErr result (λ refusal. Says refusal (ReportsUnread nothing xs (R.remaining reader.new))) }
+        → IfErr result (λ refusal. Says refusal (ReportsUnread strict xs (R.remaining reader.new))) }
 
     // If a record is refused, and neither did the input end nor the reader fail, no file that
     // begins with the bytes taken spells a library.
     ensures early { (xs : List ℕ) → R.remaining reader.old ≡ Some xs
         → IfErr result (λ refusal. Says refusal (λ fault. IsEarly fault
-        → IsHopeless (oasis nothing) xs (R.remaining reader.new))) }
+        → IsHopeless (oasis strict) xs (R.remaining reader.new))) }
 
     // The reader failed exactly once if `Read` is reported, and otherwise never.
     ensures reads { CountsFailure (R.read_errors reader.old) (R.read_errors reader.new) (is_read result) }
     ensures same { R.lent reader.new ≡ R.lent reader.old }
 {
-    read_oasis_by(alloc, reader, Ignore::NOTHING)
+    read_oasis_by(alloc, reader, Profile::STANDARD)
 }
 
-/// The library that an OASIS file spells, and its head, with some records and padding ignored. What
-/// is ignored must have the form of the standard.
+/// The library that an OASIS file spells, and its head, with what is ignored and the limits that the
+/// profile says. What is ignored must have the form of the standard.
 ///
-/// Everything else is as in [`read_oasis`]. What that reads is read in the same way, whatever is ignored.
+/// Everything else is as in [`read_oasis`]. What that reads is read in the same way
+/// under each wider profile.
 pub fn read_oasis_by<R: Read>(
     alloc: Global,
     reader: &mut R,
-    ignore: Ignore,
+    profile: Profile,
 ) -> Result<(Library, OasisHead), Cause<OasisFault>>
     // A library is returned only if the bytes spell it, and they spell no other.
     ensures spelled { (xs : List ℕ) → R.remaining reader.old ≡ Some xs
-        → IfOk result (λ read. IsRead ignore xs read.0 read.1) }
+        → IfOk result (λ read. IsRead profile xs read.0 read.1) }
 
     // A refusal names what is wrong, and the bytes spell no library, unless an allocation or the reader
     // failed.
     ensures refused { (xs : List ℕ) → R.remaining reader.old ≡ Some xs
-        → IfErr result (λ refusal. Says refusal (Reports ignore xs)) }
+        → IfErr result (λ refusal. Says refusal (Reports profile xs)) }
     ensures none { (xs : List ℕ) → R.remaining reader.old ≡ Some xs
-        → IfErr result (λ refusal. Says refusal (λ fault. (¬ IsExcused fault) → SpellsNone ignore xs)) }
+        → IfErr result (λ refusal. Says refusal (λ fault. (¬ IsExcused fault) → SpellsNone profile xs)) }
 
     // If the reader failed, it had given no whole record from the offset on.
     ensures unread { (xs : List ℕ) → R.remaining reader.old ≡ Some xs
-        → IfErr result (λ refusal. Says refusal (ReportsUnread ignore xs (R.remaining reader.new))) }
+        → IfErr result (λ refusal. Says refusal (ReportsUnread profile xs (R.remaining reader.new))) }
 
     // If a record is refused, and neither did the input end nor the reader fail, no file that
     // begins with the bytes taken spells a library.
     ensures early { (xs : List ℕ) → R.remaining reader.old ≡ Some xs
         → IfErr result (λ refusal. Says refusal (λ fault. IsEarly fault
-        → IsHopeless (oasis ignore) xs (R.remaining reader.new))) }
+        → IsHopeless (oasis profile) xs (R.remaining reader.new))) }
 
     // The reader failed exactly once if `Read` is reported, and otherwise never.
     ensures reads { CountsFailure (R.read_errors reader.old) (R.read_errors reader.new) (is_read result) }
     ensures same { R.lent reader.new ≡ R.lent reader.old }
 {
-    let mut input = Input::new(reader, ignore);
+    let mut input = Input::new(reader, profile);
     let read = read_library(alloc, &mut input);
     let _reader = input.into_reader();
     read
@@ -119,9 +117,9 @@ fn read_library<R: Read>(
     requires fresh { has_failed input.old ≡ false }
     requires start { input_offset input.old ≡ 0 }
     ensures spelled { (xs : List ℕ) → bytes_left R.remaining input.old ≡ Some xs
-        → IfOk result (λ read. IsRead (input_ignore input.old) xs read.0 read.1) }
+        → IfOk result (λ read. IsRead (input_profile input.old) xs read.0 read.1) }
     ensures refused { (xs : List ℕ) → bytes_left R.remaining input.old ≡ Some xs
-        → IfErr result (λ refusal. Says refusal (Refuses (input_ignore input.old) xs
+        → IfErr result (λ refusal. Says refusal (Refuses (input_profile input.old) xs
         (R.remaining (input_reader input.new)))) }
     ensures reads { CountsFailure (R.read_errors (input_reader input.old))
         (R.read_errors (input_reader input.new)) (is_read result) }
@@ -147,13 +145,13 @@ fn read_records<R: Read>(
     requires fresh { has_failed input.old ≡ false }
     requires start { input_offset input.old ≡ 0 }
     ensures refused { (xs : List ℕ) → bytes_left R.remaining input.old ≡ Some xs
-        → IfErr result (λ refusal. Says refusal (Refuses (input_ignore input.old) xs
+        → IfErr result (λ refusal. Says refusal (Refuses (input_profile input.old) xs
         (R.remaining (input_reader input.new)))) }
     ensures whole { OnOk result ((xs : List ℕ) → bytes_left R.remaining input.old ≡ Some xs
-        → ReadTo (oasis (input_ignore input.old)) xs (input_offset input.new) (HasWhole reading.new)
+        → ReadTo (oasis (input_profile input.old)) xs (input_offset input.new) (HasWhole reading.new)
         (bytes_left R.remaining input.new)) }
     ensures fresh { OnOk result (has_failed input.new ≡ false) }
-    ensures ignore { OnOk result (input_ignore input.new ≡ input_ignore input.old) }
+    ensures profile { OnOk result (input_profile input.new ≡ input_profile input.old) }
     ensures reads { CountsFailure (R.read_errors (input_reader input.old))
         (R.read_errors (input_reader input.new)) (is_read result) }
     ensures same { R.lent (input_reader input.new) ≡ R.lent (input_reader input.old) }
@@ -162,7 +160,7 @@ fn read_records<R: Read>(
         Ok(()) => {}
         Err(kind) => return Err(refuse(0, kind)),
     }
-    for _ in 0..MOST_RECORDS {
+    for _ in 0..u64::MAX {
         let offset = input.offset();
         let record = match read_next(input, alloc, reading.order()) {
             Ok(record) => record,
@@ -184,12 +182,12 @@ fn read_records<R: Read>(
 fn read_nothing<R: Read>(input: &mut Input<R>) -> Result<(), Cause<OasisFault>>
     requires { has_failed input.old ≡ false }
     ensures whole { OnOk result ((xs : List ℕ)
-        (to : ReadTo (oasis (input_ignore input.old)) xs (input_offset input.old) IsEnded
+        (to : ReadTo (oasis (input_profile input.old)) xs (input_offset input.old) IsEnded
         (bytes_left R.remaining input.old))
-        → SpellsWhole (oasis (input_ignore input.old)) xs to.records) }
+        → SpellsWhole (oasis (input_profile input.old)) xs to.records) }
     ensures refused { IfErr result (λ refusal. Says refusal (λ fault. (xs : List ℕ)
-        → ReadTo (oasis (input_ignore input.old)) xs (input_offset input.old) IsEnded (bytes_left R.remaining input.old)
-        → Refuses (input_ignore input.old) xs (R.remaining (input_reader input.new)) fault)) }
+        → ReadTo (oasis (input_profile input.old)) xs (input_offset input.old) IsEnded (bytes_left R.remaining input.old)
+        → Refuses (input_profile input.old) xs (R.remaining (input_reader input.new)) fault)) }
     ensures reads { CountsFailure (R.read_errors (input_reader input.old))
         (R.read_errors (input_reader input.new)) (is_read result) }
     ensures same { R.lent (input_reader input.new) ≡ R.lent (input_reader input.old) }

@@ -1,8 +1,8 @@
 -- The laws of the records that are only read to be ignored.
 use Rattle.std.proofs.Common.{◌≡◌, ℕ, ◌/◌, ◌==◌, Bool, true, false, if◌then◌else◌, List, [], ◌∷◌, Result, Ok, Err, refl}
 use Rattle.std.proofs.Common.{sym, subst}
-use Rattle.lvl_profile.specs.declared.ignore.Ignore.{Ignore}
-use Rattle.lvl_profile.specs.Ignored.{IsSubsetOf}
+use Rattle.lvl_profile.specs.declared.profile.Profile.{Profile}
+use Rattle.lvl_profile.specs.Profiles.{IsWider}
 use Rattle.oasis_records.specs.Records.{Row, look_up, record_type, types, type_if}
 use Rattle.oasis_values.specs.Known.{Unkept, Seen}
 use Rattle.oasis_values.specs.Numbers.{IsUnsigned}
@@ -89,7 +89,7 @@ property_code = and_then_code (then_code byte_code (λ i. gives_code)) (λ i. se
 
 -- if more is ignored, the same types are read, and perhaps more
 
-abbrev AllGrow : Ignore → Ignore → List Row → Type 0
+abbrev AllGrow : Profile → Profile → List Row → Type 0
 AllGrow less more [] = Unit {0}
 AllGrow less more (r ∷ rs) = (r.is_read less ≡ true → r.is_read more ≡ true) × AllGrow less more rs
 
@@ -103,7 +103,7 @@ type_if_grows : (b c : Bool) (n : ℕ) (kind t : RecordType) → (b ≡ true →
 type_if_grows true c n kind t h e = subst (λ d. type_if d kind n ≡ Ok t) (sym (h refl)) e
 type_if_grows false c n kind t h e = absurd (let k : Err (Unsupported n) ≡ Ok t = e in cc)
 
-look_up_grows : (less more : Ignore) (rows : List Row) (n : ℕ) (t : RecordType) → AllGrow less more rows
+look_up_grows : (less more : Profile) (rows : List Row) (n : ℕ) (t : RecordType) → AllGrow less more rows
     → look_up less rows n ≡ Ok t → look_up more rows n ≡ Ok t
 look_up_grows less more [] n t all e = absurd (let k : Err (Unsupported n) ≡ Ok t = e in cc)
 look_up_grows less more (r ∷ rs) n t all e =
@@ -111,13 +111,13 @@ look_up_grows less more (r ∷ rs) n t all e =
     (look_up more rs n) t (type_if_grows (r.is_read less) (r.is_read more) n r.kind t all.0)
     (look_up_grows less more rs n t all.1) e
 
-pub type_grows : (less more : Ignore) → IsSubsetOf less more → (n : ℕ) (t : RecordType) → record_type less n ≡ Ok t
+pub type_grows : (less more : Profile) → IsWider less more → (n : ℕ) (t : RecordType) → record_type less n ≡ Ok t
     → record_type more n ≡ Ok t
 type_grows less more within n t e =
     let a : true ≡ true → true ≡ true = λ h. h in
-    let s = within.texts in
-    let p = within.properties in
-    let m = within.names in
+    let s = within.ignore.texts in
+    let p = within.ignore.properties in
+    let m = within.ignore.names in
     look_up_grows less more types n t (
       a,
       (

@@ -6,7 +6,7 @@ use Rattle.lvl_io.proofs.Spelling.{breached_none, front_only}
 use Rattle.lvl_refusal.specs.declared.Cause.{Cause}
 use Rattle.lvl_refusal.specs.declared.Cause.TheVariants.{Breach, OutOfMemory}
 use Rattle.oasis_values.specs.Known.{Seen}
-use Rattle.oasis_values.specs.Input.{has_failed, input_ignore}
+use Rattle.oasis_values.specs.Input.{has_failed, input_profile}
 use Rattle.oasis_values.specs.Reads.{Reads}
 use Rattle.oasis_values.specs.Spelling.{Spelling}
 use Rattle.oasis_values.proofs.Codes.{gives_code, then_code, IsCode}
@@ -72,14 +72,14 @@ reads_denies (Ok (Ok y)) code p = record { none = λ live xs k. tt }
 reads_denies {S = S} {old = old} (Ok (Err j)) code p =
     record {
       none = λ live xs k x b q agree. let h : Ok (Err j) ≡ Ok (Ok x) =
-          front_only (S (input_ignore old)) xs _ (Ok (Err j))
-          (Ok (Ok x)) (code.free (input_ignore old)) (p.answers live xs k).0 b q agree in cc;
+          front_only (S (input_profile old)) xs _ (Ok (Err j))
+          (Ok (Ok x)) (code.free (input_profile old)) (p.answers live xs k).0 b q agree in cc;
     }
 reads_denies (Err OutOfMemory) code p = record { none = λ live xs k. tt }
 reads_denies {S = S} {old = old} (Err (Breach f)) code p =
     record {
       none = λ live xs k rule x. let q = (p.answers live xs k).breached rule in
-          breached_none (S (input_ignore old)) xs q.count f (Ok x) (code.free (input_ignore old)) q.front;
+          breached_none (S (input_profile old)) xs q.count f (Ok x) (code.free (input_profile old)) q.front;
     }
 
 -- a rule that is tested before more is read

@@ -4,8 +4,8 @@ use Rattle.std.specs.Prelude.{Option}
 use Rattle.std.specs.Borrow.{GName}
 use Rattle.lvl_io.specs.Spelling.{IsPrefixFree, CanSay, IsBegun}
 use Rattle.lvl_refusal.specs.declared.Cause.TheVariants.{Breach}
-use Rattle.lvl_profile.specs.declared.ignore.Ignore.{Ignore}
-use Rattle.oasis_values.specs.Input.{input_ignore, room_left}
+use Rattle.lvl_profile.specs.declared.profile.Profile.{Profile}
+use Rattle.oasis_values.specs.Input.{input_profile, room_left}
 use Rattle.oasis_values.specs.Reads.{Fails, bytes_had, Reads}
 use Rattle.oasis_values.specs.Spelling.{Spelling}
 use Rattle.oasis_values.proofs.Codes.{IsCode}
@@ -22,16 +22,16 @@ abbrev of_len : ℕ → Result ℕ ValueFault → Result Measured ValueFault
 of_len n (Ok v) = Ok (measured v n)
 of_len n (Err f) = Err f
 
-sized_says : (S : Spelling ℕ) (i : Ignore) (b : List ℕ) (r : Result ℕ ValueFault) → S i b r
+sized_says : (S : Spelling ℕ) (i : Profile) (b : List ℕ) (r : Result ℕ ValueFault) → S i b r
     → Sized S i b (of_len (length b) r)
 sized_says S i b (Ok v) s = (s, refl)
 sized_says S i b (Err f) s = s
 
-sized_said : (S : Spelling ℕ) (i : Ignore) → CanSay (S i) → CanSay (Sized S i)
+sized_said : (S : Spelling ℕ) (i : Profile) → CanSay (S i) → CanSay (Sized S i)
 sized_said S i s =
     record { bytes = s.bytes; value = of_len (length s.bytes) s.value; says = sized_says S i s.bytes s.value s.says }
 
-sized_only : (S : Spelling ℕ) (i : Ignore) → IsPrefixFree (S i)
+sized_only : (S : Spelling ℕ) (i : Profile) → IsPrefixFree (S i)
     → (b c m n : List ℕ) (x y : Result Measured ValueFault)
     → Sized S i b x → Sized S i c y → b ++ m ≡ c ++ n → (b ≡ c) × (x ≡ y)
 sized_only S i s b c m n (Ok x) (Ok y) p q e =
@@ -56,7 +56,7 @@ sized_code {S = S} s =
       grows = λ less more within b m p. (s.grows less more within b m.value p.0, p.1);
     }
 
-sized_begun : (S : Spelling ℕ) (i : Ignore) (xs : List ℕ) → IsBegun (S i) xs → IsBegun (Sized S i) xs
+sized_begun : (S : Spelling ℕ) (i : Profile) (xs : List ℕ) → IsBegun (S i) xs → IsBegun (Sized S i) xs
 sized_begun S i xs p =
     record {
       more = p.more;
@@ -65,7 +65,7 @@ sized_begun S i xs p =
       says = sized_says S i (xs ++ p.more) p.value p.says;
     }
 
-sized_fails : (S : Spelling ℕ) (i : Ignore) (room had : ℕ) (xs : List ℕ) (f : ValueFault)
+sized_fails : (S : Spelling ℕ) (i : Profile) (room had : ℕ) (xs : List ℕ) (f : ValueFault)
     → Fails (S i) room had xs f → Fails (Sized S i) room had xs f
 sized_fails S i room had xs f p =
     record {
@@ -96,11 +96,11 @@ reads_sized_err {S = S} {old = old} {new = new} f p =
     record {
       again = λ h. ap (err_as Measured) (p.again h);
       fresh = λ h k. p.fresh h (ap (err_as ℕ) k);
-      answers = λ h xs k. sized_fails S (input_ignore old) (room_left old) (bytes_had old new) xs f
+      answers = λ h xs k. sized_fails S (input_profile old) (room_left old) (bytes_had old new) xs f
           (p.answers h xs k);
       left = p.left;
       forward = p.forward;
-      ignores = p.ignores;
+      profiles = p.profiles;
       failed = p.failed;
       counted = p.counted;
       same = p.same;

@@ -1,6 +1,6 @@
 -- Records by their ids (SEMI P39 OASIS 1.0, "Records"). Own rule: records of other ids aren't read.
 use Rattle.std.specs.Prelude.{ℕ, ◌==◌, if◌then◌else◌, Bool, true, false, List, [], ◌∷◌, Result, Ok, Err}
-use Rattle.lvl_profile.specs.declared.ignore.Ignore.{Ignore}
+use Rattle.lvl_profile.specs.declared.profile.Profile.{Profile}
 use Rattle.oasis_values.specs.Known.{Seen}
 use Rattle.oasis_values.specs.Numbers.{IsUnsigned}
 use Rattle.oasis_values.specs.Spelling.{Spelling, Gives, Then}
@@ -43,28 +43,28 @@ use Rattle.oasis_records.specs.declared.record_type.RecordType.TheVariants.{Poly
 -- a type of records: its id, and whether it is read, by what is ignored
 pub record Row : Type 0 where
   pub id : ℕ
-  pub is_read : Ignore → Bool
+  pub is_read : Profile → Bool
   pub kind : RecordType
 
 -- a row of the table
-abbrev pub row : ℕ → (Ignore → Bool) → RecordType → Row
+abbrev pub row : ℕ → (Profile → Bool) → RecordType → Row
 row id is_read kind = record { id = id; is_read = is_read; kind = kind }
 
 -- a type is always read
-abbrev pub always : Ignore → Bool
-always ignore = true
+abbrev pub always : Profile → Bool
+always profile = true
 
 -- a type is read if names are ignored
-abbrev pub names : Ignore → Bool
-names ignore = ignore.names
+abbrev pub names : Profile → Bool
+names profile = profile.ignore.names
 
 -- a type is read if texts are ignored
-abbrev pub texts : Ignore → Bool
-texts ignore = ignore.texts
+abbrev pub texts : Profile → Bool
+texts profile = profile.ignore.texts
 
 -- a type is read if properties are ignored
-abbrev pub properties : Ignore → Bool
-properties ignore = ignore.properties
+abbrev pub properties : Profile → Bool
+properties profile = profile.ignore.properties
 
 -- the types of records that are read, always or if they are ignored
 abbrev pub types : List Row
@@ -104,13 +104,13 @@ type_if true kind n = Ok kind
 type_if false kind n = Err (Unsupported n)
 
 -- the type of the id n in a table; Unsupported if the table doesn't have it, or if it isn't read
-abbrev pub look_up : Ignore → List Row → ℕ → Result RecordType RecordRule
-look_up ignore [] n = Err (Unsupported n)
-look_up ignore (t ∷ ts) n = if n == t.id then type_if (t.is_read ignore) t.kind n else look_up ignore ts n
+abbrev pub look_up : Profile → List Row → ℕ → Result RecordType RecordRule
+look_up profile [] n = Err (Unsupported n)
+look_up profile (t ∷ ts) n = if n == t.id then type_if (t.is_read profile) t.kind n else look_up profile ts n
 
 -- the type of records with an id
-abbrev pub record_type : Ignore → ℕ → Result RecordType RecordRule
-record_type ignore = look_up ignore types
+abbrev pub record_type : Profile → ℕ → Result RecordType RecordRule
+record_type profile = look_up profile types
 
 -- the fields of a record of that type, after an id of `id_len` bytes; `at_end` says whether the offsets of tables are
 -- in END
@@ -137,5 +137,5 @@ AreFields at_end id_len OfPath = IsPath
 -- an id, and the fields of its record
 abbrev pub IsRecord : Bool → Spelling (Result Record RecordRule)
 IsRecord at_end =
-    Then (Sized IsUnsigned) (λ id. AndThen (λ ignore. Gives (Ok (record_type ignore id.value)) ignore)
+    Then (Sized IsUnsigned) (λ id. AndThen (λ profile. Gives (Ok (record_type profile id.value)) profile)
     (AreFields at_end id.len))

@@ -6,7 +6,7 @@ use Rattle.lvl_io.specs.Spelling.{NoneAgrees}
 use Rattle.lvl_refusal.specs.declared.Cause.{Cause}
 use Rattle.lvl_refusal.specs.declared.Cause.TheVariants.{Breach, OutOfMemory}
 use Rattle.oasis_values.specs.Faults.{is_rule}
-use Rattle.oasis_values.specs.Input.{has_failed, input_ignore, bytes_left}
+use Rattle.oasis_values.specs.Input.{has_failed, input_profile, bytes_left}
 use Rattle.oasis_values.specs.Spelling.{Spelling, Gives, Then}
 use Rattle.oasis_values.specs.declared.fault.ValueFault.{ValueFault}
 use Rattle.oasis_values.specs.declared.input.Input.{Input}
@@ -68,4 +68,4 @@ IsDenied {A = A} S xs (Err (Breach f)) = is_rule f ≡ true → (x : A) → None
 pub record Denies {R A : Type 0} (remaining : R → Option (List ℕ)) (S : Spelling (Result A RecordRule))
     (old : Input R) (r : Result (Result A RecordRule) (Cause ValueFault)) : Type 0 where
   pub none : has_failed old ≡ false → (xs : List ℕ) → bytes_left remaining old ≡ Some xs
-      → IsDenied (S (input_ignore old)) xs r
+      → IsDenied (S (input_profile old)) xs r

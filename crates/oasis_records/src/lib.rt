@@ -8,12 +8,12 @@
 //! Here the bytes of a RECTANGLE are read:
 //!
 //! ```
-//! use lvl_profile::Ignore;
+//! use lvl_profile::Profile;
 //! use lvl_io::fake::Pieces;
 //! use oasis_records::{Record, RecordType, read_fields, read_id};
 //! use oasis_values::Input;
 //!
-//! let mut input = Input::new(Pieces::new(RECTANGLE, usize::MAX), Ignore::NOTHING);
+//! let mut input = Input::new(Pieces::new(RECTANGLE, usize::MAX), Profile::STANDARD);
 //! let id = read_id(&mut input)?;
 //! let kind = RecordType::of(id.value, input.ignore())?;
 //! let record = read_fields(&mut input, alloc, kind, id.len, false)?;

@@ -1,10 +1,12 @@
--- A file that is accepted when less is ignored is accepted when more is.
+-- A file that is accepted under a profile is accepted under each wider one.
 use Rattle.std.proofs.Common.{◌≡◌, ℕ, Bool, true, false, if◌then◌else◌, List, [], ◌∷◌, ◌++◌, Result, Ok, Err, refl, sym}
-use Rattle.std.proofs.Common.{subst}
+use Rattle.std.proofs.Common.{subst, arith, length, not, ◌&&◌, nat_lt, ltb-true, ltb-false}
 use Rattle.lvl_io.specs.Spelling.{UnlessBreached}
 use Rattle.lvl_grammar.specs.Front.{SpellsAll, FollowAll, SpellsWhole}
-use Rattle.lvl_profile.specs.Ignored.{IsSubsetOf}
-use Rattle.lvl_profile.specs.declared.ignore.Ignore.{Ignore}
+use Rattle.lvl_profile.specs.Limits.{AreWithin}
+use Rattle.lvl_profile.specs.Profiles.{IsWider}
+use Rattle.lvl_profile.specs.declared.limits.Limits.{Limits}
+use Rattle.lvl_profile.specs.declared.profile.Profile.{Profile}
 use Rattle.oasis_values.specs.Numbers.{IsUnsigned}
 use Rattle.oasis_values.proofs.Codes.{seen_code}
 use Rattle.oasis_values.proofs.Integers.{unsigned_code}
@@ -19,10 +21,11 @@ use Rattle.oasis_records.proofs.Ignored.{type_grows}
 use Rattle.oasis_records.proofs.Sizes.{sized_code}
 use Rattle.oasis_records.proofs.Whole.{magic_code}
 use Rattle.oasis_stream.specs.Items.{Item, records}
-use Rattle.oasis_stream.specs.Order.{at_end, is_expected, type_by, type_after}
+use Rattle.oasis_stream.specs.Order.{at_end, cells_in, opens_cell, mixes, is_expected, allowed, type_by, type_after}
 use Rattle.oasis_stream.specs.Front.{of_magic, IsTyped, IsTypedAfter, IsNext, IsItem, oasis}
 use Rattle.oasis_stream.specs.declared.fault.OasisKind.{OasisKind}
-use Rattle.oasis_stream.specs.declared.fault.OasisKind.TheVariants.{Record as OfRecord, Unexpected}
+use Rattle.oasis_stream.specs.declared.fault.OasisKind.TheVariants.{Record as OfRecord, Unexpected, Name, TooManyCells}
+use Rattle.oasis_stream.specs.declared.fault.NameRule.TheVariants.{Mixed}
 use Rattle.oasis_stream.proofs.Items.{typed_code}
 
 none_typed : (b : Bool) (x y : OasisKind) (t : RecordType)
@@ -30,12 +33,41 @@ none_typed : (b : Bool) (x y : OasisKind) (t : RecordType)
 none_typed true x y t e = (let h : Err x ≡ Ok t = e in cc)
 none_typed false x y t e = (let h : Err y ≡ Ok t = e in cc)
 
-by_grows : (rs : List Record) (id : ℕ) (r s : Result RecordType RecordRule) (t : RecordType)
-    → ((k : RecordType) → r ≡ Ok k → s ≡ Ok k) → type_by rs id r ≡ Ok t → type_by rs id s ≡ Ok t
-by_grows rs id (Ok k) s t h e = subst (λ u. type_by rs id u ≡ Ok t) (sym (h k refl)) e
-by_grows rs id (Err f) s t h e = absurd (none_typed (is_expected rs (Err f)) (OfRecord f) (Unexpected id) t e)
+-- wider limits allow as many cells
+allowed_grows : (less more : Limits) → AreWithin less more → (rs : List Record) (k t : RecordType)
+    → allowed less rs (Ok k) ≡ Ok t → allowed more rs (Ok k) ≡ Ok t
+allowed_grows less more within rs k t =
+    go (mixes rs k) (opens_cell k) (nat_lt n less.cells) (nat_lt n more.cells) refl refl
+  where
+    n : ℕ
+    n = length (cells_in rs)
 
-typed_grows : (less more : Ignore) → IsSubsetOf less more → (b : Bool) (n : ℕ) (r s : Result RecordType OasisKind)
+    full : Bool → Result RecordType OasisKind
+    full b = if b then Err TooManyCells else Ok k
+
+    go : (m o a b : Bool) → nat_lt n less.cells ≡ a → nat_lt n more.cells ≡ b
+        → (if m then Err (Name Mixed) else full (o && not a)) ≡ Ok t
+        → (if m then Err (Name Mixed) else full (o && not b)) ≡ Ok t
+    go true o a b p q e = (let z : Err (Name Mixed) ≡ Ok t = e in cc)
+    go false false a b p q e = e
+    go false true true true p q e = e
+    go false true true false p q e =
+        absurd (omega (arith, ltb-true n less.cells p, ltb-false n more.cells q, within.cells))
+    go false true false b p q e = (let z : Err TooManyCells ≡ Ok t = e in cc)
+
+by_grows : (less more : Limits) → AreWithin less more → (rs : List Record) (id : ℕ)
+    (r s : Result RecordType RecordRule) (t : RecordType) → ((k : RecordType) → r ≡ Ok k → s ≡ Ok k)
+    → type_by less rs id r ≡ Ok t → type_by more rs id s ≡ Ok t
+by_grows less more within rs id (Ok k) s t h e =
+    subst (λ u. type_by more rs id u ≡ Ok t) (sym (h k refl)) (go (is_expected rs (Ok k)) e)
+  where
+    go : (b : Bool) → (if b then allowed less rs (Ok k) else Err (Unexpected id)) ≡ Ok t
+        → (if b then allowed more rs (Ok k) else Err (Unexpected id)) ≡ Ok t
+    go true x = allowed_grows less more within rs k t x
+    go false x = x
+by_grows less more within rs id (Err f) s t h e = absurd (none_typed (is_expected rs (Err f)) (OfRecord f) (Unexpected id) t e)
+
+typed_grows : (less more : Profile) → IsWider less more → (b : Bool) (n : ℕ) (r s : Result RecordType OasisKind)
     → ((k : RecordType) → r ≡ Ok k → s ≡ Ok k) → (bytes : List ℕ) (i : Item)
     → IsTyped b n r less bytes (Ok (Ok i)) → IsTyped b n s more bytes (Ok (Ok i))
 typed_grows less more within b n (Ok k) s h bytes i p =
@@ -43,7 +75,7 @@ typed_grows less more within b n (Ok k) s h bytes i p =
     ((typed_code b n (Ok k)).grows less more within bytes (Ok i) p)
 typed_grows less more within b n (Err k) s h bytes i p = absurd (let e : Ok (Ok i) ≡ Ok (Err k) = p.1 in cc)
 
-next_grows : (less more : Ignore) → IsSubsetOf less more → (rs : List Record) (bytes first second : List ℕ) (i : Item)
+next_grows : (less more : Profile) → IsWider less more → (rs : List Record) (bytes first second : List ℕ) (i : Item)
     (m : Result Measured ValueFault) → Sized IsUnsigned less first m
     → UnlessBreached (λ id. IsTypedAfter rs id less) m second (Ok (Ok i)) → bytes ≡ first ++ second
     → IsNext rs more bytes (Ok (Ok i))
@@ -55,19 +87,19 @@ next_grows less more within rs bytes first second i (Ok id) p q e =
       first_says = (sized_code unsigned_code).grows less more within first id p;
       second_says = typed_grows less more within (at_end rs) id.len (type_after less rs id.value)
           (type_after more rs id.value)
-          (λ k h. by_grows rs id.value _ _ k (type_grows less more within id.value) h) second i q;
+          (λ k h. by_grows less.limits more.limits within.limits rs id.value _ _ k (type_grows less more within id.value) h) second i q;
       joined = e;
     }
 next_grows less more within rs bytes first second i (Err f) p q e = absurd (let h : Ok (Ok i) ≡ Err f = q.1 in cc)
 
-item_grows : (less more : Ignore) → IsSubsetOf less more → (before : List Item) (bytes : List ℕ) (i : Item)
+item_grows : (less more : Profile) → IsWider less more → (before : List Item) (bytes : List ℕ) (i : Item)
     → IsItem before less bytes (Ok (Ok i)) → IsItem before more bytes (Ok (Ok i))
 item_grows less more within [] bytes i p =
     (seen_code of_magic (magic_code magic_bytes)).grows less more within bytes (Ok i) p
 item_grows less more within (j ∷ js) bytes i p =
     next_grows less more within (records (j ∷ js)) bytes p.first p.second i p.value p.first_says p.second_says p.joined
 
-all_grow : (less more : Ignore) → IsSubsetOf less more → (before is : List Item) (bytes : List ℕ)
+all_grow : (less more : Profile) → IsWider less more → (before is : List Item) (bytes : List ℕ)
     → SpellsAll (oasis less) before bytes is → SpellsAll (oasis more) before bytes is
 all_grow less more within before [] bytes p = p
 all_grow less more within before (i ∷ is) bytes p = (
@@ -78,21 +110,21 @@ all_grow less more within before (i ∷ is) bytes p = (
   p.4,
 )
 
--- which item may follow doesn't depend on what is ignored
-follow_all : (less more : Ignore) (before is : List Item) → FollowAll (oasis less) before is
+-- which item may follow doesn't depend on the profile
+follow_all : (less more : Profile) (before is : List Item) → FollowAll (oasis less) before is
     → FollowAll (oasis more) before is
 follow_all less more before [] p = p
 follow_all less more before (i ∷ is) p = (p.0, follow_all less more (before ++ i ∷ []) is p.1)
 
 -- it is then a whole file of the same items
-pub whole_grows : (less more : Ignore) → IsSubsetOf less more → (bytes : List ℕ) (is : List Item)
+pub whole_grows : (less more : Profile) → IsWider less more → (bytes : List ℕ) (is : List Item)
     → SpellsWhole (oasis less) bytes is → SpellsWhole (oasis more) bytes is
 whole_grows less more within bytes is p =
     record {
       front = record {
         spelled = all_grow less more within [] is bytes p.front.spelled;
         followed = follow_all less more [] is p.front.followed;
-        within = p.front.within;
+        within = omega (arith, p.front.within, within.limits.file);
       };
       whole = p.whole;
     }

@@ -5,7 +5,7 @@ use Rattle.std.proofs.Common.{inl, inr, arith, length-take}
 use Rattle.std.proofs.lemmas.List.{take-append-drop}
 use Rattle.lvl_io.specs.Spelling.{FirstBytesSay}
 use Rattle.lvl_io.proofs.Spelling.{front_only, begun_open}
-use Rattle.lvl_profile.specs.declared.ignore.Ignore.{Ignore}
+use Rattle.lvl_profile.specs.declared.profile.Profile.{Profile}
 use Rattle.oasis_values.specs.declared.fault.ValueFault.{ValueFault}
 use Rattle.oasis_values.specs.declared.fault.ValueFault.TheVariants.{TooLong}
 use Rattle.oasis_stream.specs.Items.{Item, IsEnded}
@@ -32,17 +32,17 @@ explains_once before (Ok (Err r)) j k p q = p ∙ sym q
 explains_once before (Ok (Ok i)) j k p q = breaches_once before i j k p q
 
 -- bytes at the front, within the limit, are why
-record IsExplained (ignore : Ignore) (before : List Item) (room : ℕ) (ys : List ℕ) (k : OasisKind) : Type 0 where
+record IsExplained (profile : Profile) (before : List Item) (room : ℕ) (ys : List ℕ) (k : OasisKind) : Type 0 where
   unended : ¬ IsEnded before
   count : ℕ
   within : count ≤ room
   said : Result (Result Item OasisKind) ValueFault
-  front : FirstBytesSay (IsItem before ignore) ys count said
+  front : FirstBytesSay (IsItem before profile) ys count said
   why : Explains before said k
 
-record IsLong (ignore : Ignore) (before : List Item) (room : ℕ) (ys : List ℕ) (k : OasisKind) : Type 0 where
+record IsLong (profile : Profile) (before : List Item) (room : ℕ) (ys : List ℕ) (k : OasisKind) : Type 0 where
   kind : k ≡ Value TooLong
-  long : IsTooLong ignore before room ys
+  long : IsTooLong profile before room ys
 
 record IsAfter (before : List Item) (room : ℕ) (ys : List ℕ) (k : OasisKind) : Type 0 where
   kind : k ≡ AfterEnd
@@ -50,22 +50,22 @@ record IsAfter (before : List Item) (room : ℕ) (ys : List ℕ) (k : OasisKind)
   room_is : 0 < room
   some : 0 < length ys
 
-abbrev Explained : Ignore → List Item → ℕ → List ℕ → OasisKind → Type 0
-Explained ignore before room ys k = IsExplained ignore before room ys k
-    ⊎ (IsLong ignore before room ys k ⊎ IsAfter before room ys k)
+abbrev Explained : Profile → List Item → ℕ → List ℕ → OasisKind → Type 0
+Explained profile before room ys k = IsExplained profile before room ys k
+    ⊎ (IsLong profile before room ys k ⊎ IsAfter before room ys k)
 
-by_rule : (ignore : Ignore) (before : List Item) (room : ℕ) (ys : List ℕ) (k : OasisKind)
-    → BreaksRule ignore before room ys k
-    → Explained ignore before room ys k
-by_rule ignore before room ys k w = elim w.3 [
+by_rule : (profile : Profile) (before : List Item) (room : ℕ) (ys : List ℕ) (k : OasisKind)
+    → BreaksRule profile before room ys k
+    → Explained profile before room ys k
+by_rule profile before room ys k w = elim w.3 [
   | inl p ↦ inl (record { unended = w.0; count = w.1; within = w.2; said = Ok (Err k); front = p; why = refl })
   | inr p ↦ inl (record { unended = w.0; count = w.1; within = w.2; said = Ok (Ok p.0); front = p.1; why = p.2 })
 ]
 
-cause : (ignore : Ignore) (before : List Item) (room : ℕ) (ys : List ℕ) (k : OasisKind)
-    → IsWrong ignore before room ys k
-    → Explained ignore before room ys k
-cause ignore before room ys (Value f) w = elim w [
+cause : (profile : Profile) (before : List Item) (room : ℕ) (ys : List ℕ) (k : OasisKind)
+    → IsWrong profile before room ys k
+    → Explained profile before room ys k
+cause profile before room ys (Value f) w = elim w [
   | inl p ↦ inr (inl (record { kind = ap Value p.0; long = p.1 }))
   | inr p ↦ inl (record {
     unended = p.0;
@@ -76,22 +76,22 @@ cause ignore before room ys (Value f) w = elim w [
     why = refl;
   })
 ]
-cause ignore before room ys AfterEnd w = inr (inr (record { kind = refl; ended = w.0; room_is = w.1; some = w.2 }))
-cause ignore before room ys (Record k) w = by_rule ignore before room ys (Record k) w
-cause ignore before room ys (Unexpected id) w = by_rule ignore before room ys (Unexpected id) w
-cause ignore before room ys (Name k) w = by_rule ignore before room ys (Name k) w
-cause ignore before room ys (Figure k) w = by_rule ignore before room ys (Figure k) w
-cause ignore before room ys TooManyCells w = by_rule ignore before room ys TooManyCells w
+cause profile before room ys AfterEnd w = inr (inr (record { kind = refl; ended = w.0; room_is = w.1; some = w.2 }))
+cause profile before room ys (Record k) w = by_rule profile before room ys (Record k) w
+cause profile before room ys (Unexpected id) w = by_rule profile before room ys (Unexpected id) w
+cause profile before room ys (Name k) w = by_rule profile before room ys (Name k) w
+cause profile before room ys (Figure k) w = by_rule profile before room ys (Figure k) w
+cause profile before room ys TooManyCells w = by_rule profile before room ys TooManyCells w
 
 -- if the bytes within the limit are an unfinished beginning, they have no complete item at their front
-long_open : (ignore : Ignore) (before : List Item) (room : ℕ) (ys : List ℕ) (n : ℕ)
+long_open : (profile : Profile) (before : List Item) (room : ℕ) (ys : List ℕ) (n : ℕ)
     (x : Result (Result Item OasisKind) ValueFault)
-    → IsTooLong ignore before room ys
-    → FirstBytesSay (IsItem before ignore) ys n x → n ≤ room → ⊥
-long_open ignore before room ys n x (more, (ended, begun)) f fits =
+    → IsTooLong profile before room ys
+    → FirstBytesSay (IsItem before profile) ys n x → n ≤ room → ⊥
+long_open profile before room ys n x (more, (ended, begun)) f fits =
     let l : length f.bytes ≤ length (take room ys) = omega (arith, fits, more, f.count, length-take room ys) in
     let e : f.bytes ++ f.rest ≡ take room ys ++ drop room ys = sym f.whole ∙ sym (take-append-drop room ys) in
-    begun_open (IsItem before ignore) (take room ys) n x (item_free before ignore) begun
+    begun_open (IsItem before profile) (take room ys) n x (item_free before profile) begun
     (record {
       bytes = f.bytes;
       rest = drop (length f.bytes) (take room ys);
@@ -101,43 +101,43 @@ long_open ignore before room ys n x (more, (ended, begun)) f fits =
     })
 
 -- nor does a byte follow END there
-long_after : (ignore : Ignore) (before : List Item) (room : ℕ) (ys : List ℕ) → IsTooLong ignore before room ys
+long_after : (profile : Profile) (before : List Item) (room : ℕ) (ys : List ℕ) → IsTooLong profile before room ys
     → IsEnded before → 0 < room → ⊥
-long_after ignore before room ys (more, (ended, begun)) e some =
+long_after profile before room ys (more, (ended, begun)) e some =
     omega (arith, some, more, length-take room ys, ap length (ended e))
 
-front_same : (ignore : Ignore) (before : List Item) (ys : List ℕ) (n m : ℕ)
+front_same : (profile : Profile) (before : List Item) (ys : List ℕ) (n m : ℕ)
     (x y : Result (Result Item OasisKind) ValueFault)
-    → FirstBytesSay (IsItem before ignore) ys n x → FirstBytesSay (IsItem before ignore) ys m y → x ≡ y
-front_same ignore before ys n m x y p q =
-    front_only (IsItem before ignore) ys n x y (item_free before ignore) p q.bytes q.says (q.rest, inr q.whole)
+    → FirstBytesSay (IsItem before profile) ys n x → FirstBytesSay (IsItem before profile) ys m y → x ≡ y
+front_same profile before ys n m x y p q =
+    front_only (IsItem before profile) ys n x y (item_free before profile) p q.bytes q.says (q.rest, inr q.whole)
 
-one_cause : (ignore : Ignore) (before : List Item) (room : ℕ) (ys : List ℕ) (j k : OasisKind)
-    → Explained ignore before room ys j
-    → Explained ignore before room ys k → j ≡ k
-one_cause ignore before room ys j k p q = elim p [
+one_cause : (profile : Profile) (before : List Item) (room : ℕ) (ys : List ℕ) (j k : OasisKind)
+    → Explained profile before room ys j
+    → Explained profile before room ys k → j ≡ k
+one_cause profile before room ys j k p q = elim p [
   | inl a ↦ elim q [
     | inl b ↦ explains_once before a.said j k a.why
         (subst (λ x. Explains before x k)
-        (sym (front_same ignore before ys a.count b.count a.said b.said a.front b.front))
+        (sym (front_same profile before ys a.count b.count a.said b.said a.front b.front))
         b.why)
     | inr r ↦ elim r [
-      | inl b ↦ absurd (long_open ignore before room ys a.count a.said b.long a.front a.within)
+      | inl b ↦ absurd (long_open profile before room ys a.count a.said b.long a.front a.within)
       | inr b ↦ absurd (a.unended b.ended)
     ]
   ]
   | inr s ↦ elim s [
     | inl a ↦ elim q [
-      | inl b ↦ absurd (long_open ignore before room ys b.count b.said a.long b.front b.within)
+      | inl b ↦ absurd (long_open profile before room ys b.count b.said a.long b.front b.within)
       | inr r ↦ elim r [
         | inl b ↦ a.kind ∙ sym b.kind
-        | inr b ↦ absurd (long_after ignore before room ys a.long b.ended b.room_is)
+        | inr b ↦ absurd (long_after profile before room ys a.long b.ended b.room_is)
       ]
     ]
     | inr a ↦ elim q [
       | inl b ↦ absurd (b.unended a.ended)
       | inr r ↦ elim r [
-        | inl b ↦ absurd (long_after ignore before room ys b.long a.ended a.room_is)
+        | inl b ↦ absurd (long_after profile before room ys b.long a.ended a.room_is)
         | inr b ↦ a.kind ∙ sym b.kind
       ]
     ]
@@ -145,8 +145,8 @@ one_cause ignore before room ys j k p q = elim p [
 ]
 
 -- at the front of the bytes at most one rule is breached
-pub only_wrong : (ignore : Ignore) (before : List Item) (room : ℕ) (ys : List ℕ) (j k : OasisKind)
-    → IsWrong ignore before room ys j
-    → IsWrong ignore before room ys k → j ≡ k
-only_wrong ignore before room ys j k p q = one_cause ignore before room ys j k (cause ignore before room ys j p)
-    (cause ignore before room ys k q)
+pub only_wrong : (profile : Profile) (before : List Item) (room : ℕ) (ys : List ℕ) (j k : OasisKind)
+    → IsWrong profile before room ys j
+    → IsWrong profile before room ys k → j ≡ k
+only_wrong profile before room ys j k p q = one_cause profile before room ys j k (cause profile before room ys j p)
+    (cause profile before room ys k q)

@@ -10,11 +10,10 @@ use Rattle.oasis_records.specs.declared.record.Record.{Record}
 use Rattle.oasis_records.specs.declared.record.Record.TheVariants.{Pad, Start, End, CellName, Cell, XyAbsolute}
 use Rattle.oasis_records.specs.declared.record.Record.TheVariants.{XyRelative, Placement, Rectangle, Polygon, Path}
 use Rattle.oasis_records.specs.declared.record.Record.TheVariants.{Entry, Text, Property}
-use Rattle.lvl_cells.specs.Building.{cell_limit}
 use Rattle.oasis_stream.specs.Order.{last_or, opens, flags, name_in, names_in, cell_in, cells_in, in_cell}
 use Rattle.oasis_stream.specs.Order.{at_end, any_numbered, any_unnumbered}
 use Rattle.oasis_stream.specs.declared.order.Order.{Order}
-use Rattle.oasis_stream.specs.inside.Reached.{are_none, HasReached, order, passed}
+use Rattle.oasis_stream.specs.inside.Reached.{most_counted, are_none, HasReached, order, passed}
 
 -- what one more record adds
 
@@ -73,7 +72,7 @@ unnumbered_on rs r = ap any_unnumbered (flat_map-snoc name_in rs r) ∙ unnumber
 -- the state after one more record, by what it adds
 after_record : (o : Order) (rs : List Record) (r : Record) (cell : Bool) (cells : ℕ) (numbered unnumbered ends : Bool)
     → HasReached o rs
-    → cell ≡ last_or o.in_cell (opens r) → cells ≡ min (length (cells_in rs) + length (cell_in r)) cell_limit
+    → cell ≡ last_or o.in_cell (opens r) → cells ≡ min (length (cells_in rs) + length (cell_in r)) most_counted
     → numbered ≡ (o.has_numbered || any_numbered (name_in r))
     → unnumbered ≡ (o.has_unnumbered || any_unnumbered (name_in r))
     → ends ≡ last_or o.has_offsets_at_end (flags r) → HasReached (order cell cells numbered unnumbered ends)
@@ -81,22 +80,22 @@ after_record : (o : Order) (rs : List Record) (r : Record) (cell : Bool) (cells 
 after_record o rs r cell cells numbered unnumbered ends h a b c d e = record {
   fresh = sym (none_snoc rs r);
   in_cell = a ∙ ap (λ i. last_or i (opens r)) h.in_cell ∙ sym (in_cell_on rs r);
-  cells = b ∙ ap (λ i. min i cell_limit) (sym (cells_on rs r));
+  cells = b ∙ ap (λ i. min i most_counted) (sym (cells_on rs r));
   numbered = c ∙ ap (λ i. i || any_numbered (name_in r)) h.numbered ∙ sym (numbered_on rs r);
   unnumbered = d ∙ ap (λ i. i || any_unnumbered (name_in r)) h.unnumbered ∙ sym (unnumbered_on rs r);
   at_end = e ∙ ap (λ i. last_or i (flags r)) h.at_end ∙ sym (at_end_on rs r);
 }
 
-counted_if : (b : Bool) (n c : ℕ) → nat_lt c cell_limit ≡ b → c ≡ min n cell_limit
-    → (if b then c + 1 else c) ≡ min (n + 1) cell_limit
-counted_if true n c t h = omega (arith, ltb-true c cell_limit t, h)
-counted_if false n c t h = omega (arith, ltb-false c cell_limit t, h)
+counted_if : (b : Bool) (n c : ℕ) → nat_lt c most_counted ≡ b → c ≡ min n most_counted
+    → (if b then c + 1 else c) ≡ min (n + 1) most_counted
+counted_if true n c t h = omega (arith, ltb-true c most_counted t, h)
+counted_if false n c t h = omega (arith, ltb-false c most_counted t, h)
 
 -- the count stays at the limit
-counted : (n c : ℕ) → c ≡ min n cell_limit → (if nat_lt c cell_limit then c + 1 else c) ≡ min (n + 1) cell_limit
-counted n c h = counted_if (nat_lt c cell_limit) n c refl h
+counted : (n c : ℕ) → c ≡ min n most_counted → (if nat_lt c most_counted then c + 1 else c) ≡ min (n + 1) most_counted
+counted n c h = counted_if (nat_lt c most_counted) n c refl h
 
-same_count : (n c : ℕ) → c ≡ min n cell_limit → c ≡ min (n + 0) cell_limit
+same_count : (n c : ℕ) → c ≡ min n most_counted → c ≡ min (n + 0) most_counted
 same_count n c h = omega (arith, h)
 
 -- a record that neither opens nor ends a cell, and is neither START nor a name
@@ -106,7 +105,7 @@ after_other : (o : Order) (rs : List Record) (r : Record) → HasReached o rs �
 after_other o rs r h opens_none flags_none no_name no_cell =
     after_record o rs r o.in_cell o.cells o.has_numbered o.has_unnumbered o.has_offsets_at_end h
     (ap (λ l. last_or o.in_cell l) (sym opens_none))
-    (same_count (length (cells_in rs)) o.cells h.cells ∙ ap (λ l. min (length (cells_in rs) + length l) cell_limit)
+    (same_count (length (cells_in rs)) o.cells h.cells ∙ ap (λ l. min (length (cells_in rs) + length l) most_counted)
     (sym no_cell))
     (sym (or_false o.has_numbered) ∙ ap (λ l. o.has_numbered || any_numbered l) (sym no_name))
     (sym (or_false o.has_unnumbered) ∙ ap (λ l. o.has_unnumbered || any_unnumbered l) (sym no_name))
@@ -125,7 +124,7 @@ law_passed o rs (CellName c) h =
     (ap (λ i. o.has_numbered || i) (sym (or_false (is_some c.number))))
     (ap (λ i. o.has_unnumbered || i) (sym (or_false (is_none c.number)))) refl
 law_passed o rs (Cell c) h =
-    after_record o rs (Cell c) true (if nat_lt o.cells cell_limit then o.cells + 1 else o.cells) o.has_numbered
+    after_record o rs (Cell c) true (if nat_lt o.cells most_counted then o.cells + 1 else o.cells) o.has_numbered
     o.has_unnumbered o.has_offsets_at_end h refl
     (counted (length (cells_in rs)) o.cells h.cells) (sym (or_false o.has_numbered)) (sym (or_false o.has_unnumbered))
     refl

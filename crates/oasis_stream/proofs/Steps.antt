@@ -8,14 +8,14 @@ use Rattle.lvl_grammar.specs.Refused.{IsTruncated}
 use Rattle.lvl_grammar.specs.inside.ReadTo.{ReadTo, IsSeenWrong}
 use Rattle.lvl_grammar.proofs.Reading.{reads_on, reads_unread}
 use Rattle.lvl_refusal.specs.declared.Cause.TheVariants.{Breach}
-use Rattle.lvl_profile.specs.declared.ignore.Ignore.{Ignore}
+use Rattle.lvl_profile.specs.declared.profile.Profile.{Profile}
 use Rattle.oasis_values.specs.Faults.{is_rule}
-use Rattle.oasis_values.specs.Input.{file_limit, bytes_left, input_offset, has_failed, input_reader, input_ignore}
+use Rattle.oasis_values.specs.Input.{bytes_left, input_offset, has_failed, input_reader, input_profile}
 use Rattle.oasis_values.specs.Reads.{Fails, Reads, bytes_had}
 use Rattle.oasis_values.specs.declared.fault.ValueFault.{ValueFault}
 use Rattle.oasis_values.specs.declared.fault.ValueFault.TheVariants.{Truncated, IntegerTooLarge, StringByte, RealType}
 use Rattle.oasis_values.specs.declared.fault.ValueFault.TheVariants.{ZeroDenominator, PointListType, PointCount}
-use Rattle.oasis_values.specs.declared.fault.ValueFault.TheVariants.{RepetitionType, RepetitionSize, OutOfRange}
+use Rattle.oasis_values.specs.declared.fault.ValueFault.TheVariants.{RepetitionType, RepetitionSize, ListSize, OutOfRange}
 use Rattle.oasis_values.specs.declared.fault.ValueFault.TheVariants.{TooLong, Read, Failed, NoModal}
 use Rattle.oasis_values.specs.declared.input.Input.{Input}
 use Rattle.oasis_values.proofs.Reading.{front_rest}
@@ -33,39 +33,39 @@ use Rattle.oasis_stream.proofs.Only.{only_wrong}
 use Rattle.oasis_stream.proofs.Seen.{IsSeen, law_seen, front_seen, room_seen, answers_under}
 
 -- an item that may follow was read: the bytes before the new offset are a front with one more item
-pub item_on : {R : Type 0} {remaining : R → Option (List ℕ)} {errors : R → ℕ} {lent : R → List GName} (ignore : Ignore)
+pub item_on : {R : Type 0} {remaining : R → Option (List ℕ)} {errors : R → ℕ} {lent : R → List GName} (profile : Profile)
     (xs : List ℕ)
     (Has Has' : List Item → Type 0) {old new : Input R}
-    (to : ReadTo (oasis ignore) xs (input_offset old) Has (bytes_left remaining old)) (i : Item)
-    → has_failed old ≡ false → input_ignore old ≡ ignore
+    (to : ReadTo (oasis profile) xs (input_offset old) Has (bytes_left remaining old)) (i : Item)
+    → has_failed old ≡ false → input_profile old ≡ profile
     → Reads remaining errors lent (IsItem to.records) old new (Ok (Ok i))
     → MayFollow to.records i → Has' (to.records ++ i ∷ [])
-    → ReadTo (oasis ignore) xs (input_offset new) Has' (bytes_left remaining new)
-item_on {remaining = remaining} ignore xs Has Has' {old = old} {new = new} to i live under p follows has =
+    → ReadTo (oasis profile) xs (input_offset new) Has' (bytes_left remaining new)
+item_on {remaining = remaining} profile xs Has Has' {old = old} {new = new} to i live under p follows has =
     let at = input_offset old in
     let n = input_offset new - at in
-    let a = answers_under ignore under p live (drop at xs) to.left_is in
+    let a = answers_under profile under p live (drop at xs) to.left_is in
     let f = a.0 in
-    let on = reads_on (oasis ignore) xs at Has Has' (bytes_left remaining old) to i f.bytes f.rest f.whole f.says
+    let on = reads_on (oasis profile) xs at Has Has' (bytes_left remaining old) to i f.bytes f.rest f.whole f.says
     follows
     (omega (arith, f.count, a.1)) has in
     let here : at + length f.bytes ≡ input_offset new = omega (arith, f.count, p.forward) in
     let left : Some f.rest ≡ bytes_left remaining new =
-    ap (λ (l : List ℕ). Some l) (sym (front_rest (IsItem to.records ignore) (drop at xs) n (Ok (Ok i)) f))
+    ap (λ (l : List ℕ). Some l) (sym (front_rest (IsItem to.records profile) (drop at xs) n (Ok (Ok i)) f))
     ∙ sym (p.left (drop at xs) to.left_is) in
-    subst (λ l. ReadTo (oasis ignore) xs (input_offset new) Has' l) left
-    (subst (λ j. ReadTo (oasis ignore) xs j Has' (Some f.rest)) here
+    subst (λ l. ReadTo (oasis profile) xs (input_offset new) Has' l) left
+    (subst (λ j. ReadTo (oasis profile) xs j Has' (Some f.rest)) here
     on)
 
 -- what is wrong with the bytes that were read is wrong whatever comes after them
-pub wrong_seen : {Has : List Item → Type 0} {was left : Option (List ℕ)} (ignore : Ignore) (xs : List ℕ) (at had : ℕ)
-    (to : ReadTo (oasis ignore) xs at Has was) (k : OasisKind)
+pub wrong_seen : {Has : List Item → Type 0} {was left : Option (List ℕ)} (profile : Profile) (xs : List ℕ) (at had : ℕ)
+    (to : ReadTo (oasis profile) xs at Has was) (k : OasisKind)
     → IsSeen (drop at xs) had left
-    → ((more : List ℕ) → IsWrong ignore to.records (file_limit - at) (take had (drop at xs) ++ more) k)
-    → IsSeenWrong (oasis_faults ignore) xs at left k
-wrong_seen ignore xs at had to k s w =
-    let here : IsWrong ignore to.records (file_limit - at) (drop at xs) k =
-    subst (λ l. IsWrong ignore to.records (file_limit - at) l k) (sym s.parts) (w s.rest) in
+    → ((more : List ℕ) → IsWrong profile to.records (profile.limits.file - at) (take had (drop at xs) ++ more) k)
+    → IsSeenWrong (oasis_faults profile) xs at left k
+wrong_seen profile xs at had to k s w =
+    let here : IsWrong profile to.records (profile.limits.file - at) (drop at xs) k =
+    subst (λ l. IsWrong profile to.records (profile.limits.file - at) l k) (sym s.parts) (w s.rest) in
     record {
       within = to.within;
       records = to.records;
@@ -75,104 +75,104 @@ wrong_seen ignore xs at had to k s w =
       parts = s.parts;
       left_is = s.left_is;
       wrong = w;
-      only = λ j v. only_wrong ignore to.records (file_limit - at) (drop at xs) j k v here;
+      only = λ j v. only_wrong profile to.records (profile.limits.file - at) (drop at xs) j k v here;
     }
 
 -- a rule of records, of names or of their order is breached by the bytes that were taken
 rule_refuses : {R : Type 0} {remaining : R → Option (List ℕ)} {errors : R → ℕ} {lent : R → List GName}
-    {Has : List Item → Type 0} (ignore : Ignore) (xs : List ℕ) {old new : Input R}
-    (to : ReadTo (oasis ignore) xs (input_offset old) Has (bytes_left remaining old)) (k : OasisKind)
-    → has_failed old ≡ false → input_ignore old ≡ ignore → ¬ IsEnded to.records
-    → ((room : ℕ) (ys : List ℕ) → BreaksRule ignore to.records room ys k → IsWrong ignore to.records room ys k)
+    {Has : List Item → Type 0} (profile : Profile) (xs : List ℕ) {old new : Input R}
+    (to : ReadTo (oasis profile) xs (input_offset old) Has (bytes_left remaining old)) (k : OasisKind)
+    → has_failed old ≡ false → input_profile old ≡ profile → ¬ IsEnded to.records
+    → ((room : ℕ) (ys : List ℕ) → BreaksRule profile to.records room ys k → IsWrong profile to.records room ys k)
     → Reads remaining errors lent (IsItem to.records) old new (Ok (Err k))
-    → IsSeenWrong (oasis_faults ignore) xs (input_offset old) (remaining (input_reader new)) k
-rule_refuses {remaining = remaining} ignore xs {old = old} {new = new} to k live under unended is_wrong p =
+    → IsSeenWrong (oasis_faults profile) xs (input_offset old) (remaining (input_reader new)) k
+rule_refuses {remaining = remaining} profile xs {old = old} {new = new} to k live under unended is_wrong p =
     let at = input_offset old in
     let n = input_offset new - at in
     let had = bytes_had old new in
-    let a = answers_under ignore under p live (drop at xs) to.left_is in
-    wrong_seen ignore xs at had to k (law_seen (drop at xs) p to.left_is)
-    (λ more. is_wrong (file_limit - at) (take had (drop at xs) ++ more) (
+    let a = answers_under profile under p live (drop at xs) to.left_is in
+    wrong_seen profile xs at had to k (law_seen (drop at xs) p to.left_is)
+    (λ more. is_wrong (profile.limits.file - at) (take had (drop at xs) ++ more) (
       unended,
       n,
       a.1,
-      inl (front_seen (IsItem to.records ignore) (drop at xs) had n (Ok (Err k)) a.0
+      inl (front_seen (IsItem to.records profile) (drop at xs) had n (Ok (Err k)) a.0
           (omega arith) more),
     ))
 
 -- a complete item breaches a rule
 item_refuses : {R : Type 0} {remaining : R → Option (List ℕ)} {errors : R → ℕ} {lent : R → List GName}
-    {Has : List Item → Type 0} (ignore : Ignore) (xs : List ℕ) {old new : Input R}
-    (to : ReadTo (oasis ignore) xs (input_offset old) Has (bytes_left remaining old)) (i : Item) (k : OasisKind)
-    → has_failed old ≡ false → input_ignore old ≡ ignore → ¬ IsEnded to.records
-    → ((room : ℕ) (ys : List ℕ) → BreaksRule ignore to.records room ys k → IsWrong ignore to.records room ys k)
+    {Has : List Item → Type 0} (profile : Profile) (xs : List ℕ) {old new : Input R}
+    (to : ReadTo (oasis profile) xs (input_offset old) Has (bytes_left remaining old)) (i : Item) (k : OasisKind)
+    → has_failed old ≡ false → input_profile old ≡ profile → ¬ IsEnded to.records
+    → ((room : ℕ) (ys : List ℕ) → BreaksRule profile to.records room ys k → IsWrong profile to.records room ys k)
     → Breaches to.records i k
     → Reads remaining errors lent (IsItem to.records) old new (Ok (Ok i))
-    → IsSeenWrong (oasis_faults ignore) xs (input_offset old) (remaining (input_reader new)) k
-item_refuses {remaining = remaining} ignore xs {old = old} {new = new} to i k live under unended is_wrong breach p =
+    → IsSeenWrong (oasis_faults profile) xs (input_offset old) (remaining (input_reader new)) k
+item_refuses {remaining = remaining} profile xs {old = old} {new = new} to i k live under unended is_wrong breach p =
     let at = input_offset old in
     let n = input_offset new - at in
     let had = bytes_had old new in
-    let a = answers_under ignore under p live (drop at xs) to.left_is in
-    wrong_seen ignore xs at had to k (law_seen (drop at xs) p to.left_is)
-    (λ more. is_wrong (file_limit - at) (take had (drop at xs) ++ more) (
+    let a = answers_under profile under p live (drop at xs) to.left_is in
+    wrong_seen profile xs at had to k (law_seen (drop at xs) p to.left_is)
+    (λ more. is_wrong (profile.limits.file - at) (take had (drop at xs) ++ more) (
       unended,
       n,
       a.1,
       inr (
         i,
-        front_seen (IsItem to.records ignore) (drop at xs) had n (Ok (Ok i)) a.0 (omega arith) more,
+        front_seen (IsItem to.records profile) (drop at xs) had n (Ok (Ok i)) a.0 (omega arith) more,
         breach,
       ),
     ))
 
 pub breach_refuses : {R : Type 0} {remaining : R → Option (List ℕ)} {errors : R → ℕ} {lent : R → List GName}
-    {Has : List Item → Type 0} (ignore : Ignore) (xs : List ℕ) {old new : Input R}
-    (to : ReadTo (oasis ignore) xs (input_offset old) Has (bytes_left remaining old)) (i : Item) (k : OasisKind)
-    → has_failed old ≡ false → input_ignore old ≡ ignore → ¬ IsEnded to.records → Breaches to.records i k
+    {Has : List Item → Type 0} (profile : Profile) (xs : List ℕ) {old new : Input R}
+    (to : ReadTo (oasis profile) xs (input_offset old) Has (bytes_left remaining old)) (i : Item) (k : OasisKind)
+    → has_failed old ≡ false → input_profile old ≡ profile → ¬ IsEnded to.records → Breaches to.records i k
     → Reads remaining errors lent (IsItem to.records) old new (Ok (Ok i))
-    → RefusesAt ignore xs (remaining (input_reader new)) (input_offset old) k
-breach_refuses ignore xs to magic k live under unended b p = absurd b
-breach_refuses ignore xs to (item r) (Name k) live under unended b p =
-    item_refuses ignore xs to (item r) (Name k) live under unended (λ room ys w. w) b p
-breach_refuses ignore xs to (item r) (Figure k) live under unended b p =
-    item_refuses ignore xs to (item r) (Figure k) live under unended (λ room ys w. w) b p
-breach_refuses ignore xs to (item r) _ live under unended b p = absurd b
+    → RefusesAt profile xs (remaining (input_reader new)) (input_offset old) k
+breach_refuses profile xs to magic k live under unended b p = absurd b
+breach_refuses profile xs to (item r) (Name k) live under unended b p =
+    item_refuses profile xs to (item r) (Name k) live under unended (λ room ys w. w) b p
+breach_refuses profile xs to (item r) (Figure k) live under unended b p =
+    item_refuses profile xs to (item r) (Figure k) live under unended (λ room ys w. w) b p
+breach_refuses profile xs to (item r) _ live under unended b p = absurd b
 
 -- a rule of values is breached
-value_refuses : {Has : List Item → Type 0} {was left : Option (List ℕ)} (ignore : Ignore) (xs : List ℕ) (at had : ℕ)
-    (to : ReadTo (oasis ignore) xs at Has was) (f : ValueFault) → ¬ IsEnded to.records
+value_refuses : {Has : List Item → Type 0} {was left : Option (List ℕ)} (profile : Profile) (xs : List ℕ) (at had : ℕ)
+    (to : ReadTo (oasis profile) xs at Has was) (f : ValueFault) → ¬ IsEnded to.records
     → is_rule f ≡ true → IsSeen (drop at xs) had left
-    → Fails (IsItem to.records ignore) (file_limit - at) had (drop at xs) f
-    → IsSeenWrong (oasis_faults ignore) xs at left (Value f)
-value_refuses ignore xs at had to f unended rule s p =
+    → Fails (IsItem to.records profile) (profile.limits.file - at) had (drop at xs) f
+    → IsSeenWrong (oasis_faults profile) xs at left (Value f)
+value_refuses profile xs at had to f unended rule s p =
     let b = p.breached rule in
-    wrong_seen ignore xs at had to (Value f) s
+    wrong_seen profile xs at had to (Value f) s
     (λ more. inr (
       unended,
       rule,
       record {
         count = b.count;
         within = b.within;
-        front = front_seen (IsItem to.records ignore) (drop at xs) had b.count (Err f) b.front b.seen more;
+        front = front_seen (IsItem to.records profile) (drop at xs) had b.count (Err f) b.front b.seen more;
       },
     ))
 
-long_refuses : {Has : List Item → Type 0} {was left : Option (List ℕ)} (ignore : Ignore) (xs : List ℕ) (at had : ℕ)
-    (to : ReadTo (oasis ignore) xs at Has was) → ¬ IsEnded to.records
-    → IsSeen (drop at xs) had left → Fails (IsItem to.records ignore) (file_limit - at) had (drop at xs) TooLong
-    → IsSeenWrong (oasis_faults ignore) xs at left (Value TooLong)
-long_refuses ignore xs at had to unended s p =
+long_refuses : {Has : List Item → Type 0} {was left : Option (List ℕ)} (profile : Profile) (xs : List ℕ) (at had : ℕ)
+    (to : ReadTo (oasis profile) xs at Has was) → ¬ IsEnded to.records
+    → IsSeen (drop at xs) had left → Fails (IsItem to.records profile) (profile.limits.file - at) had (drop at xs) TooLong
+    → IsSeenWrong (oasis_faults profile) xs at left (Value TooLong)
+long_refuses profile xs at had to unended s p =
     let q = p.too_long refl in
-    wrong_seen ignore xs at had to (Value TooLong) s
-    (λ more. let z = room_seen (drop at xs) had (file_limit - at) more q.0 q.1 in
-    inl (refl, (z.0, ((λ e. absurd (unended e)), subst (IsBegun (IsItem to.records ignore)) (sym z.1) q.2))))
+    wrong_seen profile xs at had to (Value TooLong) s
+    (λ more. let z = room_seen (drop at xs) had (profile.limits.file - at) more q.0 q.1 in
+    inl (refl, (z.0, ((λ e. absurd (unended e)), subst (IsBegun (IsItem to.records profile)) (sym z.1) q.2))))
 
-cut_refuses : {Has : List Item → Type 0} {had : ℕ} {was : Option (List ℕ)} (ignore : Ignore) (xs : List ℕ) (at : ℕ)
-    (to : ReadTo (oasis ignore) xs at Has was) → ¬ IsEnded to.records
-    → Fails (IsItem to.records ignore) (file_limit - at) had (drop at xs) Truncated
-    → IsTruncated (oasis_faults ignore) xs at
-cut_refuses ignore xs at to unended p =
+cut_refuses : {Has : List Item → Type 0} {had : ℕ} {was : Option (List ℕ)} (profile : Profile) (xs : List ℕ) (at : ℕ)
+    (to : ReadTo (oasis profile) xs at Has was) → ¬ IsEnded to.records
+    → Fails (IsItem to.records profile) (profile.limits.file - at) had (drop at xs) Truncated
+    → IsTruncated (oasis_faults profile) xs at
+cut_refuses profile xs at to unended p =
     record {
       within = to.within;
       records = to.records;
@@ -182,50 +182,51 @@ cut_refuses ignore xs at to unended p =
     }
 
 -- a value couldn't be read
-fault_refuses : {Has : List Item → Type 0} {was left : Option (List ℕ)} (ignore : Ignore) (xs : List ℕ) (at had : ℕ)
-    (to : ReadTo (oasis ignore) xs at Has was) (f : ValueFault) → ¬ IsEnded to.records
+fault_refuses : {Has : List Item → Type 0} {was left : Option (List ℕ)} (profile : Profile) (xs : List ℕ) (at had : ℕ)
+    (to : ReadTo (oasis profile) xs at Has was) (f : ValueFault) → ¬ IsEnded to.records
     → ¬ (f ≡ Failed) → IsSeen (drop at xs) had left
-    → Fails (IsItem to.records ignore) (file_limit - at) had (drop at xs) f
-    → RefusesAt ignore xs left at (Value f)
-fault_refuses ignore xs at had to Truncated u n s p = cut_refuses ignore xs at to u p
-fault_refuses {Has = Has} {was = was} {left = left} ignore xs at had to Read u n s p =
-    reads_unread (oasis_faults ignore) xs at Has was left to (take had (drop at xs)) s.rest s.parts s.left_is
+    → Fails (IsItem to.records profile) (profile.limits.file - at) had (drop at xs) f
+    → RefusesAt profile xs left at (Value f)
+fault_refuses profile xs at had to Truncated u n s p = cut_refuses profile xs at to u p
+fault_refuses {Has = Has} {was = was} {left = left} profile xs at had to Read u n s p =
+    reads_unread (oasis_faults profile) xs at Has was left to (take had (drop at xs)) s.rest s.parts s.left_is
     (λ some. ((λ e. absurd (u e)), (p.unread refl).1))
-fault_refuses ignore xs at had to TooLong u n s p = long_refuses ignore xs at had to u s p
-fault_refuses ignore xs at had to Failed u n s p = absurd (n refl)
-fault_refuses ignore xs at had to IntegerTooLarge u n s p = value_refuses ignore xs at had to IntegerTooLarge u refl s p
-fault_refuses ignore xs at had to StringByte u n s p = value_refuses ignore xs at had to StringByte u refl s p
-fault_refuses ignore xs at had to RealType u n s p = value_refuses ignore xs at had to RealType u refl s p
-fault_refuses ignore xs at had to ZeroDenominator u n s p = value_refuses ignore xs at had to ZeroDenominator u refl s p
-fault_refuses ignore xs at had to PointListType u n s p = value_refuses ignore xs at had to PointListType u refl s p
-fault_refuses ignore xs at had to PointCount u n s p = value_refuses ignore xs at had to PointCount u refl s p
-fault_refuses ignore xs at had to RepetitionType u n s p = value_refuses ignore xs at had to RepetitionType u refl s p
-fault_refuses ignore xs at had to RepetitionSize u n s p = value_refuses ignore xs at had to RepetitionSize u refl s p
-fault_refuses ignore xs at had to OutOfRange u n s p = value_refuses ignore xs at had to OutOfRange u refl s p
-fault_refuses ignore xs at had to NoModal u n s p = value_refuses ignore xs at had to NoModal u refl s p
+fault_refuses profile xs at had to TooLong u n s p = long_refuses profile xs at had to u s p
+fault_refuses profile xs at had to Failed u n s p = absurd (n refl)
+fault_refuses profile xs at had to IntegerTooLarge u n s p = value_refuses profile xs at had to IntegerTooLarge u refl s p
+fault_refuses profile xs at had to StringByte u n s p = value_refuses profile xs at had to StringByte u refl s p
+fault_refuses profile xs at had to RealType u n s p = value_refuses profile xs at had to RealType u refl s p
+fault_refuses profile xs at had to ZeroDenominator u n s p = value_refuses profile xs at had to ZeroDenominator u refl s p
+fault_refuses profile xs at had to PointListType u n s p = value_refuses profile xs at had to PointListType u refl s p
+fault_refuses profile xs at had to PointCount u n s p = value_refuses profile xs at had to PointCount u refl s p
+fault_refuses profile xs at had to RepetitionType u n s p = value_refuses profile xs at had to RepetitionType u refl s p
+fault_refuses profile xs at had to RepetitionSize u n s p = value_refuses profile xs at had to RepetitionSize u refl s p
+fault_refuses profile xs at had to ListSize u n s p = value_refuses profile xs at had to ListSize u refl s p
+fault_refuses profile xs at had to OutOfRange u n s p = value_refuses profile xs at had to OutOfRange u refl s p
+fault_refuses profile xs at had to NoModal u n s p = value_refuses profile xs at had to NoModal u refl s p
 
 -- a call that reads the next item refused it
 pub next_refuses : {R : Type 0} {remaining : R → Option (List ℕ)} {errors : R → ℕ} {lent : R → List GName}
-    {Has : List Item → Type 0} (ignore : Ignore) (xs : List ℕ) {old new : Input R}
-    (to : ReadTo (oasis ignore) xs (input_offset old) Has (bytes_left remaining old)) (k : OasisKind)
-    → has_failed old ≡ false → input_ignore old ≡ ignore → ¬ IsEnded to.records
+    {Has : List Item → Type 0} (profile : Profile) (xs : List ℕ) {old new : Input R}
+    (to : ReadTo (oasis profile) xs (input_offset old) Has (bytes_left remaining old)) (k : OasisKind)
+    → has_failed old ≡ false → input_profile old ≡ profile → ¬ IsEnded to.records
     → Reads remaining errors lent (IsItem to.records) old new
     (of_kind k)
-    → RefusesAt ignore xs (remaining (input_reader new)) (input_offset old) k
-next_refuses ignore xs {old = old} {new = new} to (Value f) live under u p =
-    fault_refuses ignore xs (input_offset old) (bytes_had old new) to f u
+    → RefusesAt profile xs (remaining (input_reader new)) (input_offset old) k
+next_refuses profile xs {old = old} {new = new} to (Value f) live under u p =
+    fault_refuses profile xs (input_offset old) (bytes_had old new) to f u
     (λ e. p.fresh live (ap (λ (i : ValueFault). Err (Breach i)) e))
     (law_seen (drop (input_offset old) xs) p to.left_is)
-    (answers_under ignore under p live (drop (input_offset old) xs) to.left_is)
-next_refuses ignore xs {old = old} to AfterEnd live under u p =
-    let f = (answers_under ignore under p live (drop (input_offset old) xs) to.left_is).0 in
-    absurd (never_after ignore to.records f.bytes f.says)
-next_refuses ignore xs to (Record k) live under u p = rule_refuses ignore xs to (Record k) live under u
+    (answers_under profile under p live (drop (input_offset old) xs) to.left_is)
+next_refuses profile xs {old = old} to AfterEnd live under u p =
+    let f = (answers_under profile under p live (drop (input_offset old) xs) to.left_is).0 in
+    absurd (never_after profile to.records f.bytes f.says)
+next_refuses profile xs to (Record k) live under u p = rule_refuses profile xs to (Record k) live under u
     (λ room ys w. w) p
-next_refuses ignore xs to (Unexpected id) live under u p = rule_refuses ignore xs to (Unexpected id) live under u
+next_refuses profile xs to (Unexpected id) live under u p = rule_refuses profile xs to (Unexpected id) live under u
     (λ room ys w. w) p
-next_refuses ignore xs to (Name k) live under u p = rule_refuses ignore xs to (Name k) live under u (λ room ys w. w) p
-next_refuses ignore xs to (Figure k) live under u p = rule_refuses ignore xs to (Figure k) live under u
+next_refuses profile xs to (Name k) live under u p = rule_refuses profile xs to (Name k) live under u (λ room ys w. w) p
+next_refuses profile xs to (Figure k) live under u p = rule_refuses profile xs to (Figure k) live under u
     (λ room ys w. w) p
-next_refuses ignore xs to TooManyCells live under u p = rule_refuses ignore xs to TooManyCells live under u
+next_refuses profile xs to TooManyCells live under u p = rule_refuses profile xs to TooManyCells live under u
     (λ room ys w. w) p

@@ -5,8 +5,8 @@ use Rattle.std.specs.Prelude.{Option}
 use Rattle.std.specs.Borrow.{GName}
 use Rattle.lvl_refusal.specs.declared.Cause.{Cause}
 use Rattle.lvl_refusal.specs.declared.Cause.TheVariants.{Breach, OutOfMemory}
-use Rattle.lvl_profile.specs.declared.ignore.Ignore.{Ignore}
-use Rattle.oasis_values.specs.Input.{input_ignore, room_left, input_offset}
+use Rattle.lvl_profile.specs.declared.profile.Profile.{Profile}
+use Rattle.oasis_values.specs.Input.{input_profile, room_left, input_offset}
 use Rattle.oasis_values.specs.Known.{Seen}
 use Rattle.oasis_values.specs.Numbers.{IsUnsigned}
 use Rattle.oasis_values.specs.Reads.{Reads, bytes_had, Answers}
@@ -25,7 +25,7 @@ use Rattle.oasis_records.specs.declared.measured.Measured.{Measured}
 use Rattle.oasis_records.specs.declared.record.Record.{Record}
 use Rattle.oasis_records.specs.declared.record_type.RecordType.{RecordType}
 use Rattle.oasis_stream.specs.Items.{Item}
-use Rattle.lvl_cells.specs.Building.{cell_limit}
+use Rattle.lvl_profile.specs.declared.limits.Limits.{Limits}
 use Rattle.oasis_stream.specs.Order.{at_end, cells_in, opens_cell, mixes, is_expected, allowed, type_after}
 use Rattle.oasis_stream.specs.Front.{of_magic, of_record, IsTyped, IsNext, IsItem, IsTypedAfter}
 use Rattle.oasis_stream.specs.Reported.{of_kind, reported_record, of_fault, reported_magic, of_magic_fault}
@@ -54,17 +54,19 @@ judged_if : (b : Bool) (x y : Result RecordType OasisKind) → IsJudged x → Is
 judged_if true x y p q = p
 judged_if false x y p q = q
 
-judged_allowed : (rs : List Record) (t : Result RecordType RecordRule) → IsJudged (allowed rs t)
-judged_allowed rs (Ok t) =
-    let full = opens_cell t && not (nat_lt (length (cells_in rs)) cell_limit) in
+judged_allowed : (limits : Limits) (rs : List Record) (t : Result RecordType RecordRule)
+    → IsJudged (allowed limits rs t)
+judged_allowed limits rs (Ok t) =
+    let full = opens_cell t && not (nat_lt (length (cells_in rs)) limits.cells) in
     judged_if (mixes rs t) (Err (Name Mixed)) (if full then Err TooManyCells else Ok t) refl
     (judged_if full (Err TooManyCells) (Ok t) refl tt)
-judged_allowed rs (Err k) = refl
+judged_allowed limits rs (Err k) = refl
 
-judged : (ignore : Ignore) (rs : List Record) (id : ℕ) → IsJudged (type_after ignore rs id)
-judged ignore rs id =
-    let t = record_type ignore id in
-    judged_if (is_expected rs t) (allowed rs t) (Err (Unexpected id)) (judged_allowed rs t) refl
+judged : (profile : Profile) (rs : List Record) (id : ℕ) → IsJudged (type_after profile rs id)
+judged profile rs id =
+    let t = record_type profile id in
+    judged_if (is_expected rs t) (allowed profile.limits rs t) (Err (Unexpected id))
+    (judged_allowed profile.limits rs t) refl
 
 -- the id couldn't be read
 pub next_unread : {R : Type 0} {remaining : R → Option (List ℕ)} {errors : R → ℕ} {lent : R → List GName}
@@ -76,7 +78,7 @@ next_unread rs p = reads_fault (IsTypedAfter rs) (typed_said rs) p
 -- a call that reads by one spelling reads by any other that is the same for what the input ignores
 reads_by : {R A : Type 0} {remaining : R → Option (List ℕ)} {errors : R → ℕ} {lent : R → List GName}
     (S T : Spelling A) {old new : Input R} {r : Result A (Cause ValueFault)}
-    → S (input_ignore old) ≡ T (input_ignore old) → Reads remaining errors lent T old new r
+    → S (input_profile old) ≡ T (input_profile old) → Reads remaining errors lent T old new r
     → Reads remaining errors lent S old new r
 reads_by S T {old = old} {new = new} {r = r} e p =
     record {
@@ -87,7 +89,7 @@ reads_by S T {old = old} {new = new} {r = r} e p =
           (sym e) (p.answers h xs k);
       left = p.left;
       forward = p.forward;
-      ignores = p.ignores;
+      profiles = p.profiles;
       failed = p.failed;
       counted = p.counted;
       same = p.same;
@@ -96,12 +98,12 @@ reads_by S T {old = old} {new = new} {r = r} e p =
 -- the id breaches a rule
 pub next_refused : {R : Type 0} {remaining : R → Option (List ℕ)} {errors : R → ℕ} {lent : R → List GName}
     (rs : List Record) {old new : Input R} (id : Measured) (k : OasisKind)
-    → type_after (input_ignore new) rs id.value ≡ Err k → Reads remaining errors lent (Sized IsUnsigned) old new (Ok id)
+    → type_after (input_profile new) rs id.value ≡ Err k → Reads remaining errors lent (Sized IsUnsigned) old new (Ok id)
     → Reads remaining errors lent (IsNext rs) old new (of_kind k)
 next_refused {remaining = remaining} {errors = errors} {lent = lent} rs {old = old} {new = new} id k e p =
-    let j : of_kind k ≡ Ok (Err k) = subst IsJudged e (judged (input_ignore new) rs id.value) in
+    let j : of_kind k ≡ Ok (Err k) = subst IsJudged e (judged (input_profile new) rs id.value) in
     let none : Reads remaining errors lent (IsTypedAfter rs id) new new (Ok (Err k)) =
-    reads_by (IsTypedAfter rs id) (Gives (Ok (Err k))) (ap (λ t. IsTyped (at_end rs) id.len t (input_ignore new)) e)
+    reads_by (IsTypedAfter rs id) (Gives (Ok (Err k))) (ap (λ t. IsTyped (at_end rs) id.len t (input_profile new)) e)
     (reads_nothing (Err k) p.failed) in
     subst (λ r. Reads remaining errors lent (IsNext rs) old new r) (sym j) (reads_then (IsTypedAfter rs) p none)
 
@@ -109,7 +111,7 @@ next_refused {remaining = remaining} {errors = errors} {lent = lent} rs {old = o
 pub next_typed : {R : Type 0} {remaining : R → Option (List ℕ)} {errors : R → ℕ} {lent : R → List GName}
     (rs : List Record) {old mid new : Input R} (id : Measured) (t : RecordType) (b : Bool)
     {r : Result (Result Item OasisKind) (Cause ValueFault)}
-    → type_after (input_ignore mid) rs id.value ≡ Ok t → b ≡ at_end rs
+    → type_after (input_profile mid) rs id.value ≡ Ok t → b ≡ at_end rs
     → Reads remaining errors lent (Sized IsUnsigned) old mid (Ok id)
     → Reads remaining errors lent (IsTyped b id.len (Ok t)) mid new r
     → Reads remaining errors lent (IsNext rs) old new r
@@ -118,7 +120,7 @@ next_typed {remaining = remaining} {errors = errors} {lent = lent} rs {mid = mid
     subst (λ i. Reads remaining errors lent (IsTyped i id.len (Ok t)) mid new r) h q in
     reads_then (IsTypedAfter rs) p
     (reads_by (IsTypedAfter rs id) (IsTyped (at_end rs) id.len (Ok t))
-    (ap (λ i. IsTyped (at_end rs) id.len i (input_ignore mid)) e) here)
+    (ap (λ i. IsTyped (at_end rs) id.len i (input_profile mid)) e) here)
 
 -- the magic string that was read, as an item of the file
 pub reads_first : {R : Type 0} {remaining : R → Option (List ℕ)} {errors : R → ℕ} {lent : R → List GName}

@@ -1,8 +1,7 @@
 -- OASIS as a format of streams of records (SEMI P39 OASIS 1.0, "Magic-bytes", "Records").
 use Rattle.std.specs.Prelude.{ℕ, Bool, List, [], ◌∷◌, Result, Ok, Err}
 use Rattle.lvl_grammar.specs.Grammar.{Grammar}
-use Rattle.lvl_profile.specs.declared.ignore.Ignore.{Ignore}
-use Rattle.oasis_values.specs.Input.{file_limit}
+use Rattle.lvl_profile.specs.declared.profile.Profile.{Profile}
 use Rattle.oasis_values.specs.Known.{Seen}
 use Rattle.oasis_values.specs.Numbers.{IsUnsigned}
 use Rattle.oasis_values.specs.Spelling.{Spelling, Gives, Then}
@@ -36,7 +35,7 @@ IsTyped has_offsets id_len (Err k) = Gives (Ok (Err k))
 
 -- the fields of a record with that id, after the records rs
 abbrev pub IsTypedAfter : List Record → Measured → Spelling (Result Item OasisKind)
-IsTypedAfter rs id ignore = IsTyped (at_end rs) id.len (type_after ignore rs id.value) ignore
+IsTypedAfter rs id profile = IsTyped (at_end rs) id.len (type_after profile rs id.value) profile
 
 -- what bytes say about the next record, after the records rs
 abbrev pub IsNext : List Record → Spelling (Result Item OasisKind)
@@ -47,11 +46,11 @@ abbrev pub IsItem : List Item → Spelling (Result Item OasisKind)
 IsItem [] = Seen of_magic IsMagic
 IsItem (i ∷ is) = IsNext (records (i ∷ is))
 
--- OASIS as a format, with some records and padding ignored; a file is whole at its END
-abbrev pub oasis : Ignore → Grammar Item
-oasis ignore = record {
-  spells = λ before bytes i. IsItem before ignore bytes (Ok (Ok i));
+-- OASIS as a format, under a profile; a file is whole at its END
+abbrev pub oasis : Profile → Grammar Item
+oasis profile = record {
+  spells = λ before bytes i. IsItem before profile bytes (Ok (Ok i));
   follows = MayFollow;
   ends = IsEnded;
-  limit = file_limit;
+  limit = profile.limits.file;
 }

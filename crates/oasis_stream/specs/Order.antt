@@ -2,8 +2,8 @@
 -- record", "CELL record").
 use Rattle.std.specs.Prelude.{ℕ, Bool, true, false, not, ◌&&◌, ◌||◌, nat_lt, is_some, is_none, if◌then◌else◌}
 use Rattle.std.specs.Prelude.{List, [], ◌∷◌, length, flat_map, Result, Ok, Err}
-use Rattle.lvl_cells.specs.Building.{cell_limit}
-use Rattle.lvl_profile.specs.declared.ignore.Ignore.{Ignore}
+use Rattle.lvl_profile.specs.declared.limits.Limits.{Limits}
+use Rattle.lvl_profile.specs.declared.profile.Profile.{Profile}
 use Rattle.oasis_records.specs.Records.{record_type}
 use Rattle.oasis_records.specs.declared.cell.CellName.{CellName}
 use Rattle.oasis_records.specs.declared.cell.CellRef.{CellRef}
@@ -109,17 +109,17 @@ opens_cell NumberedCell = true
 opens_cell NamedCell = true
 opens_cell t = false
 
--- the type, if the records before it allow it
-abbrev pub allowed : List Record → Result RecordType RecordRule → Result RecordType OasisKind
-allowed rs (Err k) = Err (OfRecord k)
-allowed rs (Ok t) =
+-- the type, if the records before it allow it, within the limits
+abbrev pub allowed : Limits → List Record → Result RecordType RecordRule → Result RecordType OasisKind
+allowed limits rs (Err k) = Err (OfRecord k)
+allowed limits rs (Ok t) =
     if mixes rs t then Err (Name Mixed)
-    else (if opens_cell t && not (nat_lt (length (cells_in rs)) cell_limit) then Err TooManyCells else Ok t)
+    else (if opens_cell t && not (nat_lt (length (cells_in rs)) limits.cells) then Err TooManyCells else Ok t)
 
--- the type by an id after the records rs, or the rule that the id breaches
-abbrev pub type_by : List Record → ℕ → Result RecordType RecordRule → Result RecordType OasisKind
-type_by rs id t = if is_expected rs t then allowed rs t else Err (Unexpected id)
+-- the type by an id after the records rs, within the limits, or the rule that the id breaches
+abbrev pub type_by : Limits → List Record → ℕ → Result RecordType RecordRule → Result RecordType OasisKind
+type_by limits rs id t = if is_expected rs t then allowed limits rs t else Err (Unexpected id)
 
--- the type by an id after the records rs, by what is ignored, or the rule that the id breaches
-abbrev pub type_after : Ignore → List Record → ℕ → Result RecordType OasisKind
-type_after ignore rs id = type_by rs id (record_type ignore id)
+-- the type by an id after the records rs, under the profile, or the rule that the id breaches
+abbrev pub type_after : Profile → List Record → ℕ → Result RecordType OasisKind
+type_after profile rs id = type_by profile.limits rs id (record_type profile id)

@@ -42,7 +42,7 @@ pub enum OasisKind {
     /// A byte comes after END.
     #[error("data after the end of the file")]
     AfterEnd,
-    /// A CELL comes after 1,048,576 cells (own rule).
+    /// A CELL comes after as many cells as the limits allow (own rule).
     #[error("there are too many cells")]
     TooManyCells,
 }

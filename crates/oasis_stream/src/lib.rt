@@ -9,13 +9,13 @@
 //! `bytes` is a file:
 //!
 //! ```
-//! use lvl_profile::Ignore;
+//! use lvl_profile::Profile;
 //! use lvl_io::fake::Pieces;
 //! use oasis_records::Record;
 //! use oasis_stream::{Order, read_first, read_next};
 //! use oasis_values::Input;
 //!
-//! let mut input = Input::new(Pieces::new(&bytes, usize::MAX), Ignore::NOTHING);
+//! let mut input = Input::new(Pieces::new(&bytes, usize::MAX), Profile::STANDARD);
 //! let mut order = Order::new();
 //! read_first(&mut input)?;
 //! let start = read_next(&mut input, alloc, &order)?;

@@ -59,8 +59,8 @@ pub fn read_next<R: Read>(
         Ok(id) => id,
         Err(fault) => return Err(Cause::Breach(OasisKind::Value(fault))),
     };
-    let ignore = input.ignore();
-    match order.type_of(id.value, ignore) {
+    let profile = input.profile();
+    match order.type_of(id.value, profile) {
         Ok(kind) => read_typed(input, alloc, kind, id.len, order.has_offsets_at_end()),
         Err(kind) => Err(Cause::Breach(kind)),
     }

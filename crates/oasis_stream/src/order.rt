@@ -6,8 +6,7 @@ ghost use Rattle.oasis_stream.specs.Order.{type_after, at_end};
 ghost use Rattle.oasis_stream.specs.inside.Reached.{HasReached, passed};
 
 use crate::fault::{NameRule, OasisKind};
-use lvl_cells::MOST_CELLS;
-use lvl_profile::Ignore;
+use lvl_profile::{Limits, Profile};
 use oasis_records::{Record, RecordRule, RecordType};
 
 /// What the records so far say about those that may come next.
@@ -17,8 +16,8 @@ pub struct Order {
     is_fresh: bool,
     /// A cell is open.
     in_cell: bool,
-    /// The number of cells so far, up to the limit.
-    cells: usize,
+    /// The number of cells so far, at most `u64::MAX`.
+    cells: u64,
     /// Some name has a number of its own.
     has_numbered: bool,
     /// Some name has no number of its own.
@@ -86,16 +85,16 @@ impl Order {
         self.has_offsets_at_end
     }
 
-    /// The type of the next record by its id, or the rule that the id breaches, if `ignore` is ignored.
-    pub fn type_of(&self, id: u64, ignore: Ignore) -> Result<RecordType, OasisKind>
-        ensures { (rs : List Read) → HasReached self.now rs → result ≡ type_after ignore rs id }
+    /// The type of the next record by its id under the profile, or the rule that the id breaches.
+    pub fn type_of(&self, id: u64, profile: Profile) -> Result<RecordType, OasisKind>
+        ensures { (rs : List Read) → HasReached self.now rs → result ≡ type_after profile rs id }
     {
-        let kind = RecordType::of(id, ignore);
+        let kind = RecordType::of(id, profile);
         if !self.is_expected(kind) {
             return Err(OasisKind::Unexpected(id));
         }
         match kind {
-            Ok(kind) => self.allow(kind),
+            Ok(kind) => self.allow(kind, profile.limits),
             Err(rule) => Err(OasisKind::Record(rule)),
         }
     }
@@ -117,7 +116,7 @@ impl Order {
             Record::Entry => self.in_cell = false,
             Record::Cell(_) => {
                 self.in_cell = true;
-                if self.cells < MOST_CELLS {
+                if self.cells < u64::MAX {
                     self.cells += 1;
                 }
             }
@@ -147,14 +146,14 @@ impl Order {
         }
     }
 
-    // The type, if the records before it allow it.
-    fn allow(&self, kind: RecordType) -> Result<RecordType, OasisKind>
-        ensures { (rs : List Read) → HasReached self.now rs → result ≡ allowed rs (Ok kind) }
+    // The type, if the records before it allow it, within the limits.
+    fn allow(&self, kind: RecordType, limits: Limits) -> Result<RecordType, OasisKind>
+        ensures { (rs : List Read) → HasReached self.now rs → result ≡ allowed limits rs (Ok kind) }
     {
         if self.mixes(kind) {
             return Err(OasisKind::Name(NameRule::Mixed));
         }
-        if opens_cell(kind) && self.cells >= MOST_CELLS {
+        if opens_cell(kind) && self.cells >= limits.cells {
             return Err(OasisKind::TooManyCells);
         }
         Ok(kind)

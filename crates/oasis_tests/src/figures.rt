@@ -5,7 +5,7 @@ use lvl_grid::{Map, Point, Ring};
 use lvl_io::Read;
 use lvl_io::fake::Pieces;
 use lvl_names::Layer;
-use lvl_profile::Ignore;
+use lvl_profile::Profile;
 use lvl_refusal::Cause;
 use oasis_figures::{Drawn, FigureRule, Modal};
 use oasis_records::{Record, RecordType, read_fields, read_id};
@@ -19,7 +19,7 @@ fn next<R: Read>(input: &mut Input<R>, alloc: Global) -> Result<Option<Record>, 
     let Ok(id) = read_id(input) else {
         return Ok(None);
     };
-    let Ok(kind) = RecordType::of(id.value, input.ignore()) else {
+    let Ok(kind) = RecordType::of(id.value, input.profile()) else {
         return Ok(None);
     };
     match read_fields(input, alloc, kind, id.len, false) {
@@ -49,7 +49,7 @@ fn take_all(
     alloc: Global,
     bytes: &[u8],
 ) -> Result<Option<Drawn>, Cause<FigureRule>> {
-    let mut input = Input::new(Pieces::new(bytes, 1), Ignore::NOTHING);
+    let mut input = Input::new(Pieces::new(bytes, 1), Profile::STANDARD);
     let mut drawn = None;
     for _ in 0..bytes.len() {
         if !take_next(&mut input, modal, alloc, &mut drawn)? {

@@ -6,7 +6,7 @@ use crate::rows::{bytes_of, check_text, cut};
 use lvl_cells::Library;
 use lvl_io::Read;
 use lvl_io::fake::Pieces;
-use lvl_profile::Ignore;
+use lvl_profile::{Ignore, Profile};
 use lvl_refusal::Cause;
 use oasis_library::{OasisFault, ValueFault, read_oasis_by};
 use oasis_records::{Record, RecordFault, RecordType, read_fields, read_id};
@@ -18,6 +18,14 @@ use std::test::Fail;
 mod rows;
 
 use rows::{MALFORMED, RECORDS, SKIPPED};
+
+/// The standard profile, with this ignored.
+fn under(ignore: Ignore) -> Profile {
+    Profile {
+        ignore,
+        ..Profile::STANDARD
+    }
+}
 
 /// Padding alone.
 fn padding() -> Ignore {
@@ -81,7 +89,7 @@ fn padding_of_integers(rt: HostRuntime) -> Result<(), Fail> {
 
 /// Whether bytes are a value that isn't kept, or its fault.
 fn skipped(alloc: Global, bytes: &[u8]) -> Result<String, AllocError> {
-    let mut input = Input::new(Pieces::new(bytes, 1), Ignore::NOTHING);
+    let mut input = Input::new(Pieces::new(bytes, 1), Profile::STANDARD);
     match input.skip_value() {
         Ok(()) if input.offset() == bytes.len() as u64 => String::from_str(alloc, "whole"),
         Ok(()) => String::from_str(alloc, "bytes are left"),
@@ -113,7 +121,7 @@ fn long_string(alloc: Global) -> Result<Vec<u8>, AllocError> {
 #[test]
 fn a_long_string_that_is_not_kept(rt: HostRuntime) -> Result<(), Fail> {
     let long = long_string(rt.alloc())?;
-    let mut input = Input::new(Pieces::new(&long, 7), Ignore::NOTHING);
+    let mut input = Input::new(Pieces::new(&long, 7), Profile::STANDARD);
     assert_eq!(rt; input.skip_string(Text::N), Ok(()));
     assert_eq!(rt; input.offset(), 302);
     Ok(())
@@ -129,7 +137,7 @@ fn next<R: Read>(
         Ok(id) => id,
         Err(fault) => return Err(Cause::Breach(RecordFault::Value(fault))),
     };
-    match RecordType::of(id.value, ignore) {
+    match RecordType::of(id.value, under(ignore)) {
         Ok(kind) => read_fields(input, alloc, kind, id.len, false),
         Err(rule) => Err(Cause::Breach(RecordFault::Rule(rule))),
     }
@@ -170,7 +178,7 @@ fn next_text<R: Read>(
 /// What the record of all these bytes is.
 fn record_text(alloc: Global, words: &str, ignore: Ignore) -> Result<String, Fail> {
     let bytes = bytes_of(alloc, words)?;
-    let mut input = Input::new(Pieces::new(&bytes, 2), ignore);
+    let mut input = Input::new(Pieces::new(&bytes, 2), under(ignore));
     Ok(next_text(&mut input, alloc, ignore, bytes.len())?)
 }
 
@@ -268,7 +276,7 @@ fn read_by(
     ignore: Ignore,
 ) -> Result<Library, Cause<OasisFault>> {
     let mut reader = Pieces::new(bytes, most);
-    let (library, _) = read_oasis_by(alloc, &mut reader, ignore)?;
+    let (library, _) = read_oasis_by(alloc, &mut reader, under(ignore))?;
     Ok(library)
 }
 

@@ -2,7 +2,7 @@
 
 use lvl_io::Read;
 use lvl_io::fake::Pieces;
-use lvl_profile::Ignore;
+use lvl_profile::Profile;
 use oasis_records::{
     CellRef, Record, RecordType, Rectangle, Start, Validation, read_fields, read_id, read_magic,
 };
@@ -26,7 +26,7 @@ fn next<R: Read>(input: &mut Input<R>, alloc: Global) -> Option<Record> {
     let Ok(id) = read_id(input) else {
         return None;
     };
-    let Ok(kind) = RecordType::of(id.value, input.ignore()) else {
+    let Ok(kind) = RecordType::of(id.value, input.profile()) else {
         return None;
     };
     read_fields(input, alloc, kind, id.len, false).ok()
@@ -83,7 +83,7 @@ fn check_all<R: Read>(rt: &impl Abort, alloc: Global, input: &mut Input<R>) -> R
 }
 
 fn check_square(rt: &impl Abort, alloc: Global, bytes: &[u8]) -> Result<(), Fail> {
-    let mut input = Input::new(Pieces::new(bytes, 1), Ignore::NOTHING);
+    let mut input = Input::new(Pieces::new(bytes, 1), Profile::STANDARD);
     check_all(rt, alloc, &mut input)
 }
 

@@ -5,7 +5,7 @@ use crate::rows::{bytes_of, check_text, cut};
 use lvl_grid::Point;
 use lvl_io::Read;
 use lvl_io::fake::Pieces;
-use lvl_profile::Ignore;
+use lvl_profile::Profile;
 use lvl_refusal::Cause;
 use oasis_values::{Input, Real, Repetition, Text, Use, ValueFault};
 use std::alloc::{AllocError, Global};
@@ -14,7 +14,7 @@ use std::test::Fail;
 
 /// The values in these bytes.
 pub fn input(bytes: &[u8]) -> Input<Pieces<'_>> {
-    Input::new(Pieces::new(bytes, usize::MAX), Ignore::NOTHING)
+    Input::new(Pieces::new(bytes, usize::MAX), Profile::STANDARD)
 }
 
 /// Appends an unsigned integer.
@@ -279,7 +279,7 @@ fn check_all<R: Read>(rt: &impl Abort, alloc: Global, values: &mut Input<R>, len
 
 /// The same, at most `most` bytes at a read.
 fn check_groups(rt: &impl Abort, alloc: Global, bytes: &[u8], most: usize) {
-    let mut values = Input::new(Pieces::new(bytes, most), Ignore::NOTHING);
+    let mut values = Input::new(Pieces::new(bytes, most), Profile::STANDARD);
     check_all(rt, alloc, &mut values, bytes.len());
 }
 
@@ -344,12 +344,12 @@ fn check_fault<R: Read>(
 }
 
 fn check_cut(rt: &impl Abort, alloc: Global, bytes: &[u8]) {
-    let mut cut = Input::new(Pieces::new(bytes, 3), Ignore::NOTHING);
+    let mut cut = Input::new(Pieces::new(bytes, 3), Profile::STANDARD);
     check_fault(rt, alloc, &mut cut, ValueFault::Truncated, bytes.len());
 }
 
 fn check_failed_read(rt: &impl Abort, alloc: Global, bytes: &[u8]) {
-    let mut failing = Input::new(Pieces::failing(bytes, 3), Ignore::NOTHING);
+    let mut failing = Input::new(Pieces::failing(bytes, 3), Profile::STANDARD);
     check_fault(rt, alloc, &mut failing, ValueFault::Read, bytes.len());
     let errors = failing.into_reader().errors;
     assert_eq!(rt; errors, 1);

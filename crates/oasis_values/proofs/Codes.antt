@@ -1,20 +1,22 @@
 -- The laws of spellings, and of those that are combined from others.
-use Rattle.std.proofs.Common.{◌≡◌, ℕ, zero, suc, List, [], ◌∷◌, ◌++◌, Result, Ok, Err}
+use Rattle.std.proofs.Common.{◌≡◌, refl, sym, subst, ℕ, zero, suc, List, ◌++◌, Result, Ok, Err}
 use Rattle.std.specs.Prelude.{Option, Some, None}
 use Rattle.lvl_io.specs.Spelling.{IsPrefixFree, CanSay, UnlessBreached, Then as ThenAlways}
 use Rattle.lvl_io.proofs.Spelling.{gives_free, gives_said, then_free, then_said}
-use Rattle.lvl_profile.specs.Ignored.{IsSubsetOf}
-use Rattle.lvl_profile.specs.declared.ignore.Ignore.{Ignore}
-use Rattle.oasis_values.specs.Known.{Known, Seen}
+use Rattle.lvl_profile.specs.Profiles.{IsWider}
+use Rattle.lvl_profile.specs.declared.profile.Profile.{Profile}
+use Rattle.lvl_profile.specs.Limits.{AreWithin}
+use Rattle.lvl_profile.specs.declared.limits.Limits.{Limits}
+use Rattle.oasis_values.specs.Known.{Allowed, Known, Seen}
 use Rattle.oasis_values.specs.Spelling.{Spelling, Gives, Then, Chain}
 use Rattle.oasis_values.specs.declared.fault.ValueFault.{ValueFault}
 
--- for any `ignore` the spelling is prefix-free, and there are bytes that say something; and what spells a value still
--- spells it if more is ignored
+-- under any profile the spelling is prefix-free, and there are bytes that say something; and what spells a value still
+-- spells it under a wider profile
 pub record IsCode {A : Type 0} (S : Spelling A) : Type 0 where
-  pub free : (i : Ignore) → IsPrefixFree (S i)
-  pub said : (i : Ignore) → CanSay (S i)
-  pub grows : (less more : Ignore) → IsSubsetOf less more → (b : List ℕ) (x : A) → S less b (Ok x) → S more b (Ok x)
+  pub free : (i : Profile) → IsPrefixFree (S i)
+  pub said : (i : Profile) → CanSay (S i)
+  pub grows : (less more : Profile) → IsWider less more → (b : List ℕ) (x : A) → S less b (Ok x) → S more b (Ok x)
 
 pub gives_code : {A : Type 0} {r : Result A ValueFault} → IsCode (Gives r)
 gives_code {r = r} =
@@ -56,6 +58,22 @@ chain_code {S = S} show (suc n) a s =
 pub known_code : {A : Type 0} (o : Option A) (f : ValueFault) → IsCode (Known o f)
 known_code (Some x) f = gives_code
 known_code None f = gives_code
+
+-- a value that wider limits give as well
+pub allowed_code : {A : Type 0} (g : Limits → Option A) (f : ValueFault)
+    → ((less more : Limits) → AreWithin less more → (x : A) → g less ≡ Some x → g more ≡ Some x) → IsCode (Allowed g f)
+allowed_code {A = A} g f law =
+    record {
+      free = λ i. (known_code (g i.limits) f).free i;
+      said = λ i. (known_code (g i.limits) f).said i;
+      grows = λ less more within b x s. grow less more within b x (g less.limits) refl s;
+    }
+  where
+    grow : (less more : Profile) → IsWider less more → (b : List ℕ) (x : A) (o : Option A) → g less.limits ≡ o
+        → Known o f less b (Ok x) → Known (g more.limits) f more b (Ok x)
+    grow less more within b x (Some y) e s =
+        subst (λ o. Known o f more b (Ok x)) (sym (law less.limits more.limits within.limits y e)) s
+    grow less more within b x None e s = absurd (let k : Ok x ≡ Err f = s.1 in cc)
 
 pub seen_code : {A B : Type 0} (g : A → B) {S : Spelling A} → IsCode S → IsCode (Seen g S)
 seen_code g {S = S} s = then_code {S = S} {T = λ x. Gives (Ok (g x))} s (λ x. gives_code)

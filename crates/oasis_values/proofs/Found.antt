@@ -7,7 +7,7 @@ use Rattle.std.specs.Prelude.{Option}
 use Rattle.std.specs.Borrow.{GName}
 use Rattle.lvl_io.specs.Bytes.{CountsFailure}
 use Rattle.lvl_refusal.specs.declared.Cause.TheVariants.{Breach}
-use Rattle.oasis_values.specs.Input.{in_hand, input_offset, has_failed, input_ignore, room_left}
+use Rattle.oasis_values.specs.Input.{in_hand, input_offset, has_failed, input_profile, room_left}
 use Rattle.oasis_values.specs.declared.input.Input.{Input}
 use Rattle.std.specs.Io.KnownBytes.{prepend_known}
 use Rattle.lvl_io.specs.Known.{Stays}
@@ -19,7 +19,7 @@ use Rattle.oasis_values.specs.Reads.{Fails, bytes_had, Reads}
 use Rattle.oasis_values.specs.inside.Leading.{IsStop, Stops}
 use Rattle.oasis_values.specs.Spelling.{Spelling}
 use Rattle.oasis_values.proofs.Integers.{continues_begun}
-use Rattle.lvl_profile.specs.declared.ignore.Ignore.{Ignore}
+use Rattle.lvl_profile.specs.declared.profile.Profile.{Profile}
 use Rattle.oasis_values.specs.declared.fault.ValueFault.{ValueFault}
 use Rattle.oasis_values.specs.declared.fault.ValueFault.TheVariants.{Truncated, TooLong, Read, Failed}
 
@@ -99,7 +99,7 @@ pub byte_begun : IsBegun IsOneByte []
 byte_begun = record { more = 0 ∷ []; value = Ok 0; short = omega arith; says = refl }
 
 -- bytes in hand that continue begin an integer, and so do they as the first of all
-pub hand_begun : (i : Ignore) (new : List ℕ) (b : Option (List ℕ)) (xs : List ℕ) (k : ℕ)
+pub hand_begun : (i : Profile) (new : List ℕ) (b : Option (List ℕ)) (xs : List ℕ) (k : ℕ)
     → prepend_known new b ≡ Some xs → k ≤ length new → Continues (take k new) → length (take k new) < most_bytes i
     → groups (take k new) < 2 ^ 64 → IsBegun (IsUnsigned i) (take k xs)
 hand_begun i new b xs k e h c few fits =
@@ -141,27 +141,27 @@ known_dropped new b n xs k h =
 pub reads_found : {R A : Type 0} (remaining : R → Option (List ℕ)) (errors : R → ℕ) (lent : R → List GName)
     (S : Spelling A) (old new : Input R) (hand : List ℕ) (x : A) (n : ℕ)
     → has_failed old ≡ false → has_failed new ≡ false → new.ahead ≡ drop n hand → new.offset ≡ old.offset + n
-    → new.ignore ≡ old.ignore
+    → new.profile ≡ old.profile
     → Stays (prepend_known old.ahead (remaining old.reader)) (prepend_known hand (remaining new.reader))
     → n ≤ length hand → n ≤ room_left old
     → ((xs : List ℕ) → prepend_known old.ahead (remaining old.reader) ≡ Some xs
-    → FirstBytesSay (S (input_ignore old)) xs n (Ok x)) → errors new.reader ≡ errors old.reader
+    → FirstBytesSay (S (input_profile old)) xs n (Ok x)) → errors new.reader ≡ errors old.reader
     → lent new.reader ≡ lent old.reader
     → Reads remaining errors lent S old new (Ok x)
-reads_found remaining errors lent S old new hand x n live lives ahead offset ignore stays had within front counted
+reads_found remaining errors lent S old new hand x n live lives ahead offset profile stays had within front counted
     same =
     let moved : n ≡ input_offset new - input_offset old = omega (arith, offset) in
     record {
       again = λ h. absurd (let k : true ≡ false = sym h ∙ live in cc);
       fresh = λ h k. cc;
-      answers = λ h xs k. subst (λ i. FirstBytesSay (S (input_ignore old)) xs i (Ok x) × (i ≤ room_left old)) moved
+      answers = λ h xs k. subst (λ i. FirstBytesSay (S (input_profile old)) xs i (Ok x) × (i ≤ room_left old)) moved
           (front xs k, within);
       left = λ xs k.
           ap (λ l. prepend_known l (remaining new.reader)) ahead
           ∙ known_dropped hand (remaining new.reader) n xs (stays xs k) had
           ∙ ap (λ i. Some (drop i xs)) moved;
       forward = omega (arith, offset);
-      ignores = ignore;
+      profiles = profile;
       failed = lives;
       counted = counted;
       same = same;
@@ -170,22 +170,22 @@ reads_found remaining errors lent S old new hand x n live lives ahead offset ign
 -- a fault was found, and nothing was skipped
 pub reads_stopped : {R A : Type 0} (remaining : R → Option (List ℕ)) (errors : R → ℕ) (lent : R → List GName)
     (S : Spelling A) (old new : Input R) (f : ValueFault)
-    → has_failed old ≡ false → has_failed new ≡ true → new.offset ≡ old.offset → new.ignore ≡ old.ignore
+    → has_failed old ≡ false → has_failed new ≡ true → new.offset ≡ old.offset → new.profile ≡ old.profile
     → Stays (prepend_known old.ahead (remaining old.reader)) (prepend_known new.ahead (remaining new.reader))
     → f ≢ Failed → ((xs : List ℕ) → prepend_known old.ahead (remaining old.reader) ≡ Some xs
-    → Fails (S (input_ignore old)) (room_left old) (in_hand new) xs f)
+    → Fails (S (input_profile old)) (room_left old) (in_hand new) xs f)
     → CountsFailure (errors old.reader) (errors new.reader) (is_read_fault f) → lent new.reader ≡ lent old.reader
     → Reads remaining errors lent S old new (Err (Breach f))
-reads_stopped remaining errors lent S old new f live failed offset ignore stays fresh fails counted same =
+reads_stopped remaining errors lent S old new f live failed offset profile stays fresh fails counted same =
     let none : 0 ≡ input_offset new - input_offset old = omega (arith, offset) in
     let had : in_hand new ≡ bytes_had old new = omega (arith, offset) in
     record {
       again = λ h. absurd (let k : true ≡ false = sym h ∙ live in cc);
       fresh = λ h k. fresh (cc);
-      answers = λ h xs k. subst (λ i. Fails (S (input_ignore old)) (room_left old) i xs f) had (fails xs k);
+      answers = λ h xs k. subst (λ i. Fails (S (input_profile old)) (room_left old) i xs f) had (fails xs k);
       left = λ xs k. stays xs k ∙ ap (λ i. Some (drop i xs)) none;
       forward = omega (arith, offset);
-      ignores = ignore;
+      profiles = profile;
       failed = failed;
       counted = counted;
       same = same;

@@ -2,14 +2,14 @@
 use Rattle.std.proofs.Common.{◌≡◌, ℕ, suc, ◌+◌, ◌*◌, ◌%◌, ◌^◌, ◌<◌, ◌≤◌, ◌⊎◌, inl, inr, List, [], ◌∷◌, ◌++◌, length}
 use Rattle.std.proofs.Common.{Result, Ok, Err, refl, sym, ap, ◌∙◌, subst, arith, append_assoc, take, drop, get_or}
 use Rattle.std.proofs.Common.{mul_assoc, mul-le-mul_left, nat_le, length-append, Bool, true, false, not, if◌then◌else◌}
-use Rattle.lvl_profile.specs.Ignored.{IsSubsetOf}
-use Rattle.lvl_profile.specs.declared.ignore.Ignore.{Ignore}
+use Rattle.lvl_profile.specs.Profiles.{IsWider}
+use Rattle.lvl_profile.specs.declared.profile.Profile.{Profile}
 use Rattle.std.proofs.lemmas.Bool.Decides.{nat_tests}
 use Rattle.std.proofs.lemmas.List.Elements.{All-append, All-cons, All-nil}
 use Rattle.std.proofs.lemmas.List.{take_more, length-take, take-append-drop}
 use Rattle.std.proofs.Math.Nat.{pow-le-pow_right, pow-suc}
 use Rattle.std.proofs.lemmas.Bool.{cases_Bool}
-use Rattle.lvl_io.specs.Spelling.{IsPrefixFree, FirstBytesSay, IsBegun, CanSay}
+use Rattle.lvl_io.specs.Spelling.{FirstBytesSay, IsBegun, CanSay}
 use Rattle.oasis_values.specs.Numbers.{IsOneByte, IsByte, groups, Continues, most_bytes, IsInteger, IsTooLarge}
 use Rattle.oasis_values.specs.Numbers.{IsUnsigned}
 use Rattle.oasis_values.proofs.Codes.{IsCode}
@@ -116,7 +116,7 @@ groups_more [] rest = omega arith
 groups_more (z ∷ b) rest = let h = groups_more b rest in omega (arith, h)
 
 -- if bytes show that no integer begins with them, no longer front continues from them
-too_large_last : {i : Ignore} (c g m n : List ℕ) (y : ℕ) (q : IsTooLarge i c) → c ++ n ≡ g ++ (y ∷ m)
+too_large_last : {i : Profile} (c g m n : List ℕ) (y : ℕ) (q : IsTooLarge i c) → c ++ n ≡ g ++ (y ∷ m)
     → length q.front < length g → length g < most_bytes i → groups g < 2 ^ 64 → ⊥
 too_large_last c g m n y q e h few fits =
     let longer = longer_front q.front g n m q.last y (sym (joined q.front n c q.last q.bytes) ∙ e) h in
@@ -129,7 +129,7 @@ too_large_last c g m n y q e h few fits =
     ]
 
 -- bytes that show that no integer begins with them begin none
-too_large_none : (i : Ignore) (b c m n : List ℕ) (x : ℕ) → IsInteger i b x → IsTooLarge i c → b ++ m ≡ c ++ n → ⊥
+too_large_none : (i : Profile) (b c m n : List ℕ) (x : ℕ) → IsInteger i b x → IsTooLarge i c → b ++ m ≡ c ++ n → ⊥
 too_large_none i b c m n x p q e =
     let h = fronts p.front q.front m n b c p.last q.last p.bytes q.bytes e in
     let less = short_front p.front q.front m n p.last q.last q.continues p.ends h in
@@ -148,7 +148,7 @@ too_large_none i b c m n x p q e =
           too_large_last c p.front m n p.last q (sym e ∙ joined p.front m b p.last p.bytes) longer p.few low
     ]
 
-too_large_only : (i : Ignore) (b c m n : List ℕ) → IsTooLarge i b → IsTooLarge i c → b ++ m ≡ c ++ n → b ≡ c
+too_large_only : (i : Profile) (b c m n : List ℕ) → IsTooLarge i b → IsTooLarge i c → b ++ m ≡ c ++ n → b ≡ c
 too_large_only i b c m n p q e =
     elim (le_or (length p.front) (length q.front)) [
       | inl below ↦ elim (le_or (length q.front) (length p.front)) [
@@ -161,7 +161,7 @@ too_large_only i b c m n p q e =
           absurd (too_large_last c p.front m n p.last q (sym e ∙ joined p.front m b p.last p.bytes) longer p.few p.fits)
     ]
 
-unsigned_only : (i : Ignore) (b c m n : List ℕ) (x y : Result ℕ ValueFault) → IsUnsigned i b x → IsUnsigned i c y
+unsigned_only : (i : Profile) (b c m n : List ℕ) (x y : Result ℕ ValueFault) → IsUnsigned i b x → IsUnsigned i c y
     → b ++ m ≡ c ++ n → (b ≡ c) × (x ≡ y)
 unsigned_only i b c m n (Ok x) (Ok y) p q e =
     let h = fronts p.front q.front m n b c p.last q.last p.bytes q.bytes e in
@@ -179,11 +179,11 @@ most_of true h = absurd (let e : false ≡ true = h in cc)
 most_of false h = refl
 
 -- without padding an integer has at most ten bytes
-pub most_plain : (i : Ignore) → not i.padding ≡ true → most_bytes i ≡ 10
-most_plain i h = most_of i.padding h
+pub most_plain : (i : Profile) → not i.ignore.padding ≡ true → most_bytes i ≡ 10
+most_plain i h = most_of i.ignore.padding h
 
-pub few_bytes : (i : Ignore) → (10 ≤ most_bytes i) × (most_bytes i ≤ 256)
-few_bytes i = most_within i.padding
+pub few_bytes : (i : Profile) → (10 ≤ most_bytes i) × (most_bytes i ≤ 256)
+few_bytes i = most_within i.ignore.padding
 
 bytes_grow : (less more : Bool) → (less ≡ true → more ≡ true)
     → (if less then 256 else 10) ≤ (if more then 256 else 10)
@@ -192,10 +192,10 @@ bytes_grow true false h = absurd (let e : false ≡ true = h refl in cc)
 bytes_grow false true h = omega arith
 bytes_grow false false h = omega arith
 
-unsigned_grows : (less more : Ignore) → IsSubsetOf less more → (b : List ℕ) (n : ℕ) → IsInteger less b n
+unsigned_grows : (less more : Profile) → IsWider less more → (b : List ℕ) (n : ℕ) → IsInteger less b n
     → IsInteger more b n
 unsigned_grows less more within b n p =
-    let wide : most_bytes less ≤ most_bytes more = bytes_grow less.padding more.padding within.padding in
+    let wide : most_bytes less ≤ most_bytes more = bytes_grow less.ignore.padding more.ignore.padding within.ignore.padding in
     record {
       front = p.front;
       last = p.last;
@@ -214,7 +214,7 @@ power_fits k v h lt =
     omega (arith, most)
 
 -- bytes that continue, of which there are few and whose number fits, begin an integer: a zero byte ends it
-pub continues_begun : (i : Ignore) (xs : List ℕ) → Continues xs → length xs < most_bytes i → groups xs < 2 ^ 64
+pub continues_begun : (i : Profile) (xs : List ℕ) → Continues xs → length xs < most_bytes i → groups xs < 2 ^ 64
     → IsBegun (IsUnsigned i) xs
 continues_begun i xs c few fits =
     let g = groups_snoc xs 0 in
@@ -235,7 +235,7 @@ continues_begun i xs c few fits =
       };
     }
 
-unsigned_said : (i : Ignore) → CanSay (IsUnsigned i)
+unsigned_said : (i : Profile) → CanSay (IsUnsigned i)
 unsigned_said i =
     record {
       bytes = 0 ∷ [];
@@ -316,7 +316,7 @@ more_continues xs i h c b =
     subst Continues (sym (take_more xs i 0 h)) one
 
 -- an integer ends with the byte at index n
-pub whole_front : (i : Ignore) (xs : List ℕ) (n v : ℕ) → n < length xs → n < most_bytes i → Continues (take n xs)
+pub whole_front : (i : Profile) (xs : List ℕ) (n v : ℕ) → n < length xs → n < most_bytes i → Continues (take n xs)
     → v ≡ groups (take (n + 1) xs) → v < 2 ^ 64 → get_or xs n 0 < 128 → FirstBytesSay (IsUnsigned i) xs (n + 1) (Ok v)
 whole_front i xs n v h few c e fits ends =
     let l : length (take n xs) ≡ n = omega (arith, length-take {A = ℕ}) in
@@ -338,7 +338,7 @@ whole_front i xs n v h few c e fits ends =
     }
 
 -- the byte at index n shows that no integer begins with the bytes
-pub too_large_front : (i : Ignore) (xs : List ℕ) (n : ℕ) → n < length xs → n < most_bytes i → Continues (take n xs)
+pub too_large_front : (i : Profile) (xs : List ℕ) (n : ℕ) → n < length xs → n < most_bytes i → Continues (take n xs)
     → groups (take n xs) < 2 ^ 64
     → ((2 ^ 64 ≤ groups (take (n + 1) xs)) ⊎ ((128 ≤ get_or xs n 0) × (n + 1 ≡ most_bytes i)))
     → FirstBytesSay (IsUnsigned i) xs (n + 1) (Err IntegerTooLarge)

@@ -1,28 +1,31 @@
 -- Repetitions: the laws of each spelling; lattices in range.
-use Rattle.std.proofs.Common.{◌≡◌, ℕ, suc, inl, inr, Bool, true, false, List, [], ◌∷◌, Ok, IsSome, IfSome, ◌↔◌, All}
-use Rattle.std.proofs.Common.{refl, ap, ◌∙◌, arith}
-use Rattle.std.specs.Prelude.{Option, Some, None}
+use Rattle.std.proofs.Common.{◌≡◌, ℕ, suc, inl, inr, Bool, true, false, List, [], ◌∷◌, IsSome, IfSome, ◌↔◌, All}
+use Rattle.std.proofs.Common.{refl, ap, ◌∙◌, ◌+◌, ◌*◌, arith, if◌then◌else◌}
+use Rattle.std.specs.Prelude.{Option, Some, None, nat_le}
 use Rattle.std.specs.List.{list_all}
 use Rattle.std.proofs.lemmas.List.Elements.{All-cons, All-nil}
 use Rattle.std.proofs.lemmas.Bool.{cases_Bool, and_parts}
+use Rattle.std.proofs.Common.{leb-true, leb-false}
+use Rattle.lvl_profile.specs.Limits.{AreWithin}
+use Rattle.lvl_profile.specs.declared.limits.Limits.{Limits}
 use Rattle.lvl_grid.specs.declared.point.Point.{Point}
 use Rattle.lvl_grid.specs.Turn.{FitsPoint}
 use Rattle.lvl_names.specs.Shifts.{lattice, IsLattice, StartsAtZero}
-use Rattle.oasis_values.specs.Deltas.{IsGDelta}
-use Rattle.oasis_values.specs.Known.{among, Known, Seen}
+use Rattle.oasis_values.specs.Known.{among, Allowed, Known, Seen}
 use Rattle.oasis_values.specs.Numbers.{IsUnsigned}
 use Rattle.oasis_values.specs.PointLists.{origin}
 use Rattle.oasis_values.specs.Ranges.{is_in_range, is_point_in_range}
-use Rattle.oasis_values.specs.Repetitions.{kinds, line_size, matrix_size, list_size, moved, space, widened, IsSpace}
+use Rattle.oasis_values.specs.Repetitions.{kinds, place_limit, line_size, matrix_size, list_size, moved, space, widened, IsSpace}
 use Rattle.oasis_values.specs.Repetitions.{IsShift, lattice_in_range, modal, IsLineOf, IsLine, IsColumns, IsMatrixOf}
 use Rattle.oasis_values.specs.Repetitions.{IsMatrix, IsGrid, AreShifts, IsSpreadOf, IsSpread, IsKind, IsRepetition}
 use Rattle.oasis_values.specs.inside.Sizes.{IsFew}
 use Rattle.oasis_values.specs.Spelling.{Then}
-use Rattle.oasis_values.proofs.Codes.{IsCode, gives_code, then_code, chain_code, known_code, seen_code}
+use Rattle.oasis_values.proofs.Codes.{IsCode, gives_code, then_code, chain_code, known_code, allowed_code, seen_code}
 use Rattle.oasis_values.proofs.Integers.{unsigned_code}
 use Rattle.oasis_values.proofs.Ranges.{range_true, range_fits}
 use Rattle.oasis_values.proofs.Values.{g_delta_code}
-use Rattle.oasis_values.specs.declared.fault.ValueFault.TheVariants.{RepetitionType, RepetitionSize, OutOfRange}
+use Rattle.oasis_values.specs.declared.fault.ValueFault.TheVariants.{RepetitionType, RepetitionSize, ListSize}
+use Rattle.oasis_values.specs.declared.fault.ValueFault.TheVariants.{OutOfRange}
 use Rattle.oasis_values.specs.declared.fault.ValueFault.TheVariants.{NoModal}
 use Rattle.oasis_values.specs.declared.repetition.Kind.{Kind}
 use Rattle.oasis_values.specs.declared.repetition.Kind.TheVariants.{Modal, Matrix, Line, List as Listed}
@@ -88,8 +91,29 @@ placed_code g o = seen_code g (known_code o OutOfRange)
 pub line_of_code : (s : Spacing) (n : ℕ) → IsCode (IsLineOf s n)
 line_of_code s n = then_code (shift_code s 1 origin) (λ a. placed_code New (lattice_in_range a n origin 1))
 
-pub after_line_size_code : (s : Spacing) (d : ℕ) → IsCode (Then (Known (line_size d) RepetitionSize) (IsLineOf s))
-after_line_size_code s d = then_code (known_code (line_size d) RepetitionSize) (line_of_code s)
+-- wider limits allow as many places
+few_grow : {A : Type 0} (x : A) (n : ℕ) (less more : Limits) → AreWithin less more → (y : A)
+    → (if nat_le n (place_limit less) then Some x else None) ≡ Some y
+    → (if nat_le n (place_limit more) then Some x else None) ≡ Some y
+few_grow x n less more within y = go (nat_le n (place_limit less)) (nat_le n (place_limit more)) refl refl
+  where
+    go : (a b : Bool) → nat_le n (place_limit less) ≡ a → nat_le n (place_limit more) ≡ b
+        → (if a then Some x else None) ≡ Some y → (if b then Some x else None) ≡ Some y
+    go true true p q e = e
+    go true false p q e = absurd (omega (arith, leb-true n _ p, leb-false n _ q, within.placed))
+    go false b p q e = (let z : None ≡ Some y = e in cc)
+
+line_grows : (d : ℕ) (less more : Limits) → AreWithin less more → (n : ℕ) → line_size less d ≡ Some n
+    → line_size more d ≡ Some n
+line_grows d less more within n = few_grow (d + 2) (d + 2) less more within n
+
+matrix_grows : (d e : ℕ) (less more : Limits) → AreWithin less more → (z : Size) → matrix_size less d e ≡ Some z
+    → matrix_size more d e ≡ Some z
+matrix_grows d e less more within z =
+    few_grow (record { columns = d + 2; rows = e + 2 }) ((d + 2) * (e + 2)) less more within z
+
+pub after_line_size_code : (s : Spacing) (d : ℕ) → IsCode (Then (Allowed (λ limits. line_size limits d) RepetitionSize) (IsLineOf s))
+after_line_size_code s d = then_code (allowed_code (λ limits. line_size limits d) RepetitionSize (line_grows d)) (line_of_code s)
 
 line_code : (s : Spacing) → IsCode (IsLine s)
 line_code s = then_code unsigned_code (after_line_size_code s)
@@ -106,11 +130,12 @@ pub matrix_of_code : (s t : Spacing) (z : Size) → IsCode (IsMatrixOf s t z)
 matrix_of_code s t z = then_code (columns_code s z.columns) (after_across_code t z)
 
 pub after_rows_code : (s t : Spacing) (d e : ℕ)
-    → IsCode (Then (Known (matrix_size d e) RepetitionSize) (IsMatrixOf s t))
-after_rows_code s t d e = then_code (known_code (matrix_size d e) RepetitionSize) (matrix_of_code s t)
+    → IsCode (Then (Allowed (λ limits. matrix_size limits d e) RepetitionSize) (IsMatrixOf s t))
+after_rows_code s t d e =
+    then_code (allowed_code (λ limits. matrix_size limits d e) RepetitionSize (matrix_grows d e)) (matrix_of_code s t)
 
 pub after_columns_code : (s t : Spacing) (d : ℕ)
-    → IsCode (Then IsUnsigned (λ e. Then (Known (matrix_size d e) RepetitionSize) (IsMatrixOf s t)))
+    → IsCode (Then IsUnsigned (λ e. Then (Allowed (λ limits. matrix_size limits d e) RepetitionSize) (IsMatrixOf s t)))
 after_columns_code s t d = then_code unsigned_code (after_rows_code s t d)
 
 matrix_code : (s t : Spacing) → IsCode (IsMatrix s t)
@@ -127,8 +152,8 @@ pub spread_of_code : (s : Spacing) (b : Bool) (n : ℕ) → IsCode (IsSpreadOf s
 spread_of_code s b n = then_code (grid_code b) (shifts_code s n)
 
 pub after_list_size_code : (s : Spacing) (b : Bool) (d : ℕ)
-    → IsCode (Then (Known (list_size d) RepetitionSize) (IsSpreadOf s b))
-after_list_size_code s b d = then_code (known_code (list_size d) RepetitionSize) (spread_of_code s b)
+    → IsCode (Then (Known (list_size d) ListSize) (IsSpreadOf s b))
+after_list_size_code s b d = then_code (known_code (list_size d) ListSize) (spread_of_code s b)
 
 spread_code : (s : Spacing) (b : Bool) → IsCode (IsSpread s b)
 spread_code s b = then_code unsigned_code (after_list_size_code s b)

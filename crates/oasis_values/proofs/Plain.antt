@@ -1,8 +1,8 @@
 -- Without padding an integer is too large exactly if its tenth byte is above 1.
 use Rattle.std.proofs.Common.{◌≡◌, ◌↔◌, ℕ, ◌+◌, ◌*◌, ◌%◌, ◌^◌, ◌<◌, ◌≤◌, ◌⊎◌, inl, inr, List, [], ◌∷◌, ◌++◌, length}
-use Rattle.std.proofs.Common.{refl, sym, ap, ◌∙◌, subst, arith, length-append, mul-le-mul_left}
+use Rattle.std.proofs.Common.{ap, ◌∙◌, subst, arith, length-append}
 use Rattle.std.proofs.Math.Nat.{pow-le-pow_right}
-use Rattle.lvl_profile.specs.Ignored.{nothing}
+use Rattle.lvl_profile.specs.Profiles.{strict}
 use Rattle.oasis_values.specs.Numbers.{groups, Continues, IsTooLarge}
 use Rattle.oasis_values.proofs.Integers.{groups_lt, groups_snoc, le_or}
 
@@ -29,7 +29,7 @@ few_fit b few =
     let most : 128 ^ length b ≤ 128 ^ 9 = pow-le-pow_right {n = 128} (omega arith) {i = length b} {j = 9} few in
     omega (arith, groups_lt b, most)
 
-large_nine : (b : List ℕ) (p : IsTooLarge nothing b) → length p.front ≡ 9
+large_nine : (b : List ℕ) (p : IsTooLarge strict b) → length p.front ≡ 9
 large_nine b p =
     let size = ap length p.bytes in
     let whole = length-append p.front (p.last ∷ []) in
@@ -41,7 +41,7 @@ large_nine b p =
       | inr full ↦ omega (arith, full.1, size, whole)
     ]
 
-large_above : (b : List ℕ) (p : IsTooLarge nothing b) → 1 < p.last
+large_above : (b : List ℕ) (p : IsTooLarge strict b) → 1 < p.last
 large_above b p = elim p.decided [
   | inl large ↦ elim (le_or p.last 1) [
     | inl low ↦
@@ -67,7 +67,7 @@ above_decided b front x e nine above = elim (le_or 2 (x % 128)) [
 ]
 
 -- if nothing is ignored, an integer is too large exactly if its tenth byte is above 1
-pub plain_too_large : (b : List ℕ) → IsTooLarge nothing b ↔ IsTenthAbove b
+pub plain_too_large : (b : List ℕ) → IsTooLarge strict b ↔ IsTenthAbove b
 plain_too_large b = (
   (λ p. record {
     front = p.front;

@@ -10,13 +10,14 @@ use Rattle.lvl_io.specs.Spelling.{FirstBytesSay, IsBegun, CanSay, Then as ThenAl
 use Rattle.lvl_io.proofs.Spelling.{then_begun, then_goes_on, then_both, then_breached, breached_none}
 use Rattle.lvl_refusal.specs.declared.Cause.{Cause}
 use Rattle.lvl_refusal.specs.declared.Cause.TheVariants.{Breach, OutOfMemory}
-use Rattle.lvl_profile.specs.declared.ignore.Ignore.{Ignore}
+use Rattle.lvl_profile.specs.declared.profile.Profile.{Profile}
 use Rattle.oasis_values.specs.Faults.{is_rule, is_read_fault, reader_failed}
-use Rattle.oasis_values.specs.Input.{input_offset, has_failed, input_ignore, input_reader, room_left}
+use Rattle.oasis_values.specs.Input.{input_offset, has_failed, input_profile, input_reader, room_left}
 use Rattle.std.specs.Io.KnownBytes.{prepend_known}
-use Rattle.oasis_values.specs.Known.{Seen}
+use Rattle.oasis_values.specs.Known.{Allowed, Known, Seen}
 use Rattle.oasis_values.specs.inside.Stopped.{HasStopped}
 use Rattle.oasis_values.specs.Reads.{Fails, Answers, bytes_had, Reads, Refutes}
+use Rattle.lvl_profile.specs.declared.limits.Limits.{Limits}
 use Rattle.oasis_values.specs.Spelling.{Spelling, Gives, Then}
 use Rattle.oasis_values.proofs.Codes.{IsCode, gives_code}
 use Rattle.oasis_values.specs.declared.fault.ValueFault.{ValueFault}
@@ -124,10 +125,10 @@ err_as B (Ok x) = Err OutOfMemory
 -- a call that fails ends the whole
 pub reads_fault : {R A B : Type 0} {remaining : R → Option (List ℕ)} {errors : R → ℕ} {lent : R → List GName}
     {S : Spelling A} (T : A → Spelling B) {old new : Input R} {e : Cause ValueFault}
-    → ((x : A) (i : Ignore) → CanSay (T x i)) → Reads remaining errors lent S old new (Err e)
+    → ((x : A) (i : Profile) → CanSay (T x i)) → Reads remaining errors lent S old new (Err e)
     → Reads remaining errors lent (Then S T) old new (Err e)
 reads_fault {A = A} {B = B} {S = S} T {old = old} {new = new} {e = Breach f} can p =
-    let i = input_ignore old in
+    let i = input_profile old in
     record {
       again = λ h. ap (err_as B) (p.again h);
       fresh = λ h k. p.fresh h (ap (err_as A) k);
@@ -135,7 +136,7 @@ reads_fault {A = A} {B = B} {S = S} T {old = old} {new = new} {e = Breach f} can
           (λ x. can x i) (p.answers h xs k);
       left = p.left;
       forward = p.forward;
-      ignores = p.ignores;
+      profiles = p.profiles;
       failed = p.failed;
       counted = p.counted;
       same = p.same;
@@ -147,7 +148,7 @@ reads_fault {A = A} {B = B} {S = S} T {old = old} {e = OutOfMemory} can p =
       answers = λ h xs k. tt;
       left = p.left;
       forward = p.forward;
-      ignores = p.ignores;
+      profiles = p.profiles;
       failed = p.failed;
       counted = p.counted;
       same = p.same;
@@ -173,19 +174,20 @@ pub reads_then : {R A B : Type 0} {remaining : R → Option (List ℕ)} {errors 
     → Reads remaining errors lent S old mid (Ok x) → Reads remaining errors lent (T x) mid new r
     → Reads remaining errors lent (Then S T) old new r
 reads_then {errors = errors} {S = S} T {old = old} {mid = mid} {new = new} {x = x} {r = r} p q =
-    let i = input_ignore old in
+    let i = input_profile old in
     let n = input_offset mid - input_offset old in
     let m = input_offset new - input_offset mid in
     let later = bytes_had mid new in
     let all : n + m ≡ input_offset new - input_offset old = omega (arith, p.forward, q.forward) in
     let had : n + later ≡ bytes_had old new = omega (arith, p.forward, q.forward) in
-    let room : room_left mid ≡ room_left old - n = omega (arith, p.forward) in
+    let room : room_left mid ≡ room_left old - n =
+    ap (λ (i : Profile). i.limits.file - input_offset mid) p.profiles ∙ omega (arith, p.forward) in
     record {
       again = λ h. absurd (let k = p.again h in cc);
       fresh = λ h. q.fresh p.failed;
       answers = λ h xs k.
           let a = p.answers h xs k in
-          let b = subst (λ g. Answers (T x g) (room_left mid) later m (drop n xs) r) p.ignores
+          let b = subst (λ g. Answers (T x g) (room_left mid) later m (drop n xs) r) p.profiles
           (q.answers p.failed (drop n xs) (p.left xs k)) in
           let both = answers_second (S i) (λ y. T y i) (room_left old) n later m xs x r a.0 a.1
           (subst (λ j. Answers (T x i) j later m (drop n xs) r) room b) in
@@ -194,7 +196,7 @@ reads_then {errors = errors} {S = S} T {old = old} {mid = mid} {new = new} {x = 
       left = λ xs k. q.left (drop n xs) (p.left xs k)
           ∙ ap Some (drop-drop m n xs ∙ ap (λ i. drop i xs) (omega (arith, all)));
       forward = omega (arith, p.forward, q.forward);
-      ignores = q.ignores ∙ p.ignores;
+      profiles = q.profiles ∙ p.profiles;
       failed = q.failed;
       counted = subst (λ i. CountsFailure i (errors (input_reader new)) (reader_failed r)) p.counted q.counted;
       same = q.same ∙ p.same;
@@ -202,6 +204,24 @@ reads_then {errors = errors} {S = S} T {old = old} {mid = mid} {new = new} {x = 
 
 drop_none : (xs : List ℕ) (n m : ℕ) → n ≡ m → xs ≡ drop (n - m) xs
 drop_none xs n m e = ap (λ i. drop i xs) (let z : 0 ≡ n - m = omega arith in z)
+
+-- a value that the limits of the input allow
+pub reads_allowed : {R A : Type 0} {remaining : R → Option (List ℕ)} {errors : R → ℕ} {lent : R → List GName}
+    {old new : Input R} {r : Result A (Cause ValueFault)} (g : Limits → Option A) (f : ValueFault)
+    → Reads remaining errors lent (Known (g (input_profile old).limits) f) old new r
+    → Reads remaining errors lent (Allowed g f) old new r
+reads_allowed g f p =
+    record {
+      again = p.again;
+      fresh = p.fresh;
+      answers = p.answers;
+      left = p.left;
+      forward = p.forward;
+      profiles = p.profiles;
+      failed = p.failed;
+      counted = p.counted;
+      same = p.same;
+    }
 
 -- nothing is read
 pub reads_nothing : {R A : Type 0} {remaining : R → Option (List ℕ)} {errors : R → ℕ} {lent : R → List GName}
@@ -218,7 +238,7 @@ reads_nothing {old = old} x live =
       );
       left = λ xs k. k ∙ ap Some (drop_none xs (input_offset old) (input_offset old) refl);
       forward = omega arith;
-      ignores = refl;
+      profiles = refl;
       failed = live;
       counted = refl;
       same = refl;
@@ -262,7 +282,7 @@ reads_stopped {remaining = remaining} {errors = errors} {lent = lent} {old = old
           ∙ ap (λ r. prepend_known now.ahead (remaining r)) stop.reader ∙ p.left xs k
           ∙ ap (λ i. Some (drop (i - input_offset old) xs)) (sym stop.offset);
       forward = omega (arith, p.forward, stop.offset);
-      ignores = stop.ignore ∙ p.ignores;
+      profiles = stop.profile ∙ p.profiles;
       failed = stop.failed;
       counted = subst (λ r. CountsFailure (errors (input_reader old)) (errors r) false) (sym stop.reader) p.counted;
       same = ap lent stop.reader ∙ p.same;
@@ -272,10 +292,10 @@ reads_stopped {remaining = remaining} {errors = errors} {lent = lent} {old = old
 pub reads_refused : {R A : Type 0} {remaining : R → Option (List ℕ)} {errors : R → ℕ} {lent : R → List GName}
     {old new : Input R} (f : ValueFault)
     → has_failed old ≡ false → has_failed new ≡ true → is_rule f ≡ true → new.ahead ≡ old.ahead
-    → new.offset ≡ old.offset → new.ignore ≡ old.ignore → new.reader ≡ old.reader
+    → new.offset ≡ old.offset → new.profile ≡ old.profile → new.reader ≡ old.reader
     → Reads {A = A} remaining errors lent (Gives (Err f)) old new (Err (Breach f))
 reads_refused {remaining = remaining} {errors = errors} {lent = lent} {old = old} {new = new}
-    f live failed rule ahead offset ignore reader =
+    f live failed rule ahead offset profile reader =
     let none : 0 ≡ input_offset new - input_offset old = omega (arith, offset) in
     record {
       again = λ h. absurd (let k : true ≡ false = sym h ∙ live in cc);
@@ -295,7 +315,7 @@ reads_refused {remaining = remaining} {errors = errors} {lent = lent} {old = old
       left = λ xs k. ap (λ l. prepend_known l (remaining new.reader)) ahead
           ∙ ap (λ r. prepend_known old.ahead (remaining r)) reader ∙ k ∙ ap (λ i. Some (drop i xs)) none;
       forward = omega (arith, offset);
-      ignores = ignore;
+      profiles = profile;
       failed = failed;
       counted = subst (λ b. CountsFailure (errors old.reader) (errors new.reader) b) (rule_read f rule)
           (ap errors reader);
@@ -325,5 +345,5 @@ reads_refutes {r = Err OutOfMemory} code p = record { none = λ live xs k. tt }
 reads_refutes {S = S} {old = old} {r = Err (Breach f)} code p =
     record {
       none = λ live xs k rule x. let q = (p.answers live xs k).breached rule in
-          breached_none (S (input_ignore old)) xs q.count f x (code.free (input_ignore old)) q.front;
+          breached_none (S (input_profile old)) xs q.count f x (code.free (input_profile old)) q.front;
     }

@@ -1,7 +1,7 @@
 -- The laws of each spelling of a value.
-use Rattle.std.proofs.Common.{ℕ, ◌/◌, ◌%◌, ◌==◌, Bool, true, false, Ok}
+use Rattle.std.proofs.Common.{ℕ, ◌/◌, ◌%◌, ◌==◌, Bool, true, false}
 use Rattle.oasis_values.specs.Known.{Known, among}
-use Rattle.oasis_values.specs.Deltas.{direction_of, toward, free, two_delta, three_delta, IsTwoDelta, IsThreeDelta}
+use Rattle.oasis_values.specs.Deltas.{free, two_delta, three_delta, IsTwoDelta, IsThreeDelta}
 use Rattle.oasis_values.specs.Deltas.{IsRestOfGDelta, IsGDelta}
 use Rattle.oasis_values.specs.Texts.{character, text_length, any_length, IsCharacter, AreCharacters, IsString}
 use Rattle.oasis_values.specs.Texts.{AreUnkeptCharacters, IsUnkeptString}

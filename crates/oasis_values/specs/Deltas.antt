@@ -1,11 +1,10 @@
 -- Deltas (SEMI P39 OASIS 1.0, "Deltas"). A 1-delta is a signed integer.
-use Rattle.std.specs.Prelude.{ℕ, ◌/◌, ◌%◌, ◌==◌, Bool, true, false, List, [], ◌∷◌, Result, Ok, pos, neg_ℤ, ℤ}
+use Rattle.std.specs.Prelude.{ℕ, ◌/◌, ◌%◌, ◌==◌, Bool, true, false, [], ◌∷◌, Ok, pos, neg_ℤ, ℤ}
 use Rattle.lvl_grid.specs.declared.point.Point.{Point}
 use Rattle.oasis_values.specs.Known.{one_of, Seen}
 use Rattle.oasis_values.specs.Numbers.{IsUnsigned}
 use Rattle.oasis_values.specs.Reals.{with_sign}
 use Rattle.oasis_values.specs.Spelling.{Spelling, Gives, Then}
-use Rattle.oasis_values.specs.declared.fault.ValueFault.{ValueFault}
 use Rattle.oasis_values.specs.declared.delta.Direction.{Direction}
 use Rattle.oasis_values.specs.declared.delta.Direction.TheVariants.{East, North, West, South, Northeast, Northwest}
 use Rattle.oasis_values.specs.declared.delta.Direction.TheVariants.{Southwest, Southeast}

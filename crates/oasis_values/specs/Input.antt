@@ -1,12 +1,8 @@
 -- The parts of an `Input`, for contracts.
 use Rattle.std.specs.Prelude.{ℕ, ◌-◌, Bool, List, length, Option}
 use Rattle.std.specs.Io.KnownBytes.{prepend_known}
-use Rattle.lvl_profile.specs.declared.ignore.Ignore.{Ignore}
+use Rattle.lvl_profile.specs.declared.profile.Profile.{Profile}
 use Rattle.oasis_values.specs.declared.input.Input.{Input}
-
--- how long a file may be, in bytes (own rule)
-abbrev pub file_limit : ℕ
-file_limit = 4294967295
 
 -- the bytes still to come, if they are known; `remaining` gives those that the reader has left
 abbrev pub bytes_left : {R : Type 0} → (R → Option (List ℕ)) → Input R → Option (List ℕ)
@@ -24,9 +20,9 @@ input_offset i = i.offset
 abbrev pub has_failed : {R : Type 0} → Input R → Bool
 has_failed i = i.failed
 
--- what is ignored
-abbrev pub input_ignore : {R : Type 0} → Input R → Ignore
-input_ignore i = i.ignore
+-- what the file may be
+abbrev pub input_profile : {R : Type 0} → Input R → Profile
+input_profile i = i.profile
 
 -- the reader
 abbrev pub input_reader : {R : Type 0} → Input R → R
@@ -34,4 +30,4 @@ input_reader i = i.reader
 
 -- how many bytes may still be taken within the limit
 abbrev pub room_left : {R : Type 0} → Input R → ℕ
-room_left i = file_limit - i.offset
+room_left i = i.profile.limits.file - i.offset

@@ -1,5 +1,6 @@
 -- Tables of numbers, and spellings by what follows from a value that was read (own notation).
-use Rattle.std.specs.Prelude.{ℕ, ◌+◌, ◌==◌, if◌then◌else◌, List, [], ◌∷◌, Option, Some, None, Result, Ok, Err}
+use Rattle.std.specs.Prelude.{ℕ, ◌+◌, ◌==◌, if◌then◌else◌, List, [], ◌∷◌, Option, Some, None, Ok, Err}
+use Rattle.lvl_profile.specs.declared.limits.Limits.{Limits}
 use Rattle.oasis_values.specs.Spelling.{Spelling, Gives, Then}
 use Rattle.oasis_values.specs.declared.fault.ValueFault.{ValueFault}
 
@@ -17,6 +18,11 @@ one_of n (x ∷ xs) d k = if k == n then x else one_of (n + 1) xs d k
 abbrev pub Known : {A : Type 0} → Option A → ValueFault → Spelling A
 Known (Some x) f = Gives (Ok x)
 Known None f = Gives (Err f)
+
+-- no further byte is read: the value that g gives within the limits is given if there is one, else the rule f is
+-- breached
+abbrev pub Allowed : {A : Type 0} → (Limits → Option A) → ValueFault → Spelling A
+Allowed g f profile = Known (g profile.limits) f profile
 
 -- g of what the bytes say
 abbrev pub Seen : {A B : Type 0} → (A → B) → Spelling A → Spelling B

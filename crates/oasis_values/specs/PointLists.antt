@@ -1,7 +1,7 @@
 -- Point lists (SEMI P39 OASIS 1.0, "Point-list"). Own rules: the limits of the count, and that each vertex, and each
 -- step of a list of double deltas, fits in 64 signed bits.
 use Rattle.std.specs.Prelude.{ℕ, ◌%◌, ◌==◌, ◌&&◌, ◌||◌, not, nat_le, Bool, true, false, if◌then◌else◌, List, []}
-use Rattle.std.specs.Prelude.{◌∷◌, ◌++◌, Option, Some, None, option_map, Result, pos, ℤ}
+use Rattle.std.specs.Prelude.{◌∷◌, ◌++◌, Option, Some, None, option_map, pos, ℤ}
 use Rattle.lvl_grid.specs.declared.point.Point.{Point}
 use Rattle.oasis_values.specs.Deltas.{to, IsTwoDelta, IsThreeDelta, IsGDelta}
 use Rattle.oasis_values.specs.Known.{among, Known, Seen}
@@ -9,7 +9,6 @@ use Rattle.oasis_values.specs.Numbers.{IsUnsigned}
 use Rattle.oasis_values.specs.Ranges.{sum}
 use Rattle.oasis_values.specs.Reals.{IsSigned}
 use Rattle.oasis_values.specs.Spelling.{Spelling, Then, Chain}
-use Rattle.oasis_values.specs.declared.fault.ValueFault.{ValueFault}
 use Rattle.oasis_values.specs.declared.fault.ValueFault.TheVariants.{PointListType, PointCount, OutOfRange}
 use Rattle.oasis_values.specs.declared.point_list.ListType.{ListType}
 use Rattle.oasis_values.specs.declared.point_list.ListType.TheVariants.{HorizontalFirst, VerticalFirst, Manhattan}

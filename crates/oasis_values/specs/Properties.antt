@@ -1,5 +1,5 @@
 -- Values of properties (SEMI P39 OASIS 1.0, "PROPERTY record"), which are read but not kept.
-use Rattle.std.specs.Prelude.{ℕ, List, [], ◌∷◌, ◌++◌, map}
+use Rattle.std.specs.Prelude.{List, [], ◌∷◌, ◌++◌, map}
 use Rattle.oasis_values.specs.Known.{among, Known, Unkept}
 use Rattle.oasis_values.specs.Numbers.{IsUnsigned}
 use Rattle.oasis_values.specs.Reals.{real_types, IsRealOf, IsSigned}

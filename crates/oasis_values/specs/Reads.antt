@@ -1,6 +1,6 @@
 -- What a call of an `Input` returns, and the state in which it leaves the input. Each call is an instance, by the
--- spelling S of its value: bytes say `Ok x` if they spell x, and `Err f` if they breach the rule f. The input says what
--- is ignored.
+-- spelling S of its value: bytes say `Ok x` if they spell x, and `Err f` if they breach the rule f. The input has the
+-- profile.
 use Rattle.std.specs.Prelude.{◌≡◌, ◌≢◌, ℕ, ◌+◌, ◌-◌, ◌<◌, ◌≤◌, true, false, List, length, take, drop}
 use Rattle.std.specs.Prelude.{Option, Some, Result, Ok, Err}
 use Rattle.std.specs.Result.{is_err}
@@ -10,7 +10,7 @@ use Rattle.lvl_io.specs.Spelling.{FirstBytesSay, IsBegun, NoneAgrees}
 use Rattle.lvl_refusal.specs.declared.Cause.{Cause}
 use Rattle.lvl_refusal.specs.declared.Cause.TheVariants.{Breach, OutOfMemory}
 use Rattle.oasis_values.specs.Faults.{is_rule, reader_failed}
-use Rattle.oasis_values.specs.Input.{bytes_left, in_hand, input_offset, has_failed, input_ignore, input_reader}
+use Rattle.oasis_values.specs.Input.{bytes_left, in_hand, input_offset, has_failed, input_profile, input_reader}
 use Rattle.oasis_values.specs.Input.{room_left}
 use Rattle.oasis_values.specs.Spelling.{Spelling}
 use Rattle.oasis_values.specs.declared.fault.ValueFault.{ValueFault}
@@ -59,13 +59,13 @@ pub record Reads {R A : Type 0} (remaining : R → Option (List ℕ)) (errors : 
   pub fresh : has_failed old ≡ false → r ≢ Err (Breach Failed)
   -- exactly the bytes taken spell the value; a fault is true of the bytes left, and of those that were read
   pub answers : has_failed old ≡ false → (xs : List ℕ) → bytes_left remaining old ≡ Some xs
-      → Answers (S (input_ignore old)) (room_left old) (bytes_had old new) (input_offset new - input_offset old) xs r
+      → Answers (S (input_profile old)) (room_left old) (bytes_had old new) (input_offset new - input_offset old) xs r
   -- the bytes left are those after the bytes taken, even after a fault
   pub left : (xs : List ℕ) → bytes_left remaining old ≡ Some xs
       → bytes_left remaining new ≡ Some (drop (input_offset new - input_offset old) xs)
   pub forward : input_offset old ≤ input_offset new
-  -- what is ignored stays the same
-  pub ignores : input_ignore new ≡ input_ignore old
+  -- the profile stays the same
+  pub profiles : input_profile new ≡ input_profile old
   -- later calls fail exactly if this one returned a fault or was out of memory
   pub failed : has_failed new ≡ is_err r
   -- the reader returned an error during this call exactly if the call reports `Read`
@@ -84,4 +84,4 @@ IsRefuted {A = A} S xs (Err (Breach f)) = is_rule f ≡ true → (x : A) → Non
 pub record Refutes {R A : Type 0} (remaining : R → Option (List ℕ)) (S : Spelling A) (old : Input R)
     (r : Result A (Cause ValueFault)) : Type 0 where
   pub none : has_failed old ≡ false → (xs : List ℕ) → bytes_left remaining old ≡ Some xs
-      → IsRefuted (S (input_ignore old)) xs r
+      → IsRefuted (S (input_profile old)) xs r

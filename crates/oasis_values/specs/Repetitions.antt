@@ -1,18 +1,19 @@
 -- Repetitions (SEMI P39 OASIS 1.0, "Repetition"). Own rules: the greatest numbers of places of a lattice and of a list,
 -- and that each shift fits in 64 signed bits.
-use Rattle.std.specs.Prelude.{ℕ, ◌+◌, ◌*◌, nat_le, Bool, true, false, if◌then◌else◌, List, [], ◌∷◌, Option}
-use Rattle.std.specs.Prelude.{Some, None, Result, Ok, pos, ℤ, ◌+ℤ◌, ◌*ℤ◌}
+use Rattle.std.specs.Prelude.{ℕ, ◌+◌, ◌*◌, nat_le, min, Bool, true, false, if◌then◌else◌, List, [], ◌∷◌, Option}
+use Rattle.std.specs.Prelude.{Some, None, Ok, pos, ℤ, ◌+ℤ◌, ◌*ℤ◌}
 use Rattle.std.specs.List.{list_all}
 use Rattle.lvl_grid.specs.declared.point.Point.{Point}
 use Rattle.lvl_names.specs.Shifts.{lattice, most_places}
+use Rattle.lvl_profile.specs.declared.limits.Limits.{Limits}
 use Rattle.oasis_values.specs.Deltas.{to, IsGDelta}
-use Rattle.oasis_values.specs.Known.{among, Known, Seen}
+use Rattle.oasis_values.specs.Known.{among, Allowed, Known, Seen}
 use Rattle.oasis_values.specs.Numbers.{IsUnsigned}
 use Rattle.oasis_values.specs.PointLists.{origin}
 use Rattle.oasis_values.specs.Ranges.{in_range, is_in_range, is_point_in_range}
 use Rattle.oasis_values.specs.Spelling.{Spelling, Gives, Then, Chain}
-use Rattle.oasis_values.specs.declared.fault.ValueFault.{ValueFault}
-use Rattle.oasis_values.specs.declared.fault.ValueFault.TheVariants.{RepetitionType, RepetitionSize, OutOfRange}
+use Rattle.oasis_values.specs.declared.fault.ValueFault.TheVariants.{RepetitionType, RepetitionSize, ListSize}
+use Rattle.oasis_values.specs.declared.fault.ValueFault.TheVariants.{OutOfRange}
 use Rattle.oasis_values.specs.declared.fault.ValueFault.TheVariants.{NoModal}
 use Rattle.oasis_values.specs.declared.shift.Far.{Far}
 use Rattle.oasis_values.specs.declared.repetition.Kind.{Kind}
@@ -41,14 +42,18 @@ kinds =
     ∷ Listed Free true
     ∷ []
 
+-- the greatest number of places of a lattice (own rule)
+abbrev pub place_limit : Limits → ℕ
+place_limit limits = min limits.placed most_places
+
 -- n + 2 places along a step, for the dimension n; None if there are too many
-abbrev pub line_size : ℕ → Option ℕ
-line_size n = if nat_le (n + 2) most_places then Some (n + 2) else None
+abbrev pub line_size : Limits → ℕ → Option ℕ
+line_size limits n = if nat_le (n + 2) (place_limit limits) then Some (n + 2) else None
 
 -- n + 2 by m + 2 places along two steps; None if there are too many
-abbrev pub matrix_size : ℕ → ℕ → Option Size
-matrix_size n m =
-    if nat_le ((n + 2) * (m + 2)) most_places then Some (record { columns = n + 2; rows = m + 2 }) else None
+abbrev pub matrix_size : Limits → ℕ → ℕ → Option Size
+matrix_size limits n m =
+    if nat_le ((n + 2) * (m + 2)) (place_limit limits) then Some (record { columns = n + 2; rows = m + 2 }) else None
 
 -- the greatest number of places of a list (own rule)
 abbrev pub most_listed : ℕ
@@ -112,7 +117,7 @@ IsLineOf spacing n = Then (IsShift spacing 1 origin) (λ a. Seen New (Known (lat
 
 -- a dimension, and places along one step
 abbrev pub IsLine : Spacing → Spelling Repetition
-IsLine spacing = Then IsUnsigned (λ d. Then (Known (line_size d) RepetitionSize) (IsLineOf spacing))
+IsLine spacing = Then IsUnsigned (λ d. Then (Allowed (λ limits. line_size limits d) RepetitionSize) (IsLineOf spacing))
 
 -- the first of two steps, whose n places must be in range
 abbrev pub IsColumns : Spacing → ℕ → Spelling Point
@@ -129,7 +134,7 @@ IsMatrixOf first second s =
 abbrev pub IsMatrix : Spacing → Spacing → Spelling Repetition
 IsMatrix first second =
     Then IsUnsigned
-    (λ d. Then IsUnsigned (λ e. Then (Known (matrix_size d e) RepetitionSize) (IsMatrixOf first second)))
+    (λ d. Then IsUnsigned (λ e. Then (Allowed (λ limits. matrix_size limits d e) RepetitionSize) (IsMatrixOf first second)))
 
 -- the grid by which spaces are multiplied; 1 if there is none
 abbrev pub IsGrid : Bool → Spelling ℕ
@@ -146,7 +151,7 @@ IsSpreadOf spacing gridded n = Then (IsGrid gridded) (AreShifts spacing n)
 
 -- a dimension, and places at successive spaces
 abbrev pub IsSpread : Spacing → Bool → Spelling Repetition
-IsSpread spacing gridded = Then IsUnsigned (λ d. Then (Known (list_size d) RepetitionSize) (IsSpreadOf spacing gridded))
+IsSpread spacing gridded = Then IsUnsigned (λ d. Then (Known (list_size d) ListSize) (IsSpreadOf spacing gridded))
 
 -- the repetition after its type
 abbrev pub IsKind : Bool → Kind → Spelling Repetition

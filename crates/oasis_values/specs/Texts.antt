@@ -1,10 +1,9 @@
 -- Strings (SEMI P39 OASIS 1.0, "Strings"): a length and that many bytes, each allowed by the string's kind. Own rule:
 -- the greatest length.
-use Rattle.std.specs.Prelude.{ℕ, ◌&&◌, nat_le, Bool, true, if◌then◌else◌, List, Option, Some, None, Result}
+use Rattle.std.specs.Prelude.{ℕ, ◌&&◌, nat_le, Bool, true, if◌then◌else◌, List, Option, Some, None}
 use Rattle.oasis_values.specs.Known.{Known, Unkept}
 use Rattle.oasis_values.specs.Numbers.{IsByte, IsUnsigned}
 use Rattle.oasis_values.specs.Spelling.{Spelling, Then, Chain}
-use Rattle.oasis_values.specs.declared.fault.ValueFault.{ValueFault}
 use Rattle.oasis_values.specs.declared.fault.ValueFault.TheVariants.{StringByte}
 use Rattle.oasis_values.specs.declared.text.Text.{Text}
 use Rattle.oasis_values.specs.declared.text.Text.TheVariants.{A, B, N}

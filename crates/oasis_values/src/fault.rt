@@ -34,13 +34,16 @@ pub enum ValueFault {
     /// The type of a repetition is over 11.
     #[error("a repetition has an unknown type")]
     RepetitionType,
-    /// A repetition has too many places (own rule).
+    /// A repetition that is a lattice has more places than the limits allow (own rule).
     #[error("a repetition has too many places")]
     RepetitionSize,
+    /// A repetition that lists its places has too many of them, within any limits (own rule).
+    #[error("a repetition lists too many places")]
+    ListSize,
     /// A vertex, a step or a shift doesn't fit in 64 signed bits (own rule).
     #[error("a coordinate is outside 64 bits")]
     OutOfRange,
-    /// The input is longer than 4,294,967,295 bytes, the limit of a file (own rule).
+    /// The input is longer than a file may be (own rule).
     #[error("the input is too long")]
     TooLong,
     /// The reader returned an error during this call.

@@ -11,7 +11,7 @@ ghost use Rattle.oasis_values.specs.inside.Leading.{IsStop, Stops, Finds};
 use crate::fault::ValueFault;
 use crate::integer::{Leading, scan_integer};
 use lvl_io::{Buffer, Missing, Read};
-use lvl_profile::Ignore;
+use lvl_profile::Profile;
 
 /// What was found, and how many bytes it takes.
 #[derive(Clone, Copy)]
@@ -76,13 +76,12 @@ pub(crate) fn find_integer<R: Read>(
     reader: &mut R,
     ahead: &mut Buffer<4096>,
     room: u64,
-    ignore: Ignore,
+    profile: Profile,
 ) -> Result<Found<u64>, ValueFault>
-    requires { room < 2 ^ 32 }
     ensures bytes { Stays (prepend_known ahead.old (R.remaining reader.old))
         (prepend_known ahead.new (R.remaining reader.new)) }
     ensures had { IfOk result (λ found. (found.len ≤ length ahead.new) × (found.len ≤ room)) }
-    ensures finds { Finds (IsUnsigned ignore) room (length ahead.new)
+    ensures finds { Finds (IsUnsigned profile) room (length ahead.new)
         (prepend_known ahead.old (R.remaining reader.old)) result }
     ensures errors { CountsFailure (R.read_errors reader.old) (R.read_errors reader.new)
         (reader_failed (as_breach result)) }
@@ -91,7 +90,7 @@ pub(crate) fn find_integer<R: Read>(
     'integer: loop {
         let hand = ahead.ahead();
         let most = hand.len().min(room as usize);
-        match scan_integer(ignore, &hand[..most]) {
+        match scan_integer(profile, &hand[..most]) {
             Leading::Whole(value, len) => return Ok(Found { value, len }),
             Leading::TooLarge(_) => return Err(ValueFault::IntegerTooLarge),
             Leading::Unfinished => want_more(reader, ahead, room, most)?,

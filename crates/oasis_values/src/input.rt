@@ -3,8 +3,8 @@ ghost use Rattle.std.specs.Prelude.{◌≡◌, ◌-◌, ◌≤◌, false, true, 
 
 use crate::fault::ValueFault;
 use crate::find::{find_byte, find_integer};
-use lvl_io::{Buffer, FILE_LIMIT, Read};
-use lvl_profile::Ignore;
+use lvl_io::{Buffer, Read};
+use lvl_profile::Profile;
 
 /// Reads values from a reader, one at a time. It reads from the reader only when it needs a byte and has
 /// none ahead.
@@ -13,33 +13,33 @@ pub struct Input<R> {
     reader: R,
     ahead: Buffer<4096>,
     offset: u64,
-    ignore: Ignore,
+    profile: Profile,
     failed: bool,
-    ghost within: { offset ≤ 4294967295 },
+    ghost within: { offset ≤ profile.limits.file },
 }
 
 impl<R: Read> Input<R> {
-    ghost use Rattle.oasis_values.specs.Input.{bytes_left, input_offset, has_failed, input_ignore, input_reader};
+    ghost use Rattle.oasis_values.specs.Input.{bytes_left, input_offset, has_failed, input_profile, input_reader};
     ghost use Rattle.oasis_values.specs.Reads.{Reads, Refutes};
     ghost use Rattle.oasis_values.specs.Faults.{as_breach, is_rule};
     ghost use Rattle.oasis_values.specs.Numbers.{IsByte, IsUnsigned};
     ghost use Rattle.oasis_values.specs.Known.{Known};
     ghost use Rattle.oasis_values.specs.inside.Stopped.{HasStopped};
 
-    /// The values in the bytes that the reader gives from now on, if `ignore` is ignored. It doesn't
-    /// allocate.
-    pub fn new(reader: R, ignore: Ignore) -> Input<R>
+    /// The values in the bytes that the reader gives from now on, as a file that is what the profile
+    /// allows. It doesn't allocate.
+    pub fn new(reader: R, profile: Profile) -> Input<R>
         ensures reader { input_reader result ≡ reader }
         ensures bytes { bytes_left R.remaining result ≡ R.remaining reader }
         ensures offset { input_offset result ≡ 0 }
-        ensures ignore { input_ignore result ≡ ignore }
+        ensures profile { input_profile result ≡ profile }
         ensures failed { has_failed result ≡ false }
     {
         Input {
             reader,
             ahead: Buffer::new(),
             offset: 0,
-            ignore,
+            profile,
             failed: false,
         }
     }
@@ -51,11 +51,11 @@ impl<R: Read> Input<R> {
         self.offset
     }
 
-    /// What is ignored.
-    pub fn ignore(&self) -> Ignore
-        ensures { result ≡ input_ignore self.now }
+    /// What the file may be.
+    pub fn profile(&self) -> Profile
+        ensures { result ≡ input_profile self.now }
     {
-        self.ignore
+        self.profile
     }
 
     /// The reader. Bytes that were read ahead are lost.
@@ -66,7 +66,7 @@ impl<R: Read> Input<R> {
             reader,
             ahead,
             offset: _,
-            ignore: _,
+            profile: _,
             failed: _,
         } = self;
         drop(ahead);
@@ -82,7 +82,7 @@ impl<R: Read> Input<R> {
         if self.failed {
             return Err(ValueFault::Failed);
         }
-        match find_byte(&mut self.reader, &mut self.ahead, FILE_LIMIT - self.offset) {
+        match find_byte(&mut self.reader, &mut self.ahead, self.profile.limits.file - self.offset) {
             Ok(found) => {
                 self.ahead.skip(found.len);
                 self.offset += found.len as u64;
@@ -110,8 +110,8 @@ impl<R: Read> Input<R> {
         match find_integer(
             &mut self.reader,
             &mut self.ahead,
-            FILE_LIMIT - self.offset,
-            self.ignore,
+            self.profile.limits.file - self.offset,
+            self.profile,
         ) {
             Ok(found) => {
                 self.ahead.skip(found.len);

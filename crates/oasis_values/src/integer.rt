@@ -4,7 +4,7 @@ ghost use Rattle.std.specs.Prelude.{◌≡◌, ◌<◌, ◌≤◌, length, take,
 ghost use Rattle.oasis_values.specs.Numbers.{groups, most_bytes, Continues};
 ghost use Rattle.oasis_values.specs.inside.Leading.{Leads};
 
-use lvl_profile::Ignore;
+use lvl_profile::Profile;
 
 /// The greatest number of bytes of an unsigned integer (own rule): a number below 2^64 needs no
 /// more.
@@ -31,15 +31,15 @@ pub enum Leading {
 }
 
 // What the bytes begin with.
-pub(crate) fn scan_integer(ignore: Ignore, bytes: &[u8]) -> Leading
-    ensures { Leads ignore result bytes.now }
+pub(crate) fn scan_integer(profile: Profile, bytes: &[u8]) -> Leading
+    ensures { Leads profile result bytes.now }
 {
     let mut value = 0_u64;
     let mut unit = 1_u64;
     for (at, byte) in bytes.iter().enumerate() {
         let digit = u64::from(*byte % CONTINUES);
         if at + 1 == MOST_BYTES && *byte > 1 {
-            return scan_long(ignore, bytes, value);
+            return scan_long(profile, bytes, value);
         }
         value += unit * digit;
         if *byte < CONTINUES {
@@ -52,30 +52,30 @@ pub(crate) fn scan_integer(ignore: Ignore, bytes: &[u8]) -> Leading
 
 // The same, if nine bytes that continue make `value` and the tenth isn't 0 or 1: with padding it may still
 // be an integer.
-fn scan_long(ignore: Ignore, bytes: &[u8], value: u64) -> Leading
+fn scan_long(profile: Profile, bytes: &[u8], value: u64) -> Leading
     requires long { 9 < length bytes.now }
     requires continues { Continues (take 9 bytes.now) }
     requires value { value ≡ groups (take 9 bytes.now) }
     requires above { 1 < get_or bytes.now 9 0 }
-    ensures { Leads ignore result bytes.now }
+    ensures { Leads profile result bytes.now }
 {
     let digit = bytes[MOST_BYTES - 1] % CONTINUES;
     if digit > 1 {
         return Leading::TooLarge(MOST_BYTES);
     }
-    if !ignore.padding {
+    if !profile.ignore.padding {
         return Leading::TooLarge(MOST_BYTES);
     }
-    scan_padding(ignore, bytes, value + HIGHEST_UNIT * u64::from(digit))
+    scan_padding(profile, bytes, value + HIGHEST_UNIT * u64::from(digit))
 }
 
 // The same, if ten bytes that continue make `value`: only zero groups may follow.
-fn scan_padding(ignore: Ignore, bytes: &[u8], value: u64) -> Leading
-    requires padded { most_bytes ignore ≡ 256 }
+fn scan_padding(profile: Profile, bytes: &[u8], value: u64) -> Leading
+    requires padded { most_bytes profile ≡ 256 }
     requires long { 10 ≤ length bytes.now }
     requires continues { Continues (take 10 bytes.now) }
     requires value { value ≡ groups (take 10 bytes.now) }
-    ensures { Leads ignore result bytes.now }
+    ensures { Leads profile result bytes.now }
 {
     for at in MOST_BYTES..bytes.len() {
         let byte = bytes[at];

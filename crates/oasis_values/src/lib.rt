@@ -5,11 +5,11 @@
 //! have padding. The crates above make records of the values.
 //!
 //! ```
-//! use lvl_profile::Ignore;
+//! use lvl_profile::Profile;
 //! use lvl_io::fake::Pieces;
 //! use oasis_values::Input;
 //!
-//! let mut input = Input::new(Pieces::new(b"\xE8\x07\x0B", usize::MAX), Ignore::NOTHING);
+//! let mut input = Input::new(Pieces::new(b"\xE8\x07\x0B", usize::MAX), Profile::STANDARD);
 //! assert_eq!(rt; input.unsigned(), Ok(1000));
 //! assert_eq!(rt; input.signed(), Ok(-5));
 //! assert_eq!(rt; input.offset(), 3);

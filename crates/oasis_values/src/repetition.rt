@@ -1,7 +1,7 @@
 //! Repetitions: the shifts at which a shape or a placement is repeated, as a lattice or as a list.
 ghost use Rattle.std.specs.Prelude.{◌≡◌, ◌<◌, ◌≤◌, ◌^◌, false, IfOk, IfSome, vec_len, vec_capacity};
 ghost use Rattle.oasis_values.specs.Known.{among};
-ghost use Rattle.oasis_values.specs.Repetitions.{kinds, line_size, matrix_size, list_size, modal};
+ghost use Rattle.oasis_values.specs.Repetitions.{kinds, place_limit, line_size, matrix_size, list_size, modal};
 ghost use Rattle.oasis_values.specs.Repetitions.{lattice_in_range};
 ghost use Rattle.lvl_names.specs.Shifts.{StartsAtZero};
 ghost use Rattle.oasis_values.specs.inside.Sizes.{IsFew, IsSmall};
@@ -12,6 +12,7 @@ use crate::shift::Spacing;
 use lvl_grid::Point;
 use lvl_io::Read;
 use lvl_names::Offsets;
+use lvl_profile::Limits;
 use lvl_refusal::Cause;
 use std::alloc::{AllocError, Global};
 
@@ -46,8 +47,8 @@ pub struct Size {
 
 const ORIGIN: Point = Point { x: 0, y: 0 };
 
-/// The greatest number of places of a lattice (own rule).
-const MOST_PLACES: u64 = 16_777_216;
+/// The greatest number of places of a lattice within any limits, 2^60 (own rule).
+const MOST_PLACES: u64 = 1 << 60;
 
 /// The greatest number of places of a list (own rule).
 const MOST_LISTED: u64 = 1_048_576;
@@ -73,23 +74,33 @@ fn kind_of(number: u64) -> Option<Kind>
     }
 }
 
-// The number of places along a step, `dimension + 2`; `None` if there are too many.
-fn line_size(dimension: u64) -> Option<u64>
-    ensures { result ≡ line_size dimension }
+// The greatest number of places of a lattice.
+fn place_limit(limits: Limits) -> u64
+    ensures { result ≡ place_limit limits }
 {
-    if dimension > MOST_PLACES - 2 {
+    limits.placed.min(MOST_PLACES)
+}
+
+// The number of places along a step, `dimension + 2`; `None` if there are too many.
+fn line_size(limits: Limits, dimension: u64) -> Option<u64>
+    ensures value { result ≡ line_size limits dimension }
+    ensures few { IfSome result (λ n. n ≤ 1152921504606846976) }
+{
+    let places = dimension.checked_add(2)?;
+    if places > place_limit(limits) {
         return None;
     }
-    Some(dimension + 2)
+    Some(places)
 }
 
 // The same along two steps.
-fn matrix_size(columns: u64, rows: u64) -> Option<Size>
-    ensures { result ≡ matrix_size columns rows }
+fn matrix_size(limits: Limits, columns: u64, rows: u64) -> Option<Size>
+    ensures value { result ≡ matrix_size limits columns rows }
+    ensures small { IfSome result IsSmall }
 {
-    let columns = line_size(columns)?;
-    let rows = line_size(rows)?;
-    if columns * rows > MOST_PLACES {
+    let columns = line_size(limits, columns)?;
+    let rows = line_size(limits, rows)?;
+    if columns.checked_mul(rows)? > place_limit(limits) {
         return None;
     }
     Some(Size { columns, rows })
@@ -179,14 +190,14 @@ impl<R: Read> Input<R> {
         ensures reads { Reads R.remaining R.read_errors R.lent (IsLine spacing) self.old self.new result }
     {
         let number = self.unsigned()?;
-        let count = self.known(line_size(number), ValueFault::RepetitionSize)?;
+        let count = self.known(line_size(self.profile().limits, number), ValueFault::RepetitionSize)?;
         self.line_of(spacing, count)
     }
 
     // `count` places along one step.
     fn line_of(&mut self, spacing: Spacing, count: u64) -> Result<Repetition, Cause<ValueFault>>
         requires some { 0 < count }
-        requires few { count ≤ 16777216 }
+        requires few { count ≤ 1152921504606846976 }
         ensures reads { Reads R.remaining R.read_errors R.lent (IsLineOf spacing count) self.old self.new result }
     {
         let step = self.shift(spacing, 1, ORIGIN)?;
@@ -200,7 +211,8 @@ impl<R: Read> Input<R> {
     {
         let columns = self.unsigned()?;
         let rows = self.unsigned()?;
-        let size = self.known(matrix_size(columns, rows), ValueFault::RepetitionSize)?;
+        let size = matrix_size(self.profile().limits, columns, rows);
+        let size = self.known(size, ValueFault::RepetitionSize)?;
         self.matrix_of(first, second, size)
     }
 
@@ -224,7 +236,7 @@ impl<R: Read> Input<R> {
     // The first of two steps, whose `count` places must be in range.
     fn columns(&mut self, spacing: Spacing, count: u64) -> Result<Point, ValueFault>
         requires some { 0 < count }
-        requires few { count ≤ 16777216 }
+        requires few { count ≤ 1152921504606846976 }
         ensures reads { Reads R.remaining R.read_errors R.lent
             (IsColumns spacing count) self.old self.new (as_breach result) }
     {
@@ -244,7 +256,7 @@ impl<R: Read> Input<R> {
         ensures reads { Reads R.remaining R.read_errors R.lent (IsSpread spacing gridded) self.old self.new result }
     {
         let number = self.unsigned()?;
-        let count = self.known(list_size(number), ValueFault::RepetitionSize)?;
+        let count = self.known(list_size(number), ValueFault::ListSize)?;
         self.spread_of(alloc, spacing, gridded, count)
     }
 

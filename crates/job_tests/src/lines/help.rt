@@ -34,6 +34,7 @@ Options:
       --map <PAIRS>      Layers of the second layout, as those of the first: 1/0=2/0,3/1=3/0
       --window <RANGES>  The only squares to be compared, in grid steps: x=0..100,y=-50..50
       --ignore <WORDS>   Records to read and ignore: properties, texts, names, padding or all, joined by commas
+      --large            Takes the limits for whole chips
   -h, --help             Print help
 ";
 
@@ -48,6 +49,7 @@ Arguments:
 Options:
       --top <NAME>      The layout's top cell
       --ignore <WORDS>  Records to read and ignore: properties, texts, names, padding or all, joined by commas
+      --large           Takes the limits for whole chips
   -h, --help            Print help
 ";
 
@@ -62,6 +64,7 @@ Arguments:
 Options:
       --top <NAME>      The layout's top cell
       --ignore <WORDS>  Records to read and ignore: properties, texts, names, padding or all, joined by commas
+      --large           Takes the limits for whole chips
   -h, --help            Print help
 ";
 

@@ -39,7 +39,7 @@ abbrev pub IsPairAnswered : {S : Type 0} → (S → List ℕ → Option (Option 
     → Named → Named → S → S → Option (List ℕ) → Option (List ℕ) → Outcome → Type 0
 IsPairAnswered opens view a b old new from to outcome =
     OfTwo opens old new a b
-    (λ x y. IsWritten (IsComparedUnder view x y) text_of (IsOutcomeOf a.ignore) from to outcome)
+    (λ x y. IsWritten (IsComparedUnder view x y) text_of (IsOutcomeOf a.profile) from to outcome)
 
 -- why a comparison under a view has no answer
 abbrev pub IsPairFault : {S : Type 0} → (S → List ℕ → Option (Option (List ℕ)) → S → Type 0) → Option PlainView

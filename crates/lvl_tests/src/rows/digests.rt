@@ -5,7 +5,7 @@ use super::show::lines;
 use super::words::{cut, file};
 use super::{Answer, sink, status_of};
 use lvl_io::fake::Pieces;
-use lvl_profile::Ignore;
+use lvl_profile::Profile;
 use lvl_report::{Status, run_digest};
 use std::alloc::{AllocError, Global};
 use std::process::Abort;
@@ -69,7 +69,7 @@ fn digested(
 ) -> Result<Answer, AllocError> {
     let mut out = sink(alloc, most)?;
     let mut file = Pieces::new(file, most);
-    let ran = run_digest(alloc, &mut file, top, Ignore::NOTHING, &mut out);
+    let ran = run_digest(alloc, &mut file, top, Profile::STANDARD, &mut out);
     Ok((out.taken, status_of(ran)))
 }
 

@@ -4,7 +4,7 @@ use super::compared::exchanged;
 use super::words::{SQUARE, cut, file};
 use super::{Answer, is_answer, no_tops, sink, status_of};
 use lvl_io::fake::Pieces;
-use lvl_profile::Ignore;
+use lvl_profile::{Ignore, Profile};
 use lvl_report::{Status, run_by, run_digest, run_show_by};
 use std::alloc::{AllocError, Global};
 use std::process::Abort;
@@ -47,6 +47,14 @@ all | oasis 22 00 00 00 | oasis 24 Unsupported 34 at 39
 const MASK: &[u8] =
     b"\nmask sha256 c5483bbfa6d27cf601d87a9d6e74b9350c2dcde72a70bab5f8615769e8fc5728\n";
 
+/// The standard profile, with this ignored.
+fn under(ignore: Ignore) -> Profile {
+    Profile {
+        ignore,
+        ..Profile::STANDARD
+    }
+}
+
 /// What a row says is ignored.
 fn ignored(alloc: Global, text: &str) -> Result<Ignore, Fail> {
     if text == "-" {
@@ -63,19 +71,19 @@ fn compared(
 ) -> Result<Answer, AllocError> {
     let mut out = sink(alloc, 100)?;
     let (mut first, mut second) = (Pieces::new(first, 7), Pieces::new(second, 50));
-    let ran = run_by(alloc, &mut first, &mut second, &no_tops(), ignore, &mut out);
+    let ran = run_by(alloc, &mut first, &mut second, &no_tops(), under(ignore), &mut out);
     Ok((out.taken, status_of(ran)))
 }
 
 fn shown(alloc: Global, file: &[u8], ignore: Ignore) -> Result<Answer, AllocError> {
     let mut out = sink(alloc, 100)?;
-    let ran = run_show_by(alloc, &mut Pieces::new(file, 7), None, ignore, &mut out);
+    let ran = run_show_by(alloc, &mut Pieces::new(file, 7), None, under(ignore), &mut out);
     Ok((out.taken, status_of(ran)))
 }
 
 fn digested(alloc: Global, file: &[u8], ignore: Ignore) -> Result<Answer, AllocError> {
     let mut out = sink(alloc, 100)?;
-    let ran = run_digest(alloc, &mut Pieces::new(file, 7), None, ignore, &mut out);
+    let ran = run_digest(alloc, &mut Pieces::new(file, 7), None, under(ignore), &mut out);
     Ok((out.taken, status_of(ran)))
 }
 

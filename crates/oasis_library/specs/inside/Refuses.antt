@@ -2,7 +2,7 @@
 use Rattle.std.specs.Prelude.{ℕ, List, Option}
 use Rattle.lvl_refusal.specs.declared.Cause.{Cause}
 use Rattle.lvl_refusal.specs.declared.Cause.TheVariants.{Breach, OutOfMemory}
-use Rattle.lvl_profile.specs.declared.ignore.Ignore.{Ignore}
+use Rattle.lvl_profile.specs.declared.profile.Profile.{Profile}
 use Rattle.oasis_stream.specs.declared.fault.OasisKind.{OasisKind}
 use Rattle.oasis_stream.specs.inside.Refuses.{RefusesAt}
 use Rattle.oasis_library.specs.Ends.{ReportsUnresolved}
@@ -10,9 +10,9 @@ use Rattle.oasis_library.specs.declared.fault.OasisFault.{OasisFault}
 use Rattle.oasis_library.specs.declared.fault.OasisFault.TheVariants.{At, Unresolved}
 
 -- the fault and its offset are right, if the reader has these bytes left
-abbrev pub Refuses : Ignore → List ℕ → Option (List ℕ) → OasisFault → Type 0
-Refuses ignore xs left (At at k) = RefusesAt ignore xs left at k
-Refuses ignore xs left (Unresolved n) = ReportsUnresolved ignore xs n
+abbrev pub Refuses : Profile → List ℕ → Option (List ℕ) → OasisFault → Type 0
+Refuses profile xs left (At at k) = RefusesAt profile xs left at k
+Refuses profile xs left (Unresolved n) = ReportsUnresolved profile xs n
 
 -- the same refusal, with an offset
 abbrev pub refused_at : ℕ → Cause OasisKind → Cause OasisFault

@@ -1,6 +1,6 @@
 -- How integers and bytes are found among the bytes in hand.
 use Rattle.std.specs.Prelude.{◌≡◌, ◌≢◌, ℕ, ◌^◌, ◌<◌, List, length, Option, Some, Result, Ok, Err}
-use Rattle.lvl_profile.specs.declared.ignore.Ignore.{Ignore}
+use Rattle.lvl_profile.specs.declared.profile.Profile.{Profile}
 use Rattle.lvl_io.specs.Spelling.{FirstBytesSay}
 use Rattle.oasis_values.specs.Numbers.{groups, Continues, most_bytes, IsUnsigned}
 use Rattle.oasis_values.specs.Reads.{Fails}
@@ -11,10 +11,10 @@ use Rattle.oasis_values.specs.declared.integer.Leading.{Leading}
 use Rattle.oasis_values.specs.declared.integer.Leading.TheVariants.{Whole, TooLarge, Unfinished}
 
 -- what the bytes begin with
-abbrev pub Leads : Ignore → Leading → List ℕ → Type 0
-Leads ignore (Whole value len) xs = FirstBytesSay (IsUnsigned ignore) xs len (Ok value)
-Leads ignore (TooLarge len) xs = FirstBytesSay (IsUnsigned ignore) xs len (Err IntegerTooLarge)
-Leads ignore Unfinished xs = Continues xs × (length xs < most_bytes ignore) × (groups xs < 2 ^ 64)
+abbrev pub Leads : Profile → Leading → List ℕ → Type 0
+Leads profile (Whole value len) xs = FirstBytesSay (IsUnsigned profile) xs len (Ok value)
+Leads profile (TooLarge len) xs = FirstBytesSay (IsUnsigned profile) xs len (Err IntegerTooLarge)
+Leads profile Unfinished xs = Continues xs × (length xs < most_bytes profile) × (groups xs < 2 ^ 64)
 
 -- the faults that are possible when another byte is needed
 abbrev pub IsStop : ValueFault → Type 0

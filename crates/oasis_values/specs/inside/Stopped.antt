@@ -7,5 +7,5 @@ pub record HasStopped {R : Type 0} (old new : Input R) : Type 0 where
   pub failed : new.failed ≡ true
   pub ahead : new.ahead ≡ old.ahead
   pub offset : new.offset ≡ old.offset
-  pub ignore : new.ignore ≡ old.ignore
+  pub profile : new.profile ≡ old.profile
   pub reader : new.reader ≡ old.reader

@@ -17,7 +17,7 @@ unwrap-shifts-requires c =
     let a = c.in_ok-across.ensures.value in
     let b = c.in_ok-up.ensures.value in
     let l = array_lattice o p q m n c.point_at-origin.ensures.narrow c.point_at.ensures.narrow
-    c.point_at-2.ensures.narrow a.1 b.1 c.args.counts.some_columns c.args.counts.some_rows c.args.counts.few in
+    c.point_at-2.ensures.narrow a.1 b.1 c.args.counts.some_columns c.args.counts.some_rows c.args.counts.few_columns c.args.counts.few_rows in
     c.lattice.ensures.some.1 (subst (λ (i : Point). IsLattice i m c.in_ok-up.up n) (sym a.0)
     (subst (λ (i : Point). IsLattice (step o p m) m i n) (sym b.0) l))
 
@@ -31,7 +31,7 @@ unwrap-requires c =
     let a = c.in_ok-across.ensures.value in
     let b = c.in_ok-up.ensures.value in
     let all = array_places o p q m n c.point_at-origin.ensures.narrow c.point_at.ensures.narrow
-    c.point_at-2.ensures.narrow a.1 b.1 c.args.counts.some_columns c.args.counts.some_rows c.args.counts.few in
+    c.point_at-2.ensures.narrow a.1 b.1 c.args.counts.some_columns c.args.counts.some_rows c.args.counts.few_columns c.args.counts.few_rows in
     let same : c.unwrap-shifts.result ≡ lattice c.in_ok-across.across m c.in_ok-up.up n =
     subst (λ (i : Option (List Point)). IfSome i (λ s. s ≡ lattice c.in_ok-across.across m c.in_ok-up.up n))
     c.unwrap-shifts.ensures c.lattice.ensures.same in

@@ -4,8 +4,9 @@ use Rattle.lvl_grammar.specs.inside.ReadTo.{ReadTo}
 use Rattle.lvl_grammar.proofs.Reading.{reads_begin}
 use Rattle.std.proofs.Common.{ℕ, List, ◌<◌, ◌⊎◌}
 use Rattle.lvl_refusal.specs.Refused.{Says}
-use Rattle.gds_records.specs.Records.{file_limit, room_left, records_offset, bytes_left, bytes_in_hand}
-use Rattle.gds_records.specs.Records.{records_ignore}
+use Rattle.gds_records.specs.Records.{room_left, records_offset, bytes_left, bytes_in_hand}
+use Rattle.gds_records.specs.Records.{records_ignore, records_profile}
+use Rattle.lvl_profile.specs.declared.profile.Profile.{Profile}
 use Rattle.gds_elements.specs.Rec.{Rec}
 use Rattle.gds_library.specs.Ignoring.{BreachesBy, BreachesOnlyBy, MayFollowBy}
 use Rattle.gds_records.specs.Step.{step}
@@ -27,17 +28,17 @@ pub loop-init : goal.loop-init
 loop-init g c = (
   c.requires.fresh,
   λ z. (let y : Header ≡ Fill = sym c.requires.stage ∙ z in cc),
-  λ xs k. subst (λ i. ReadTo (gds c.args.ignore) xs i (HasReadBy c.args.ignore c.args.reading.now)
+  λ xs k. subst (λ i. ReadTo (gds c.args.profile) xs i (HasReadBy c.args.profile c.args.reading.now)
       (bytes_left g.R.Read.remaining c.args.records.now))
-      (sym c.requires.start) (reads_begin (gds c.args.ignore) xs
-      (HasReadBy c.args.ignore c.args.reading.now) _ k c.requires.none),
+      (sym c.requires.start) (reads_begin (gds c.args.profile) xs
+      (HasReadBy c.args.profile c.args.reading.now) _ k c.requires.none),
   omega arith,
   refl,
   refl,
   [],
   c.requires.none,
   c.requires.reading,
-  c.requires.ignore,
+  c.requires.profile,
 )
 
 pub returns-in-Err-Breach-clause-refused : goal.returns-in-Err-Breach-clause-refused
@@ -46,16 +47,16 @@ returns-in-Err-Breach-clause-refused g c = λ xs k.
     let at = records_offset c.loop.records in
     let new = c.next.follows.lender-at-none in
     let is : c.next.result ≡ Ok (Some c.in-Ok-Some.record) = c.in-Ok-Some.is ∙ ap Ok c.in-Ok-Some.field-0-is in
-    let sp = subst (λ i. IsSpelledAt i (room_left c.loop.records) (drop at xs) c.in-Ok-Some.record.kind
+    let sp = subst (λ (i : Profile). IsSpelledAt i.ignore (i.limits.file - at) (drop at xs) c.in-Ok-Some.record.kind
     c.in-Ok-Some.record.payload.now) c.loop.invariant.9
     (next_said (λ (r : Answered). IsSpelledAt (records_ignore c.loop.records) (room_left c.loop.records) (drop at xs)
     r.kind r.payload.now) c.next.result c.in-Ok-Some.record is
     (c.next.ensures.spelled c.loop.invariant.0 (drop at xs) to.left_is)) in
     let p = next_took g.R.Read.remaining g.R.Read.read_errors g.R.Read.lent c.loop.records new c.next.result
     c.in-Ok-Some.record is c.next.follows.holds-at-none in
-    refuses_by c.args.ignore xs _ _ _ at c.in-Err-Breach.kind (rw c.in-Err-Breach.field-0-is at c.refuse.ensures)
+    refuses_by c.args.profile xs _ _ _ at c.in-Err-Breach.kind (rw c.in-Err-Breach.field-0-is at c.refuse.ensures)
     c.offset-offset.ensures
-    (reads_refused c.args.ignore xs at c.loop.reading _ _ _ _
+    (reads_refused c.args.profile xs at c.loop.reading _ _ _ _
     (bytes_in_hand new) c.in-Err-Breach.kind to c.loop.invariant.1 sp
     (λ d. rw c.in-Err-Breach.field-0-is at
     ((subst (λ i. (rs : List Rec) (d : ℕ) → HasReadBy i c.loop.reading rs → Says c.in-Err-Breach.field-0
@@ -66,7 +67,7 @@ returns-in-Err-Breach-clause-refused g c = λ xs k.
 
 pub returns-in-Err-Breach-clause-reads : goal.returns-in-Err-Breach-clause-reads
 returns-in-Err-Breach-clause-reads g c =
-    let breach : BreachesBy c.args.ignore c.loop.invariant.6
+    let breach : BreachesBy c.args.profile c.loop.invariant.6
     (record_of c.in-Ok-Some.record.kind 0 c.in-Ok-Some.record.payload.now)
     c.in-Err-Breach.kind =
     (rw c.in-Err-Breach.field-0-is at
@@ -80,7 +81,7 @@ returns-in-Err-Breach-clause-reads g c =
     rw (
       c.refuse.ensures,
       c.in-Err-Breach.field-0-is,
-      breach_no_read c.args.ignore c.loop.invariant.6
+      breach_no_read c.args.profile c.loop.invariant.6
           (record_of c.in-Ok-Some.record.kind 0 c.in-Ok-Some.record.payload.now) c.in-Err-Breach.kind breach,
     )
     (p.counted ∙ c.loop.invariant.4)
@@ -92,8 +93,8 @@ returns-in-Ok-None-clause-refused g c = λ xs k.
     let is : c.next.result ≡ Ok None = c.in-Ok-None.is ∙ ap Ok c.in-Ok-None.field-0-is in
     let none : drop at xs ≡ [] = next_ended (drop at xs ≡ []) c.next.result is
     (c.next.ensures.ended c.loop.invariant.0 (drop at xs) to.left_is) in
-    refuses_by c.args.ignore xs _ _ _ at (Record Truncated) c.refuse-in-Ok-None.ensures c.offset-offset.ensures
-    (reads_cut c.args.ignore xs at c.loop.reading _ to c.loop.invariant.1 (inl (omega (arith, ap length none))))
+    refuses_by c.args.profile xs _ _ _ at (Record Truncated) c.refuse-in-Ok-None.ensures c.offset-offset.ensures
+    (reads_cut c.args.profile xs at c.loop.reading _ to c.loop.invariant.1 (inl (omega (arith, ap length none))))
 
 pub returns-in-Err-Fault-clause-refused : goal.returns-in-Err-Fault-clause-refused
 returns-in-Err-Fault-clause-refused g c = λ xs k.
@@ -105,17 +106,19 @@ returns-in-Err-Fault-clause-refused g c = λ xs k.
     let p = next_stopped g.R.Read.remaining g.R.Read.read_errors g.R.Read.lent c.loop.records new c.next.result
     (Fault f) is c.next.follows.holds-at-none in
     let seen = next_seen c.loop.records new c.next.result f is c.next.follows.holds-at-none.1 in
-    let same = p.ignore ∙ c.loop.invariant.9 in
-    let room : room_left new ≡ file_limit - at = ap (λ i. file_limit - i) (p.offset ∙ add-zero at) in
-    refuses_by c.args.ignore xs _ _ _ at (Record f) (rw c.in-Err-Fault.field-0-is at c.refuse-in-Err-Fault.ensures)
+    let same = p.profile ∙ c.loop.invariant.9 in
+    let room : room_left new ≡ c.args.profile.limits.file - at =
+    ap (λ i. (records_profile new).limits.file - i) (p.offset ∙ add-zero at)
+    ∙ ap (λ (i : Profile). i.limits.file - at) same in
+    refuses_by c.args.profile xs _ _ _ at (Record f) (rw c.in-Err-Fault.field-0-is at c.refuse-in-Err-Fault.ensures)
     c.offset-offset.ensures
-    (reads_fault c.args.ignore xs at c.loop.reading _ _ (bytes_in_hand new) f to c.loop.invariant.1
-    (λ t r more. subst (λ j. step j (file_limit - at) (bytes_in_hand new ++ more) ≡ Err f) same
+    (reads_fault c.args.profile xs at c.loop.reading _ _ (bytes_in_hand new) f to c.loop.invariant.1
+    (λ t r more. subst (λ (j : Profile). step j.ignore (c.args.profile.limits.file - at) (bytes_in_hand new ++ more) ≡ Err f) same
     (subst (λ i. step (records_ignore new) i (bytes_in_hand new ++ more) ≡ Err f) room (seen.0 t r more)))
-    (λ e. subst (λ i. (length (drop at xs) < 4) ⊎ IsBegun i (drop at xs)) c.loop.invariant.9
+    (λ e. subst (λ (i : Profile). (length (drop at xs) < 4) ⊎ IsBegun i.ignore (drop at xs)) c.loop.invariant.9
     (c.next.ensures.truncated c.loop.invariant.0 (drop at xs) to.left_is
     (is ∙ ap (λ (i : RecordFault). Err (Fault i)) e)).1.1)
-    (λ e. subst (λ j. IsUnfinished j (file_limit - at) (bytes_in_hand new)) same
+    (λ e. subst (λ (j : Profile). IsUnfinished j.ignore (c.args.profile.limits.file - at) (bytes_in_hand new)) same
     (subst (λ i. IsUnfinished (records_ignore new) i (bytes_in_hand new)) room (seen.1 e)))
     (p.left (drop at xs) to.left_is))
 
@@ -130,15 +133,15 @@ loop-preserved g c =
       λ z. (let t : c.is_whole.result ≡ true = c.is_whole.ensures.1 z in cc),
       λ xs k.
           let to = c.loop.invariant.2 xs k in
-          let sp = subst (λ i. IsSpelledAt i (room_left c.loop.records) (drop at xs) c.in-Ok-Some.record.kind
+          let sp = subst (λ (i : Profile). IsSpelledAt i.ignore (i.limits.file - at) (drop at xs) c.in-Ok-Some.record.kind
           c.in-Ok-Some.record.payload.now) c.loop.invariant.9
           (next_said (λ (r : Answered). IsSpelledAt (records_ignore c.loop.records) (room_left c.loop.records)
           (drop at xs)
           r.kind r.payload.now) c.next.result c.in-Ok-Some.record is
           (c.next.ensures.spelled c.loop.invariant.0 (drop at xs) to.left_is)) in
-          subst (λ i. ReadTo (gds c.args.ignore) xs i (HasReadBy c.args.ignore c.take.new.self)
+          subst (λ i. ReadTo (gds c.args.profile) xs i (HasReadBy c.args.profile c.take.new.self)
           (bytes_left g.R.Read.remaining new)) (sym p.offset)
-          (reads_record c.args.ignore xs at c.loop.reading c.take.new.self _
+          (reads_record c.args.profile xs at c.loop.reading c.take.new.self _
           (bytes_left g.R.Read.remaining new) _ _ to sp
           (λ d. (subst (λ i. (rs : List Rec) (d : ℕ) → HasReadBy i c.loop.reading rs
           → HasReadBy i c.take.new.self (rs ++ record_of c.in-Ok-Some.record.kind d c.in-Ok-Some.record.payload.now
@@ -154,14 +157,14 @@ loop-preserved g c =
           ∷ [])
           × MayFollowBy i rs (record_of c.in-Ok-Some.record.kind d c.in-Ok-Some.record.payload.now))
           c.loop.invariant.8 c.in-Ok.ensures.takes) c.loop.invariant.6 0 c.loop.invariant.7).0,
-      c.in-Ok.ensures.ignore ∙ c.loop.invariant.8,
-      p.ignore ∙ c.loop.invariant.9,
+      c.in-Ok.ensures.profile ∙ c.loop.invariant.8,
+      p.profile ∙ c.loop.invariant.9,
     )
 
 pub returns-then-is_whole-clause-whole : goal.returns-then-is_whole-clause-whole
 returns-then-is_whole-clause-whole g c = (
   c.is_whole.ensures.0 c.if-is_whole.true,
-  c.in-Ok.ensures.ignore ∙ c.loop.invariant.8,
+  c.in-Ok.ensures.profile ∙ c.loop.invariant.8,
   λ xs k.
       let at = records_offset c.loop.records in
       let new = c.next.follows.lender-at-none in
@@ -169,14 +172,14 @@ returns-then-is_whole-clause-whole g c = (
       let p = next_took g.R.Read.remaining g.R.Read.read_errors g.R.Read.lent c.loop.records new c.next.result
       c.in-Ok-Some.record is c.next.follows.holds-at-none in
       let to = c.loop.invariant.2 xs k in
-      let sp = subst (λ i. IsSpelledAt i (room_left c.loop.records) (drop at xs) c.in-Ok-Some.record.kind
+      let sp = subst (λ (i : Profile). IsSpelledAt i.ignore (i.limits.file - at) (drop at xs) c.in-Ok-Some.record.kind
       c.in-Ok-Some.record.payload.now) c.loop.invariant.9
       (next_said (λ (r : Answered). IsSpelledAt (records_ignore c.loop.records) (room_left c.loop.records) (drop at xs)
       r.kind r.payload.now) c.next.result c.in-Ok-Some.record is
       (c.next.ensures.spelled c.loop.invariant.0 (drop at xs) to.left_is)) in
-      subst (λ i. ReadTo (gds c.args.ignore) xs i (HasReadBy c.args.ignore c.take.new.self)
+      subst (λ i. ReadTo (gds c.args.profile) xs i (HasReadBy c.args.profile c.take.new.self)
       (bytes_left g.R.Read.remaining new)) (sym p.offset)
-      (reads_record c.args.ignore xs at c.loop.reading c.take.new.self _ (bytes_left g.R.Read.remaining new) _ _ to sp
+      (reads_record c.args.profile xs at c.loop.reading c.take.new.self _ (bytes_left g.R.Read.remaining new) _ _ to sp
       (λ d. (subst (λ i. (rs : List Rec) (d : ℕ) → HasReadBy i c.loop.reading rs
       → HasReadBy i c.take.new.self (rs ++ record_of c.in-Ok-Some.record.kind d c.in-Ok-Some.record.payload.now ∷ [])
       × MayFollowBy i rs (record_of c.in-Ok-Some.record.kind d c.in-Ok-Some.record.payload.now))

@@ -8,7 +8,7 @@ use Rattle.lvl.proofs.compare.compare_files.Goals as goal
 
 pub returns-in_err-theirs-clause-first_refused : goal.returns-in_err-theirs-clause-first_refused
 returns-in_err-theirs-clause-first_refused g c xs known =
-    let a : File = record { ignore = c.args.ignore; bytes = xs; top = given_name c.args.tops.now.first } in
+    let a : File = record { profile = c.args.profile; bytes = xs; top = given_name c.args.tops.now.first } in
     let p = err_from_is_err_and c.from_residual-in_err-theirs.result c.from_residual-in_err-theirs.ensures.1 in
     rw (p.1, p.2) (first_of_second a _ _ (c.in_ok-ours.ensures.read xs known) c.in_err-theirs.field-0.0
     c.in_err-theirs.ensures.own)
@@ -21,22 +21,22 @@ returns-in_err-theirs-clause-first_early g c xs known =
 
 pub returns-in_err-verdict-clause-first_refused : goal.returns-in_err-verdict-clause-first_refused
 returns-in_err-verdict-clause-first_refused g c xs known =
-    let a : File = record { ignore = c.args.ignore; bytes = xs; top = given_name c.args.tops.now.first } in
+    let a : File = record { profile = c.args.profile; bytes = xs; top = given_name c.args.tops.now.first } in
     let p = err_from_is_err_and c.from_residual-in_err-verdict.result c.from_residual-in_err-verdict.ensures.1 in
     rw (p.1, p.2) (first_refused a _ _ _ (c.in_ok-ours.ensures.read xs known) c.in_err-verdict.field-0.0
     c.in_err-verdict.ensures.refused)
 
 pub returns-in_err-verdict-clause-second_refused : goal.returns-in_err-verdict-clause-second_refused
 returns-in_err-verdict-clause-second_refused g c ys known =
-    let b : File = record { ignore = c.args.ignore; bytes = ys; top = given_name c.args.tops.now.second } in
+    let b : File = record { profile = c.args.profile; bytes = ys; top = given_name c.args.tops.now.second } in
     let p = err_from_is_err_and c.from_residual-in_err-verdict.result c.from_residual-in_err-verdict.ensures.1 in
     rw (p.1, p.2) (second_refused b _ _ _ (c.in_ok-theirs.ensures.read ys known) c.in_err-verdict.field-0.0
     c.in_err-verdict.ensures.refused)
 
 pub returns-clause-compared : goal.returns-clause-compared
 returns-clause-compared g c xs ys known_first known_second =
-    let a : File = record { ignore = c.args.ignore; bytes = xs; top = given_name c.args.tops.now.first } in
-    let b : File = record { ignore = c.args.ignore; bytes = ys; top = given_name c.args.tops.now.second } in
+    let a : File = record { profile = c.args.profile; bytes = xs; top = given_name c.args.tops.now.first } in
+    let b : File = record { profile = c.args.profile; bytes = ys; top = given_name c.args.tops.now.second } in
     compared_in c.args.view.now a b _ _ _ _ (c.in_ok-ours.ensures.read xs known_first)
     (c.in_ok-theirs.ensures.read ys known_second)
     c.in_ok-verdict.verdict c.in_ok-verdict.ensures.verdict

@@ -2,16 +2,16 @@ use Rattle.lvl.proofs.Spelling.{gds_read, gds_fault, gds_early}
 use Rattle.lvl.proofs.layout.read_as_gds.Goals as goal
 
 pub returns-in-Ok-clause-spelled : goal.returns-in-Ok-clause-spelled
-returns-in-Ok-clause-spelled g c xs known = gds_read c.args.ignore xs c.in-Ok.library c.in-Ok.head
+returns-in-Ok-clause-spelled g c xs known = gds_read c.args.profile xs c.in-Ok.library c.in-Ok.head
     (c.in-Ok.ensures.spelled xs known)
 
 pub returns-in-Err-Breach-clause-refused : goal.returns-in-Err-Breach-clause-refused
 returns-in-Err-Breach-clause-refused g c xs known format =
     let e = c.in-Err-Breach in
-    gds_fault c.args.ignore xs e.field-0 e.fault e.field-0-is format (e.ensures.refused xs known)
+    gds_fault c.args.profile xs e.field-0 e.fault e.field-0-is format (e.ensures.refused xs known)
     (e.ensures.none xs known)
 
 pub returns-in-Err-Breach-clause-early : goal.returns-in-Err-Breach-clause-early
 returns-in-Err-Breach-clause-early g c xs known format soon =
     let e = c.in-Err-Breach in
-    gds_early c.args.ignore xs _ e.field-0 e.fault e.field-0-is format (e.ensures.early xs known) soon
+    gds_early c.args.profile xs _ e.field-0 e.fault e.field-0-is format (e.ensures.early xs known) soon

@@ -5,15 +5,15 @@ use Rattle.lvl.proofs.Unbegun.{no_bytes}
 use Rattle.lvl.proofs.layout.read_layout_by.Goals as goal
 
 pub returns-in_default-clause-refused : goal.returns-in_default-clause-refused
-returns-in_default-clause-refused g c xs known = c.unread.ensures.reported c.args.ignore xs
+returns-in_default-clause-refused g c xs known = c.unread.ensures.reported c.args.profile xs
 
 pub returns-then-is_none-clause-refused : goal.returns-then-is_none-clause-refused
 returns-then-is_none-clause-refused g c xs known =
-    subst (λ ys. IsFileFault c.args.ignore ys c.empty.result)
+    subst (λ ys. IsFileFault c.args.profile ys c.empty.result)
     (sym (no_bytes c.in-Ok.first xs (c.in-Ok.ensures.first xs known) (c.is_none.ensures ∙ ap not c.if-is_none.true)))
-    (c.empty.ensures.reported c.args.ignore)
+    (c.empty.ensures.reported c.args.profile)
 
 pub returns-clause-early : goal.returns-clause-early
 returns-clause-early g c xs known =
-    early_rest c.args.ignore xs _ _ _ c.read_by-read.result
+    early_rest c.args.profile xs _ _ _ c.read_by-read.result
     (c.read_by-read.ensures.early xs (search rules) (c.in-Ok.ensures.first xs known)) (search rules)

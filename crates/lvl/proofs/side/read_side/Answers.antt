@@ -7,11 +7,11 @@ use Rattle.lvl.proofs.side.read_side.Goals as goal
 pub returns-in-Err-Breach-clause-refused : goal.returns-in-Err-Breach-clause-refused
 returns-in-Err-Breach-clause-refused g c xs known =
     let e = c.in-Err-Breach in
-    (refl, subst (λ r. Says r (IsFileFault c.args.ignore xs)) e.field-0-is (e.ensures.refused xs known))
+    (refl, subst (λ r. Says r (IsFileFault c.args.profile xs)) e.field-0-is (e.ensures.refused xs known))
 
 pub returns-in-Err-Breach-clause-early : goal.returns-in-Err-Breach-clause-early
 returns-in-Err-Breach-clause-early g c xs known soon =
     let e = c.in-Err-Breach in
-    subst (λ r. Says r (λ f. IsEarlyFile f → IsHopeless c.args.ignore xs
+    subst (λ r. Says r (λ f. IsEarlyFile f → IsHopeless c.args.profile xs
     (g.R.Read.remaining c.read_layout_by.new.reader))) e.field-0-is
     (e.ensures.early xs known) soon.1

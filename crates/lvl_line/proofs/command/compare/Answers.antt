@@ -11,6 +11,9 @@ with_map = with_rule tops_app (option_rule (codes "map"))
 abbrev with_window : App
 with_window = with_rule with_map (option_rule (codes "window"))
 
+abbrev with_ignore : App
+with_ignore = with_rule with_window (option_rule (codes "ignore"))
+
 pub returns : goal.returns
 returns c =
     let layers : app_of c.in_ok-arg.field-0 ≡ with_map =
@@ -18,5 +21,7 @@ returns c =
     ∙ ap₂ with_rule c.in_ok-compare_tops.ensures c.option.ensures.rule in
     let window : app_of c.in_ok-arg-2.field-0 ≡ with_window =
     c.in_ok-arg-2.ensures.shape c.option-2.ensures.local ∙ ap₂ with_rule layers c.option-2.ensures.rule in
-    IfOk-weaker c.arg-3.result _ _
-    (λ r h. h.shape c.option-3.ensures.local ∙ ap₂ with_rule window c.option-3.ensures.rule) c.arg-3.ensures
+    let ignored : app_of c.in_ok-arg-3.field-0 ≡ with_ignore =
+    c.in_ok-arg-3.ensures.shape c.option-3.ensures.local ∙ ap₂ with_rule window c.option-3.ensures.rule in
+    IfOk-weaker c.arg-4.result _ _
+    (λ r h. h.shape c.flag.ensures.local ∙ ap₂ with_rule ignored c.flag.ensures.rule) c.arg-4.ensures

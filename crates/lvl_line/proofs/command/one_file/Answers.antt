@@ -14,5 +14,9 @@ returns c =
     let topped : app_of c.in_ok-arg-2.field-0
     ≡ with_rule (with_rule (new_app c.args.name.now) (file_rule (codes "A"))) (option_rule (codes "top")) =
     c.in_ok-arg-2.ensures.shape c.option.ensures.local ∙ ap₂ with_rule filed c.option.ensures.rule in
-    IfOk-weaker c.arg-3.result _ _
-    (λ r h. h.shape c.option-2.ensures.local ∙ ap₂ with_rule topped c.option-2.ensures.rule) c.arg-3.ensures
+    let ignored : app_of c.in_ok-arg-3.field-0
+    ≡ with_rule (with_rule (with_rule (new_app c.args.name.now) (file_rule (codes "A"))) (option_rule (codes "top")))
+    (option_rule (codes "ignore")) =
+    c.in_ok-arg-3.ensures.shape c.option-2.ensures.local ∙ ap₂ with_rule topped c.option-2.ensures.rule in
+    IfOk-weaker c.arg-4.result _ _
+    (λ r h. h.shape c.flag.ensures.local ∙ ap₂ with_rule ignored c.flag.ensures.rule) c.arg-4.ensures

@@ -4,7 +4,7 @@ use Rattle.clap.specs.Walk.{Text}
 use Rattle.clap.specs.Faults.{fault_of, is_simple_and_free}
 use Rattle.clap.specs.Simple.{is_simple}
 use Rattle.clap.specs.Kinds.{HasKind}
-use Rattle.lvl_line.specs.Line.{line, IsRefusal}
+use Rattle.lvl_line.specs.Line.{line, IsNamed, IsRefusal}
 use Rattle.lvl_line.proofs.Lines.{line_gives, pair_of}
 use Rattle.lvl_line.proofs.parse.parse_line.Goals as goal
 
@@ -42,3 +42,15 @@ job_of-requires c =
     ≡ Some (c.in-Some.name.now, rows_of (found_of c.in-Some.matches.now)) =
     pair_of _ _ _ _ _ c.in-Some.ensures.name c.in-Some.ensures.rows in
     line_gives words c.in-Some.name.now (rows_of (found_of c.in-Some.matches.now)) kinds (sym found ∙ both)
+
+pub returns-in-Ok-job_of-clause-job : goal.returns-in-Ok-job_of-clause-job
+returns-in-Ok-job_of-clause-job c =
+    let words : List Text = map (λ s. s.now) c.args.words.now in
+    let app_is : app_of c.in-Ok.command ≡ line = c.in-Ok.ensures in
+    let found : subcommand_rows_of c.in-Ok-try_get_matches_from.matches ≡ subcommand_of line words =
+    (c.in-Ok-try_get_matches_from.ensures.matches (ap is_simple app_is)).1
+    ∙ ap (λ (a : App). subcommand_of a words) app_is in
+    let both : subcommand_rows_of c.in-Ok-try_get_matches_from.matches
+    ≡ Some (c.in-Some.name.now, rows_of (found_of c.in-Some.matches.now)) =
+    pair_of _ _ _ _ _ c.in-Some.ensures.name c.in-Some.ensures.rows in
+    subst (IsNamed c.in-Ok-job_of.job) (sym both ∙ found) c.in-Ok-job_of.ensures

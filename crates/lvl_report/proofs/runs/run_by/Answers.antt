@@ -5,7 +5,7 @@ use Rattle.lvl_report.proofs.runs.run_by.Goals as goal
 
 pub returns-clause-written : goal.returns-clause-written
 returns-clause-written g c =
-    written_as text_of (IsOutcomeOf c.args.ignore) _ _ c.run_view_by-2.result
+    written_as text_of (IsOutcomeOf c.args.profile) _ _ c.run_view_by-2.result
     (λ answer. whole_answer _ c.whole.ensures _ _ answer)
     c.run_view_by-2.ensures.written
 

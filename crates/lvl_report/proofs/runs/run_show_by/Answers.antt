@@ -7,7 +7,7 @@ use Rattle.lvl_report.proofs.runs.run_show_by.Goals as goal
 pub returns-clause-written : goal.returns-clause-written
 returns-clause-written g c =
     let found = c.show_file-answer.ensures in
-    was_written _ text_of_shown (ends_by (shown_outcome c.args.ignore)) _ _ c.show_file-answer.result c.tell_shown.result
+    was_written _ text_of_shown (ends_by (shown_outcome c.args.profile)) _ _ c.show_file-answer.result c.tell_shown.result
     (record {
       found = found.shown;
       refused = found.refused;

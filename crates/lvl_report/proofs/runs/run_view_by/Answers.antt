@@ -6,7 +6,7 @@ use Rattle.lvl_report.proofs.runs.run_view_by.Goals as goal
 pub returns-clause-written : goal.returns-clause-written
 returns-clause-written g c =
     let found = c.compare_files-answer.ensures in
-    was_written _ text_of (IsOutcomeOf c.args.ignore) _ _ c.compare_files-answer.result c.tell.result
+    was_written _ text_of (IsOutcomeOf c.args.profile) _ _ c.compare_files-answer.result c.tell.result
     (record {
       compared = found.compared;
       first_refused = found.first_refused;

@@ -4,22 +4,22 @@ use Rattle.oasis_library.proofs.read.read_oasis_by.Goals as goal
 
 pub returns-clause-refused : goal.returns-clause-refused
 returns-clause-refused g c =
-    λ xs k. refused_reports c.args.ignore xs _ c.read_library-read.result
-    (rw c.new-input.ensures.ignore at (c.read_library-read.ensures.refused xs (c.new-input.ensures.bytes ∙ k)))
+    λ xs k. refused_reports c.args.profile xs _ c.read_library-read.result
+    (rw c.new-input.ensures.profile at (c.read_library-read.ensures.refused xs (c.new-input.ensures.bytes ∙ k)))
 
 pub returns-clause-none : goal.returns-clause-none
 returns-clause-none g c =
-    λ xs k. refused_none c.args.ignore xs _ c.read_library-read.result
-    (rw c.new-input.ensures.ignore at (c.read_library-read.ensures.refused xs (c.new-input.ensures.bytes ∙ k)))
+    λ xs k. refused_none c.args.profile xs _ c.read_library-read.result
+    (rw c.new-input.ensures.profile at (c.read_library-read.ensures.refused xs (c.new-input.ensures.bytes ∙ k)))
 
 pub returns-clause-early : goal.returns-clause-early
 returns-clause-early g c = λ xs k.
-    early_left c.args.ignore xs _ _ c.read_library-read.result
-    (rw c.new-input.ensures.ignore at (c.read_library-read.ensures.refused xs (c.new-input.ensures.bytes ∙ k)))
+    early_left c.args.profile xs _ _ c.read_library-read.result
+    (rw c.new-input.ensures.profile at (c.read_library-read.ensures.refused xs (c.new-input.ensures.bytes ∙ k)))
     (search rules)
 
 pub returns-clause-unread : goal.returns-clause-unread
 returns-clause-unread g c = λ xs k.
-    unread_left c.args.ignore xs _ _ c.read_library-read.result
-    (rw c.new-input.ensures.ignore at (c.read_library-read.ensures.refused xs (c.new-input.ensures.bytes ∙ k)))
+    unread_left c.args.profile xs _ _ c.read_library-read.result
+    (rw c.new-input.ensures.profile at (c.read_library-read.ensures.refused xs (c.new-input.ensures.bytes ∙ k)))
     (search rules)

@@ -1,4 +1,4 @@
-use Rattle.std.proofs.Common.{ℕ, List, ◌-◌}
+use Rattle.std.proofs.Common.{List, ◌-◌}
 use Rattle.oasis_values.specs.Properties.{IsValue}
 use Rattle.oasis_values.proofs.Loops.{Going}
 use Rattle.oasis_records.proofs.property.skip_values.Given as goal

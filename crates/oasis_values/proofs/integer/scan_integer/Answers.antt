@@ -27,8 +27,8 @@ returns-then-byte-lt-CONTINUES c =
     c.from-digit.ensures in
     let is = more_groups c.args.bytes.now c.loop-at.at c.loop-at.value c.loop-at.unit c.from-digit.result
     c.loop-at-test.true c.loop-at.invariant.2 c.loop-at.invariant.3 c.from-digit.ensures in
-    whole_front c.args.ignore c.args.bytes.now c.loop-at.at _ c.loop-at-test.true
-    (omega (arith, c.loop-at.invariant.0, (few_bytes c.args.ignore).0)) c.loop-at.invariant.1 is fits
+    whole_front c.args.profile c.args.bytes.now c.loop-at.at _ c.loop-at-test.true
+    (omega (arith, c.loop-at.invariant.0, (few_bytes c.args.profile).0)) c.loop-at.invariant.1 is fits
     c.if-byte-lt-CONTINUES.true
 
 pub loop-at-preserved : goal.loop-at-preserved

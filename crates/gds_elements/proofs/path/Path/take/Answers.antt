@@ -17,7 +17,7 @@ use Rattle.gds_elements.proofs.Paths.{reach_is, bands_fault}
 use Rattle.gds_elements.proofs.path.Path.take.Goals as goal
 
 pub returns-in_ok-half-in-Goes : goal.returns-in_ok-half-in-Goes
-returns-in_ok-half-in-Goes c = λ piece d h.
+returns-in_ok-half-in-Goes c = λ limits piece d h.
     let r = record_of c.args.kind d c.args.payload.now in
     let t = c.after.ensures.order ∙ ap (left_after left) c.in-Goes.is in
     let p' : Path = record {
@@ -30,26 +30,26 @@ returns-in_ok-half-in-Goes c = λ piece d h.
     c.in_ok-layer-in-Goes.ensures.datatype c.in_ok-square-in-Goes.ensures.value c.in_ok-half-in-Goes.ensures.value
     in (
       b,
-      allowed piece r (leads_begins _ (left c.in-Goes.stage) b.leads)
-          (law_path piece r h.opened c.in_ok-layer-in-Goes.ensures.allowed c.in_ok-square-in-Goes.ensures.allowed
+      allowed limits piece r (leads_begins _ (left c.in-Goes.stage) b.leads)
+          (law_path limits piece r h.opened c.in_ok-layer-in-Goes.ensures.allowed c.in_ok-square-in-Goes.ensures.allowed
           c.in_ok-half-in-Goes.ensures.allowed
           (λ x. absurd (subst (EndsBy xy c.args.kind) c.in-Goes.is c.after.ensures.last x))),
     )
 
 pub returns-in_err-rings-in-Ends : goal.returns-in_err-rings-in-Ends
-returns-in_err-rings-in-Ends c = λ piece d h.
+returns-in_err-rings-in-Ends c = λ limits piece d h.
     let r = record_of c.args.kind d c.args.payload.now in
     let t = c.after.ensures.order ∙ ap (left_after left) c.in-Ends.is in
     let last = subst (EndsBy xy c.args.kind) c.in-Ends.is c.after.ensures.last in
     let e = c.in_err-rings-in-Ends.field-0.0 in
-    takes_broken piece r c.from_residual-in_err-rings-in-Ends.result e
+    takes_broken limits piece r c.from_residual-in_err-rings-in-Ends.result e
     (IsBandsFault (points c.args.payload.now) c.args.self.half c.args.self.square)
     c.from_residual-in_err-rings-in-Ends.ensures
     (in_order piece r (left c.args.self.stage) (one endel) h.leads t)
-    (bands_fault c.args.self piece r h last) c.in_err-rings-in-Ends.ensures.refused
+    (bands_fault limits c.args.self piece r h last) c.in_err-rings-in-Ends.ensures.refused
 
 pub returns-in_ok-rings-in-Ends : goal.returns-in_ok-rings-in-Ends
-returns-in_ok-rings-in-Ends c = λ piece d h.
+returns-in_ok-rings-in-Ends c = λ limits piece d h.
     let r = record_of c.args.kind d c.args.payload.now in
     let ps = points c.args.payload.now in
     let t = c.after.ensures.order ∙ ap (left_after left) c.in-Ends.is in
@@ -63,42 +63,42 @@ returns-in_ok-rings-in-Ends c = λ piece d h.
     let ok'' = subst (λ (n : ℕ). IsPath ps (record { half = n; start = end_of piece; end = end_of piece }))
     (half_is c.args.self piece known.0 h known.1) ok' in (
       b,
-      allowed piece r (leads_begins _ (one endel) b.leads)
-          (law_path piece r h.opened (λ l. absurd
+      allowed limits piece r (leads_begins _ (one endel) b.leads)
+          (law_path limits piece r h.opened (λ l. absurd
           (elim l [ inl y ↦ omega (arith, y, x) | inr y ↦ omega (arith, y, x) ]))
           (λ y. absurd (omega (arith, x, y))) (λ y. absurd (omega (arith, x, y)))
           (λ _. (e.enough, width_read c.args.self piece h e.width, ok''))),
     )
 
 pub returns-in-Nowhere : goal.returns-in-Nowhere
-returns-in-Nowhere c = λ piece d h.
+returns-in-Nowhere c = λ limits piece d h.
     let r = record_of c.args.kind d c.args.payload.now in
-    law_misplaced piece r (left c.args.self.stage) c.out_of_order.result h.leads
+    law_misplaced limits piece r (left c.args.self.stage) c.out_of_order.result h.leads
     (c.after.ensures.order ∙ ap (left_after left) c.in-Nowhere.is) c.requires.known c.out_of_order.ensures
 
 pub returns-in_err-layer-in-Goes : goal.returns-in_err-layer-in-Goes
-returns-in_err-layer-in-Goes c = λ piece d h.
+returns-in_err-layer-in-Goes c = λ limits piece d h.
     let r = record_of c.args.kind d c.args.payload.now in
     let t = c.after.ensures.order ∙ ap (left_after left) c.in-Goes.is in
     let g = in_order piece r (left c.args.self.stage) (left c.in-Goes.stage) h.leads t in
     let e = c.in_err-layer-in-Goes.ensures.refused in
-    takes_one piece r c.from_residual.result c.in_err-layer-in-Goes.field-0.0 LayerKind c.from_residual.ensures g e.0
+    takes_one limits piece r c.from_residual.result c.in_err-layer-in-Goes.field-0.0 LayerKind c.from_residual.ensures g e.0
     (e.1, inr h.opened, e.2)
 
 pub returns-in_err-square-in-Goes : goal.returns-in_err-square-in-Goes
-returns-in_err-square-in-Goes c = λ piece d h.
+returns-in_err-square-in-Goes c = λ limits piece d h.
     let r = record_of c.args.kind d c.args.payload.now in
     let t = c.after.ensures.order ∙ ap (left_after left) c.in-Goes.is in
     let g = in_order piece r (left c.args.self.stage) (left c.in-Goes.stage) h.leads t in
     let e = c.in_err-square-in-Goes.ensures.refused in
-    takes_one piece r c.from_residual-in_err-square-in-Goes.result c.in_err-square-in-Goes.field-0.0 PathType
+    takes_one limits piece r c.from_residual-in_err-square-in-Goes.result c.in_err-square-in-Goes.field-0.0 PathType
     c.from_residual-in_err-square-in-Goes.ensures g e.0 (e.1, h.opened, e.2, e.3)
 
 pub returns-in_err-half-in-Goes : goal.returns-in_err-half-in-Goes
-returns-in_err-half-in-Goes c = λ piece d h.
+returns-in_err-half-in-Goes c = λ limits piece d h.
     let r = record_of c.args.kind d c.args.payload.now in
     let t = c.after.ensures.order ∙ ap (left_after left) c.in-Goes.is in
     let g = in_order piece r (left c.args.self.stage) (left c.in-Goes.stage) h.leads t in
     let e = c.in_err-half-in-Goes.ensures.refused in
-    takes_one piece r c.from_residual-in_err-half-in-Goes.result c.in_err-half-in-Goes.field-0.0 Width
+    takes_one limits piece r c.from_residual-in_err-half-in-Goes.result c.in_err-half-in-Goes.field-0.0 Width
     c.from_residual-in_err-half-in-Goes.ensures g e.0 (h.opened, inl (e.1, e.2))

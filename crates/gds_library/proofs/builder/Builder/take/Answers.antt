@@ -1,7 +1,7 @@
 use Rattle.std.proofs.Common.{◌≡◌, ℕ, List, [], refl, sym, ap, ◌∙◌, rules, arith, ◌==◌, false}
 use Rattle.std.proofs.lemmas.Bool.Decides.{nat_tests}
 use Rattle.gds_library.proofs.builder.Builder.take.Goals as goal
-use Rattle.gds_library.proofs.builder.Builder.take.Goals.{in-0, in-3, in-5+else-len-ge-MOST_CELLS}
+use Rattle.gds_library.proofs.builder.Builder.take.Goals.{in-0, in-3, in-5+else-len-limits}
 use Rattle.gds_library.proofs.builder.Builder.take.Goals.{in-6+else-not-is_name+in_ok-open-in-6}
 use Rattle.gds_library.proofs.builder.Builder.take.Goals.{in-7+in_ok-close-in-7, in_default-kind}
 use Rattle.gds_library.proofs.Grown.{IsOther, shown_other, shown_bgnstr, shown_strname, shown_endstr, by_kind}
@@ -32,7 +32,7 @@ returns-clause-shown c =
           (shown_other header p q b b' payload other_header (ap (λ (x : Builder). x.cells.cells) w.self-is)) a
       | in-3 w ↦ by_kind _ units p q b b' payload w.in-3.is
           (shown_other units p q b b' payload other_units (ap (λ (x : Builder). x.cells.cells) w.self-is)) a
-      | in-5+else-len-ge-MOST_CELLS w ↦ by_kind _ bgnstr p q b b' payload w.in-5.is
+      | in-5+else-len-limits w ↦ by_kind _ bgnstr p q b b' payload w.in-5.is
           (λ e. shown_bgnstr p q b b' payload e (ap (λ (x : Builder). x.cells) w.self-is)) a
       | in-6+else-not-is_name+in_ok-open-in-6 w ↦ by_kind _ strname p q b b' payload w.in-6.is
           (λ e. shown_strname p q b b' payload e (ap (λ (x : Builder). x.cells) w.self-is

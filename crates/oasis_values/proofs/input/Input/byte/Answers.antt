@@ -24,7 +24,7 @@ returns-in-Err g c = record {
       c.in-Err.ensures.errors c.find_byte.ensures.same;
   none = record {
     none = λ live xs k rule x. let q = (c.in-Err.ensures.finds.1 xs k).breached rule in
-        breached_none IsOneByte xs q.count c.in-Err.fault x (byte_code.free c.args.self.now.ignore) q.front;
+        breached_none IsOneByte xs q.count c.in-Err.fault x (byte_code.free c.args.self.now.profile) q.front;
   };
   at = refl;
 }

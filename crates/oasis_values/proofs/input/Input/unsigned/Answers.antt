@@ -24,8 +24,8 @@ returns-in-Err g c = record {
       c.in-Err.ensures.errors c.find_integer.ensures.same;
   none = record {
     none = λ live xs k rule x. let q = (c.in-Err.ensures.finds.1 xs k).breached rule in
-        breached_none (IsUnsigned c.args.self.now.ignore) xs q.count c.in-Err.fault x
-        (unsigned_code.free c.args.self.now.ignore) q.front;
+        breached_none (IsUnsigned c.args.self.now.profile) xs q.count c.in-Err.fault x
+        (unsigned_code.free c.args.self.now.profile) q.front;
   };
   at = refl;
 }
