@@ -1,10 +1,9 @@
--- Spans, and the corners at the abscissas of a span. These definitions serve only the proofs.
-use Rattle.std.specs.Prelude.{◌≡◌, ◌≢◌, ◌≤◌, ◌+◌, Bool, true, ◌&&◌, List, ℤ, pos, int_lt, ◌↔◌, IsTrue, Contains, Option}
-use Rattle.std.specs.Prelude.{None, Some}
+-- Spans, and the corners at the abscissas of a span (own rule).
+use Rattle.std.specs.Prelude.{◌≡◌, ◌≢◌, Bool, true, ◌&&◌, List, ◌++◌, ℤ, pos, ◌-ℤ◌, ◌<ℤ◌, ◌≤ℤ◌, int_lt, ◌↔◌, IsTrue}
+use Rattle.std.specs.Prelude.{Contains, Option, None, Some}
 use Rattle.std.specs.List.{AllPairs}
 use Rattle.lvl_grid.specs.declared.point.Square.{Square}
 use Rattle.lvl_sweep.specs.Ahead.{is_from}
-use Rattle.lvl_corners.specs.declared.columns.Budget.{Budget}
 use Rattle.lvl_corners.specs.declared.corner.Corner.{Corner}
 use Rattle.lvl_corners.specs.declared.span.Span.{Span}
 use Rattle.lvl_corners.specs.Corners.{change_at, ComesBefore, IsBounded}
@@ -39,11 +38,11 @@ pub record AreCornersIn (P : Square → Type 0) (span : Span) (corners : List Co
   pub each : (k : Corner) → Contains corners k
       ↔ ((spanned span k.x ≡ true) × (k.change ≢ pos 0) × (k.change ≡ change_at covered k.x k.y))
 
--- at most as many columns were made as may be, and the limit is unchanged
-abbrev pub KeepsBudget : Budget → Budget → Type 0
-KeepsBudget old new = (new.most ≡ old.most) × (new.made ≤ new.most)
-
--- the budget after a cut, which takes two columns of it, or after no cut
-abbrev pub paid : Option ℤ → Budget → Budget
-paid None budget = budget
-paid (Some at) budget = record { made = budget.made + 2; most = budget.most }
+-- corners are found strip by strip: those left of an abscissa are those of the squares left of it, the others those of
+-- the squares from one column before it on, and both lists, one after the other, are the corners of all
+abbrev pub StripsAppend : Type 0
+StripsAppend =
+    (covered : Square → Bool) (span : Span) (at : ℤ) (ks ls : List Corner) → spanned span at ≡ true
+    → AreCornersIn (λ s. (s.x <ℤ at) × IsTrue (covered s)) (left_part span at) ks
+    → AreCornersIn (λ s. ((at -ℤ pos 1) ≤ℤ s.x) × IsTrue (covered s)) (right_part span at) ls
+    → AreCornersIn (λ s. IsTrue (covered s)) span (ks ++ ls)
