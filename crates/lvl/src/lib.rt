@@ -24,8 +24,9 @@
 
 pub use compare::{compare_files, compare_layouts, compare_view};
 pub use digest::{digest_file, digests_decide};
-pub use digested::{Digested, DigestedLayer, MaskDigest};
+pub use digested::{Digested, MaskDigest};
 pub use layout::{FileFault, Head, Layout, ignoring_keeps, read_layout, read_layout_by};
+pub use lvl_corners::{DigestedLayer, layer_line};
 pub use show::show_file;
 pub use shown::Shown;
 pub use verdict::{Comparison, Refusal, Tops, Verdict};
@@ -35,8 +36,11 @@ mod digest;
 mod digested;
 mod fitted;
 mod flattened;
+mod hashes;
 mod layout;
+mod pace;
 mod show;
 mod shown;
 mod side;
+mod strip;
 mod verdict;

@@ -200,7 +200,7 @@ pub fn run_show_by<R: Read, W: Write>(
 
 /// Writes the digest of a file: what it says about itself; the name of its top; for each Layer on which the
 /// top covers a square, in their order, the number of corners of these squares and the SHA-256 of the
-/// Layer's bytes; and the SHA-256 of the bytes of all Layers. A refusal is one line. Some records may be
+/// Layer's bytes; and the SHA-256 of the lines of these Layers. A refusal is one line. Some records may be
 /// ignored.
 ///
 /// It writes an answer that [`digest_file`](lvl::digest_file) may return for this file.
