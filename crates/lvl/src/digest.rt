@@ -14,6 +14,7 @@ use crate::shown::top_name;
 use crate::side::{check_named, fit_side, read_side};
 use crate::verdict::Refusal;
 use lvl_cells::Library;
+use lvl_corners::masks_decide;
 use lvl_io::Read;
 use lvl_profile::Ignore;
 use lvl_region::Side;
@@ -85,4 +86,6 @@ pub fn digest_file<R: Read>(
 /// there. This function states the law and computes nothing.
 pub fn digests_decide()
     ensures { DigestsDecide }
-{}
+{
+    masks_decide()
+}
