@@ -4,8 +4,9 @@ ghost use Rattle.std.specs.Prelude.{◌≡◌, ◌<◌};
 use lvl_grid::Window;
 
 /// How many strips are tried with one number of points. It is then doubled, so no layout takes many
-/// more strips than it has points.
-const MOST_TRIES: u32 = 256;
+/// more strips than it has points. So many strips of small files have more than a thousand million
+/// points.
+const MOST_TRIES: u32 = 4096;
 
 /// How wide the next strip may be, how many points the rings may have in it, and how many more
 /// strips may be tried with this number of points.
