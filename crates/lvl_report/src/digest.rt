@@ -11,11 +11,7 @@ use std::io;
 use std::io::Write;
 
 /// Appends the line of each Layer.
-fn push_layer_digests(
-    alloc: Global,
-    text: &mut Vec<u8>,
-    layers: &[DigestedLayer],
-) -> io::Result<()>
+fn push_layer_digests(alloc: Global, text: &mut Vec<u8>, layers: &[DigestedLayer]) -> io::Result<()>
     ensures { OnOk result (text.new.items ≡ text.old.items ++ mask_lines layers.now) }
 {
     for digested in layers {
