@@ -4,9 +4,9 @@ ghost use Rattle.lvl_names.specs.Layers.{ComesBefore};
 ghost use Rattle.lvl_flat.specs.Flattened.{IsFlattenedWithin};
 ghost use Rattle.lvl.specs.Hashes.{around};
 
-use crate::pace::Pace;
+use crate::pace::{Pace, Points};
 use lvl_flat::{Fitted, Flat};
-use lvl_grid::Window;
+use lvl_grid::{Point, Window};
 use lvl_names::Layer;
 use std::alloc::{AllocError, Global};
 
@@ -19,15 +19,26 @@ pub(crate) struct Strip {
     pub pace: Pace,
 }
 
-/// The number of points of the rings of a flat layout.
-fn points_of(flat: &Flat) -> usize {
-    let mut points: usize = 0;
+/// The number of points on the left or the right side of some columns.
+fn count_on_sides(points: &[Point], columns: &Window) -> usize {
+    points
+        .iter()
+        .filter(|point| point.x <= columns.x0 || columns.x1 <= point.x)
+        .count()
+}
+
+/// The points of the rings of a layout that was flattened in some columns.
+fn points_of(flat: &Flat, columns: &Window) -> Points {
+    let mut all: usize = 0;
+    let mut on_sides: usize = 0;
     for place in 0..flat.len() {
         if let Some(layer) = flat.layer(place) {
-            points = points.saturating_add(flat.rings(layer).points().len());
+            let points = flat.rings(layer).points();
+            all = all.saturating_add(points.len());
+            on_sides = on_sides.saturating_add(count_on_sides(points, columns));
         }
     }
-    points
+    Points { all, on_sides }
 }
 
 /// The columns of a window from one before an abscissa up to another, which is excluded.
@@ -75,20 +86,13 @@ pub(crate) fn next_strip(
     let end = end_of(window, from, pace.width);
     let columns = columns_around(window, from, end);
     if let Ok(flat) = fitted.within(alloc, layers, &columns, pace.points) {
-        let pace = pace.after(pace.width, points_of(&flat));
+        let pace = pace.after(pace.width, points_of(&flat, &columns));
         return Ok(Strip { flat, end, pace });
     }
     if pace.width == 1 {
         let flat = fitted.within(alloc, layers, &columns, usize::MAX)?;
-        let pace = pace.after(1, points_of(&flat));
+        let pace = pace.after(1, points_of(&flat, &columns));
         return Ok(Strip { flat, end, pace });
     }
-    next_strip(
-        alloc,
-        fitted,
-        layers,
-        window,
-        from,
-        pace.next(pace.width / 2),
-    )
+    next_strip(alloc, fitted, layers, window, from, pace.halved())
 }
