@@ -1,6 +1,8 @@
 pub mod Widening
 pub mod Moving
 pub mod Placing
+pub mod Lists
+pub mod Arraying
 pub mod Same
 pub mod Walked
 pub mod Seeing

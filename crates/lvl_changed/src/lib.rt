@@ -29,12 +29,16 @@ pub use difference::difference_by_changes;
 pub use partners::pays_by_cells;
 
 mod alike;
+mod arrays;
 mod cells;
 mod difference;
 mod found;
+mod listing;
 mod partners;
+mod placed;
 mod placements;
 mod references;
 mod rings;
 mod shapes;
+mod shifts;
 mod windows;

@@ -8,12 +8,18 @@ ghost use Rattle.lvl_names.specs.declared.layer.Layer.{Layer};
 ghost use Rattle.lvl_cells.specs.Cells.{map_at};
 ghost use Rattle.lvl_flat.specs.Flattened.{CoversAt};
 ghost use Rattle.lvl_compare.specs.Parts.{SomeHas};
+ghost use Rattle.lvl_changed.specs.inside.Arrays.{as_reference, each_place, HasEach};
+ghost use Rattle.lvl_changed.specs.inside.Placements.{PlacedCover};
 ghost use Rattle.lvl_changed.specs.inside.Windows.{Has, HasPlaced, Widens};
 
-use lvl_cells::KeptReference;
-use lvl_flat::{Fitted, placing_at};
+use crate::arrays::Array;
+use crate::shifts::moved;
+use lvl_flat::Fitted;
 use lvl_grid::{Map, Point, Window};
 use std::alloc::{AllocError, Global};
+
+/// The greatest number of places of an array at which windows are placed one by one.
+const MOST_PLACES: u64 = 4096;
 
 /// A set of squares: at most `most` windows, no two of which share a square (one, if `most` is 0),
 /// or the whole grid if `anywhere` is set.
@@ -55,6 +61,18 @@ pub(crate) fn spot(point: Point) -> Window
     }
 }
 
+/// The window between two corners.
+fn between(low: Point, high: Point) -> Window
+    ensures { result ≡ record { x0 = low.x; y0 = low.y; x1 = high.x; y1 = high.y } }
+{
+    Window {
+        x0: low.x,
+        y0: low.y,
+        x1: high.x,
+        y1: high.y,
+    }
+}
+
 /// The lower left corner of a window.
 fn low_corner(window: &Window) -> Point
     ensures { result ≡ record { x = window.now.x0; y = window.now.y0 } }
@@ -83,6 +101,18 @@ fn placed(window: &Window, map: &Map) -> Option<Window>
     let low = map.place(low_corner(window))?;
     let high = map.place(high_corner(window))?;
     Some(spot(low).joined(spot(high)))
+}
+
+/// A window that has the images of a window at all places of the array, or None if it would leave
+/// 64 signed bits.
+fn everywhere(window: &Window, array: &Array) -> Option<Window>
+    ensures { IfSome result (λ all. HasEach array.now window.now (IsInWindow all)) }
+{
+    let first = placed(window, &array.by)?;
+    let (least, greatest) = array.shifts.reach();
+    let low = moved(low_corner(&first), least)?;
+    let high = moved(high_corner(&first), greatest)?;
+    Some(between(low, high))
 }
 
 impl Windows {
@@ -201,26 +231,72 @@ impl Windows {
         Ok(())
     }
 
-    /// Adds the images of other windows at each place of a reference.
-    pub(crate) fn hold_places(
-        &mut self,
-        held: &Windows,
-        reference: &KeptReference<'_>,
-    ) -> Result<(), AllocError>
-        ensures held { OnOk result ((e : GridPoint) → Contains reference.now.shifts e
-            → HasPlaced (map_at reference.now e) held.now self.new) }
+    /// Adds one window that has the images of a window at all places of the array.
+    fn hold_everywhere(&mut self, window: &Window, array: &Array) -> Result<(), AllocError>
+        ensures held { OnOk result (HasEach array.now window.now (Has self.new)) }
+        ensures kept { OnOk result (Widens self.old self.new) }
+    {
+        match everywhere(window, array) {
+            Some(window) => self.hold(window),
+            None => {
+                self.hold_anywhere();
+                Ok(())
+            }
+        }
+    }
+
+    /// Adds for each other window one that has its images at all places of the array.
+    fn hold_all_everywhere(&mut self, held: &Windows, array: &Array) -> Result<(), AllocError>
+        ensures held { OnOk result ((e : GridPoint) → Contains array.now.shifts e
+            → HasPlaced (map_at (as_reference array.now) e) held.now self.new) }
+        ensures kept { OnOk result (Widens self.old self.new) }
+    {
+        if held.anywhere {
+            self.hold_anywhere();
+            return Ok(());
+        }
+        for window in &held.list {
+            self.hold_everywhere(window, array)?;
+        }
+        Ok(())
+    }
+
+    /// Adds the images of other windows at each place of the array. If there are more than
+    /// [`MOST_PLACES`], one window has all images of each.
+    pub(crate) fn hold_places(&mut self, held: &Windows, array: &Array) -> Result<(), AllocError>
+        ensures held { OnOk result ((e : GridPoint) → Contains array.now.shifts e
+            → HasPlaced (map_at (as_reference array.now) e) held.now self.new) }
         ensures kept { OnOk result (Widens self.old self.new) }
     {
         if held.is_empty() {
             return Ok(());
         }
-        for k in 0..reference.shifts().len() {
-            let Some(map) = placing_at(reference, k) else {
-                unreachable!()
+        if array.shifts.len() > MOST_PLACES {
+            return self.hold_all_everywhere(held, array);
+        }
+        for k in 0..array.shifts.len() {
+            let Some(map) = array.place(k) else {
+                self.hold_anywhere();
+                return Ok(());
             };
             self.hold_all_placed(held, &map)?;
         }
         Ok(())
+    }
+
+    /// Adds a window that has all that an array covers.
+    pub(crate) fn hold_array(&mut self, library: &Fitted, array: &Array) -> Result<(), AllocError>
+        ensures held { OnOk result ((layer : Layer) (s : Square) → ¬ Has self.new s
+            → ¬ PlacedCover library.now.cells (each_place array.now) layer s) }
+        ensures kept { OnOk result (Widens self.old self.new) }
+    {
+        match library.extent_of(array.cell) {
+            Some(window) => self.hold_everywhere(&window, array),
+            None => {
+                self.hold_anywhere();
+                Ok(())
+            }
+        }
     }
 
     /// Adds a window that has all squares that a cell covers.
