@@ -2,6 +2,9 @@ pub mod Widening
 pub mod Moving
 pub mod Placing
 pub mod Lists
+pub mod Grid
+pub mod Sums
+pub mod SeenThrough
 pub mod Arraying
 pub mod Same
 pub mod Walked

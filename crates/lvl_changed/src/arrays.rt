@@ -3,18 +3,18 @@ ghost use Rattle.std.specs.Prelude.{◌≡◌, ◌<◌, ◌↔◌, length, Conta
 ghost use Rattle.lvl_cells.specs.Checks.{HasReference};
 ghost use Rattle.lvl_flat.specs.Placing.{IsPlacing};
 ghost use Rattle.lvl_changed.specs.declared.arrays.Array.{Array as PlainArray};
-ghost use Rattle.lvl_changed.specs.inside.Arrays.{as_reference, IsArrayOf};
+ghost use Rattle.lvl_changed.specs.inside.Arrays.{as_reference, CoversSame, IsArrayOf, IsThrough, IsWrapper};
 
-use crate::placements::quarters;
-use crate::shifts::{are_same, moved, shift_at};
+use crate::lattices::sums;
+use crate::shifts::{are_same, moved};
+use crate::spots::{AtSpot, Spot};
 use lvl_cells::{Checked, KeptReference};
 use lvl_grid::Map;
 use lvl_names::Offsets;
 use std::alloc::AllocError;
 
-/// What arrays are sorted by: where the cell is placed first, then how many places there are, and
-/// the second and the last of them. Different arrays can have the same key.
-type Key = ((usize, i64, i64, u8, bool), (u64, i64, i64, i64, i64));
+/// The greatest number of wrappers within one another that are seen through.
+const MOST_WRAPPERS: u64 = 64;
 
 /// A cell, by its index, and a map that places it, moved by each of the shifts.
 #[derive(Drop)]
@@ -41,8 +41,8 @@ fn placing(reference: &KeptReference<'_>, cell: usize) -> Result<Array, AllocErr
     Ok(Array { cell, by, shifts })
 }
 
-/// What reference `j` of a cell places.
-pub(crate) fn array_of(checked: &Checked, cell: usize, j: usize) -> Result<Array, AllocError>
+/// What reference `j` of a cell places, without looking into the cell that it places.
+fn reference_at(checked: &Checked, cell: usize, j: usize) -> Result<Array, AllocError>
     requires cell { cell < length checked.now.cells }
     requires reference { HasReference checked.now.cells cell j }
     ensures { IfOk result (IsArrayOf checked.now.cells cell j) }
@@ -50,6 +50,63 @@ pub(crate) fn array_of(checked: &Checked, cell: usize, j: usize) -> Result<Array
     let target = checked.target_of(cell, j);
     let parent = &checked.cells()[cell];
     placing(&parent.references.reference(j), target)
+}
+
+/// Whether a cell has no shapes and one reference.
+fn is_wrapper(checked: &Checked, cell: usize) -> bool
+    ensures { IsTrue result → IsWrapper checked.now.cells cell }
+{
+    let Some(found) = checked.cells().get(cell) else {
+        return false;
+    };
+    if !found.shapes.is_empty() {
+        return false;
+    }
+    found.references.len() == 1
+}
+
+/// What the array of a wrapper places through it, or None if it can't be kept as one array.
+fn inner_of(array: &Array, inner: &Array) -> Result<Option<Array>, AllocError>
+    ensures { IfOk result (λ found. IfSome found (IsThrough array.now inner.now)) }
+{
+    let Some(by) = array.by.then(&inner.by) else {
+        return Ok(None);
+    };
+    let found = sums(&array.shifts, &inner.shifts, &array.by)?;
+    let Some(shifts) = found else {
+        return Ok(None);
+    };
+    let cell = inner.cell;
+    Ok(Some(Array { cell, by, shifts }))
+}
+
+/// What an array places through its cell, if that is a wrapper, or None if it isn't, or if this
+/// can't be kept as one array.
+fn through(checked: &Checked, array: &Array) -> Result<Option<Array>, AllocError>
+    ensures { IfOk result (λ found. IfSome found (CoversSame checked.now.cells array.now)) }
+{
+    if !is_wrapper(checked, array.cell) {
+        return Ok(None);
+    }
+    let inner = reference_at(checked, array.cell, 0)?;
+    inner_of(array, &inner)
+}
+
+/// What reference `j` of a cell places. A cell that has no shapes and one reference, as a row of
+/// cells, is seen through: what it places is taken as placed by the reference.
+pub(crate) fn array_of(checked: &Checked, cell: usize, j: usize) -> Result<Array, AllocError>
+    requires cell { cell < length checked.now.cells }
+    requires reference { HasReference checked.now.cells cell j }
+    ensures { IfOk result (IsArrayOf checked.now.cells cell j) }
+{
+    let mut array = reference_at(checked, cell, j)?;
+    for _ in 0..MOST_WRAPPERS {
+        match through(checked, &array)? {
+            Some(inner) => array = inner,
+            None => return Ok(array),
+        }
+    }
+    Ok(array)
 }
 
 impl Array {
@@ -63,15 +120,9 @@ impl Array {
         Some(Map { flip, turn, at })
     }
 
-    fn key(&self) -> Key {
-        let Map { flip, turn, at } = self.by;
-        let count = self.shifts.len();
-        let second = shift_at(&self.shifts, 1);
-        let last = shift_at(&self.shifts, count.saturating_sub(1));
-        (
-            (self.cell, at.x, at.y, quarters(turn), flip),
-            (count, second.x, second.y, last.x, last.y),
-        )
+    /// What arrays are sorted by. Different arrays can have the same key.
+    fn key(&self) -> (usize, Spot) {
+        (self.cell, self.spot())
     }
 
     /// Whether both place the same cell by the same map at the same shifts.

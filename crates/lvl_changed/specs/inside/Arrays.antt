@@ -4,7 +4,7 @@ use Rattle.lvl_grid.specs.declared.point.Point.{Point}
 use Rattle.lvl_grid.specs.declared.point.Square.{Square}
 use Rattle.lvl_grid.specs.declared.point.Window.{Window}
 use Rattle.lvl_grid.specs.Clip.{IsInWindow}
-use Rattle.lvl_grid.specs.Turn.{image_square}
+use Rattle.lvl_grid.specs.Turn.{image, image_square}
 use Rattle.lvl_names.specs.declared.layer.Layer.{Layer}
 use Rattle.lvl_cells.specs.Cells.{PlainCell, PlainReference, Rings, map_at}
 use Rattle.lvl_changed.specs.declared.arrays.Array.{Array}
@@ -12,6 +12,7 @@ use Rattle.lvl_changed.specs.declared.placed.Placed.{Placed}
 use Rattle.lvl_changed.specs.declared.placements.Placement.{Placement}
 use Rattle.lvl_changed.specs.declared.windows.Windows.{Windows}
 use Rattle.lvl_changed.specs.inside.Placements.{placed, partner_placed, PlacedCover, ReferencesCover}
+use Rattle.lvl_changed.specs.inside.Shifts.{AreSums}
 use Rattle.lvl_changed.specs.inside.Windows.{Has, Widens}
 
 -- the array as a reference, to a cell of no name
@@ -36,6 +37,23 @@ IsArrayOf cells i j a =
     (c : PlainCell Rings) (r : PlainReference) → slice_get cells i ≡ Some c → slice_get c.references j ≡ Some r
     → (layer : Layer) (s : Square)
     → PlacedCover cells (each_place a) layer s ↔ ReferencesCover cells (r ∷ []) layer s
+
+-- the cell at an index has no shapes and one reference
+abbrev pub IsWrapper : List (PlainCell Rings) → ℕ → Type 0
+IsWrapper cells i =
+    (c : PlainCell Rings) × (r : PlainReference) × (slice_get cells i ≡ Some c) × (c.shapes ≡ []) × (c.references ≡ r ∷ [])
+
+-- the first map is the second after the third, and the places are the sums of theirs
+pub record IsThrough (outer inner whole : Array) : Type 0 where
+  pub cell : whole.cell ≡ inner.cell
+  pub by : (p : Point) → image whole.by p ≡ image outer.by (image inner.by p)
+  pub shifts : AreSums outer.by outer.shifts inner.shifts whole.shifts
+
+-- both arrays cover the same
+abbrev pub CoversSame : List (PlainCell Rings) → Array → Array → Type 0
+CoversSame cells a b =
+    (layer : Layer) (s : Square)
+    → PlacedCover cells (each_place b) layer s ↔ PlacedCover cells (each_place a) layer s
 
 -- the new placements cover what the old ones or the array do
 abbrev pub AddsArray : List Placement → List Placement → Array → Type 0
