@@ -34,7 +34,7 @@ def placed(cell, x, y, columns=1, rows=1, a=(0, 0), b=(0, 0), flip=False, quarte
 
 
 def via():
-    return Cell("VIA", [(0, 0, 4, 4, 20), (1, 1, 3, 3, 21)], [])
+    return Cell("VIA", [(0, 0, 4, 4, 20)], [])
 
 
 def bit():

@@ -14,3 +14,4 @@ pub mod Own
 pub mod Missing
 pub mod Boxing
 pub mod Unchanged
+pub mod Leaving

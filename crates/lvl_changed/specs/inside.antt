@@ -4,3 +4,4 @@ pub mod Shifts
 pub mod Arrays
 pub mod Finding
 pub mod Shapes
+pub mod Figures

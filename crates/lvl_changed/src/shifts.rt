@@ -13,6 +13,11 @@ pub(crate) fn shift_at(shifts: &Offsets, k: u64) -> Point {
     }
 }
 
+/// The last shift.
+pub(crate) fn last_shift(shifts: &Offsets) -> Point {
+    shift_at(shifts, shifts.len().saturating_sub(1))
+}
+
 /// The point moved by a displacement, or None if that is outside 64 bits.
 pub(crate) fn moved(point: Point, by: Point) -> Option<Point>
     ensures { SomeIff result (FitsPoint (shifted by point)) (shifted by point) }

@@ -1,7 +1,7 @@
 //! Spots: where cells are placed, whichever they are.
 use crate::arrays::Array;
 use crate::placements::{Placement, quarters};
-use crate::shifts::shift_at;
+use crate::shifts::{last_shift, shift_at};
 use lvl_grid::Map;
 
 /// How a cell is placed first, then how many places there are, and the second and the last of them.
@@ -32,7 +32,7 @@ impl AtSpot for Array {
         let Map { flip, turn, at } = self.by;
         let count = self.shifts.len();
         let second = shift_at(&self.shifts, 1);
-        let last = shift_at(&self.shifts, count.saturating_sub(1));
+        let last = last_shift(&self.shifts);
         (
             (at.x, at.y, quarters(turn), flip),
             (count, second.x, second.y, last.x, last.y),

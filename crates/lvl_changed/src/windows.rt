@@ -62,7 +62,7 @@ pub(crate) fn spot(point: Point) -> Window
 }
 
 /// The window between two corners.
-fn between(low: Point, high: Point) -> Window
+pub(crate) fn between(low: Point, high: Point) -> Window
     ensures { result ≡ record { x0 = low.x; y0 = low.y; x1 = high.x; y1 = high.y } }
 {
     Window {
