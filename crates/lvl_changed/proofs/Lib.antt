@@ -1,7 +1,7 @@
+pub mod Lists
 pub mod Widening
 pub mod Moving
 pub mod Placing
-pub mod Lists
 pub mod Grid
 pub mod Sums
 pub mod SeenThrough

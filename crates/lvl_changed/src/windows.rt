@@ -1,5 +1,5 @@
 //! A few windows that together have all squares of some set, and possibly more.
-ghost use Rattle.std.specs.Prelude.{◌≡◌, ◌<◌, IsTrue, IfSome, OnOk, Contains, vec_len};
+ghost use Rattle.std.specs.Prelude.{◌≡◌, ◌<◌, ◌+◌, IsTrue, IfSome, OnOk, Contains, vec_len};
 ghost use Rattle.lvl_grid.specs.declared.point.Point.{Point as GridPoint};
 ghost use Rattle.lvl_grid.specs.declared.point.Square.{Square};
 ghost use Rattle.lvl_grid.specs.Clip.{IsInWindow};
@@ -21,8 +21,9 @@ use std::alloc::{AllocError, Global};
 /// The greatest number of places of an array at which windows are placed one by one.
 const MOST_PLACES: u64 = 4096;
 
-/// A set of squares: at most `most` windows, no two of which share a square (one, if `most` is 0),
-/// or the whole grid if `anywhere` is set.
+/// A set of squares: some windows, or the whole grid if `anywhere` is set. Windows that share a
+/// square are joined when one is added. If there are more than twice `most`, they are reduced to
+/// `most`, or to one.
 #[derive(Drop)]
 pub(crate) struct Windows {
     list: Vec<Window>,
@@ -43,10 +44,16 @@ fn has_no_square(window: Window) -> bool
     window.x0 >= window.x1 || window.y0 >= window.y1
 }
 
-/// The sum of the width and the height of a window, at most `u64::MAX`.
-fn girth(window: Window) -> u64 {
-    let width = window.x0.abs_diff(window.x1);
-    width.saturating_add(window.y0.abs_diff(window.y1))
+/// The number of squares of a window, at most `u128::MAX`.
+fn area(window: Window) -> u128 {
+    let width = u128::from(window.x0.abs_diff(window.x1));
+    width.saturating_mul(u128::from(window.y0.abs_diff(window.y1)))
+}
+
+/// The number of squares that two windows get if they are joined.
+fn growth(first: Window, second: Window) -> u128 {
+    let both = area(first).saturating_add(area(second));
+    area(first.joined(second)).saturating_sub(both)
 }
 
 /// The window from a point to the same point, which has no squares.
@@ -116,7 +123,7 @@ fn everywhere(window: &Window, array: &Array) -> Option<Window>
 }
 
 impl Windows {
-    /// The empty set. At most `most` windows are kept of those that are added, and at least one.
+    /// The empty set. If more than twice `most` windows are added, some are joined.
     pub(crate) fn none(alloc: Global, most: usize) -> Windows {
         Windows {
             list: Vec::new(alloc),
@@ -132,14 +139,19 @@ impl Windows {
         !self.anywhere && self.list.is_empty()
     }
 
-    /// The windows, or None if the set is the whole grid.
+    /// At most `most` windows, and at least one, unless the set has no squares. None if it is the
+    /// whole grid.
     pub(crate) fn into_list(self) -> Option<Vec<Window>>
         ensures { IfSome result (λ list. (s : Square) → Has self s → SomeHas list.items s) }
     {
-        if self.anywhere {
+        let most = self.most;
+        let mut reduced = self;
+        reduced.reduce(most);
+        let Windows { list, anywhere, .. } = reduced;
+        if anywhere {
             return None;
         }
-        Some(self.list)
+        Some(list)
     }
 
     /// Makes the set the whole grid.
@@ -149,27 +161,8 @@ impl Windows {
         self.anywhere = true;
     }
 
-    /// The index of a window that grows least if it is joined with the given one, or None if there
-    /// are no windows.
-    fn nearest(&self, window: Window) -> Option<usize>
-        ensures { IfSome result (λ i. i < vec_len self.now.list) }
-    {
-        let mut nearest = None;
-        let mut least = u64::MAX;
-        for i in 0..self.list.len() {
-            let other = self.list[i];
-            let growth = girth(other.joined(window)).saturating_sub(girth(other));
-            if nearest.is_none() || growth < least {
-                nearest = Some(i);
-                least = growth;
-            }
-        }
-        nearest
-    }
-
-    /// The index of a window to be joined with the given one before that is added: one that shares
-    /// a square with it, or the nearest if there are as many windows as there may be.
-    fn to_join(&self, window: Window) -> Option<usize>
+    /// The index of a window that shares a square with the given one.
+    fn met(&self, window: Window) -> Option<usize>
         ensures { IfSome result (λ i. i < vec_len self.now.list) }
     {
         for i in 0..self.list.len() {
@@ -177,15 +170,12 @@ impl Windows {
                 return Some(i);
             }
         }
-        if self.list.len() < self.most {
-            return None;
-        }
-        self.nearest(window)
+        None
     }
 
     /// Adds a window, unless it has no squares. It is joined with windows that share a square with
     /// it.
-    pub(crate) fn hold(&mut self, window: Window) -> Result<(), AllocError>
+    fn add(&mut self, window: Window) -> Result<(), AllocError>
         ensures held { OnOk result ((s : Square) → IsInWindow window s → Has self.new s) }
         ensures kept { OnOk result (Widens self.old self.new) }
     {
@@ -193,11 +183,68 @@ impl Windows {
             return Ok(());
         }
         let mut whole = window;
-        while let Some(i) = self.to_join(whole) {
+        while let Some(i) = self.met(whole) {
             let other = self.list.swap_remove(i);
             whole = whole.joined(other);
         }
         self.list.push(whole)?;
+        Ok(())
+    }
+
+    /// The index of a window that grows least if it is joined with the next, or None if there is no
+    /// next one.
+    fn closest(&self) -> Option<usize>
+        ensures { IfSome result (λ i. i + 1 < vec_len self.now.list) }
+    {
+        let mut closest = None;
+        let mut least = u128::MAX;
+        for i in 1..self.list.len() {
+            let grown = growth(self.list[i - 1], self.list[i]);
+            if closest.is_none() || grown < least {
+                closest = Some(i - 1);
+                least = grown;
+            }
+        }
+        closest
+    }
+
+    /// Joins a window with the next.
+    fn join_next(&mut self, i: usize)
+        requires { i + 1 < vec_len self.old.list }
+        ensures kept { Widens self.old self.new }
+        ensures fewer { vec_len self.new.list < vec_len self.old.list }
+    {
+        let next = self.list.remove(i + 1);
+        self.list[i] = self.list[i].joined(next);
+    }
+
+    /// If there are more than `limit` windows, joins some until there are at most `most`: from left
+    /// to right those that follow one another and grow least.
+    fn reduce(&mut self, limit: usize)
+        ensures { Widens self.old self.new }
+    {
+        if self.list.len() <= limit {
+            return;
+        }
+        self.list
+            .sort_unstable_by_key(|window| (window.x0, window.y0));
+        while self.list.len() > self.most {
+            let Some(i) = self.closest() else {
+                return;
+            };
+            self.join_next(i);
+        }
+    }
+
+    /// Adds a window, unless it has no squares. Of twice as many windows as are kept, some are
+    /// joined.
+    pub(crate) fn hold(&mut self, window: Window) -> Result<(), AllocError>
+        ensures held { OnOk result ((s : Square) → IsInWindow window s → Has self.new s) }
+        ensures kept { OnOk result (Widens self.old self.new) }
+    {
+        self.add(window)?;
+        let most = self.most.saturating_mul(2);
+        self.reduce(most);
         Ok(())
     }
 

@@ -2,7 +2,7 @@ use Rattle.std.proofs.Common.{◌⊎◌, vec_len}
 use Rattle.lvl_grid.specs.declared.point.Square.{Square}
 use Rattle.lvl_grid.specs.Clip.{IsInWindow}
 use Rattle.lvl_changed.specs.inside.Windows.{Has}
-use Rattle.lvl_changed.proofs.windows.Windows.hold.Given as goal
+use Rattle.lvl_changed.proofs.windows.Windows.add.Given as goal
 
 -- no square is lost
 abbrev pub invariant-loop-i : goal.invariant-loop-i
