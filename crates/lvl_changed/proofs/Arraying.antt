@@ -1,11 +1,10 @@
 -- What arrays cover, in terms of placements.
-use Rattle.std.proofs.Common.{◌≡◌, ◌↔◌, ◌⊎◌, ◌<◌, ◌≤◌, ◌+◌, ◌++◌, ◌∷◌, [], ℕ, List, Any, Contains, take, length, get_or}
-use Rattle.std.proofs.Common.{flat_map, inl, inr, refl, sym, ap, ◌∙◌, subst, map}
+use Rattle.std.proofs.Common.{◌≡◌, ◌↔◌, ◌⊎◌, ◌<◌, ◌+◌, ◌++◌, ◌∷◌, [], ℕ, List, Any, Contains, take, length, get_or}
+use Rattle.std.proofs.Common.{flat_map, inl, inr, sym, ap, ◌∙◌, subst, map}
 use Rattle.std.proofs.Common.{pos, ◌+ℤ◌, arith}
 use Rattle.std.proofs.lemmas.Int.{ints, clamps}
-use Rattle.std.proofs.lemmas.List.{take_more, take_all, append-nil}
-use Rattle.std.proofs.lemmas.List.Concat.{flat_map-append, flat_map-cons}
-use Rattle.std.proofs.lemmas.Option.{slice_get_within, get_or_from_slice_get}
+use Rattle.std.proofs.lemmas.List.{take_more}
+use Rattle.std.proofs.lemmas.List.Concat.{flat_map-cons}
 use Rattle.lvl_grid.specs.declared.point.Point.{Point}
 use Rattle.lvl_grid.specs.declared.point.Square.{Square}
 use Rattle.lvl_grid.specs.declared.map.Map.{Map}
@@ -21,11 +20,11 @@ use Rattle.lvl_changed.specs.inside.Windows.{Has}
 use Rattle.lvl_grid.proofs.Composing.{same_point}
 use Rattle.lvl_names.specs.declared.layer.Layer.{Layer}
 use Rattle.lvl_names.specs.Shifts.{one_place, IsBetween}
-use Rattle.lvl_cells.specs.Cells.{PlainCell, PlainReference, Rings, map_at}
+use Rattle.lvl_cells.specs.Cells.{PlainCell, Rings, map_at}
 use Rattle.lvl_changed.specs.declared.arrays.Array.{Array}
 use Rattle.lvl_changed.specs.declared.placements.Placement.{Placement}
 use Rattle.lvl_changed.specs.inside.Arrays.{as_reference, each_place, every_place, HasEach, IsListed}
-use Rattle.lvl_changed.specs.inside.Placements.{HaveSame, placed, PlacedCover, PlacementCovers}
+use Rattle.lvl_changed.specs.inside.Placements.{HaveSame, PlacedCover, PlacementCovers}
 use Rattle.lvl_changed.proofs.Placing.{same_cover}
 
 any_flat : {X Y : Type 0} (P : Y → Type 0) (f : X → List Y) (xs : List X)

@@ -1,9 +1,8 @@
 -- Cells that place one cell only, seen through.
-use Rattle.std.proofs.Common.{◌≡◌, ◌↔◌, ◌⊎◌, ◌∷◌, [], List, Any, Contains, Some, slice_get, inl, inr, refl, sym, ap, ◌∙◌}
+use Rattle.std.proofs.Common.{◌≡◌, ◌↔◌, ◌∷◌, [], List, Any, Contains, Some, slice_get, inl, inr, refl, sym, ap, ◌∙◌}
 use Rattle.std.proofs.Common.{subst}
 use Rattle.lvl_grid.specs.declared.point.Point.{Point}
 use Rattle.lvl_grid.specs.declared.point.Square.{Square}
-use Rattle.lvl_grid.specs.declared.map.Map.{Map}
 use Rattle.lvl_grid.specs.Turn.{image, image_square, shifted}
 use Rattle.lvl_grid.proofs.Anyone.{some_contained, Any-map, Any-nil}
 use Rattle.lvl_grid.proofs.Squares.{image_square-composed}

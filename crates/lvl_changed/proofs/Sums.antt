@@ -1,5 +1,5 @@
 -- Sums of shifts.
-use Rattle.std.proofs.Common.{◌≡◌, ◌↔◌, ◌<◌, ℕ, ℤ, pos, neg_ℤ, ◌+ℤ◌, ◌*ℤ◌, List, ◌∷◌, [], Contains, refl, sym, ap, ◌∙◌, subst, arith}
+use Rattle.std.proofs.Common.{◌≡◌, ◌<◌, ℕ, pos, List, Contains, refl, sym, ap, ◌∙◌, subst, arith}
 use Rattle.std.proofs.Common.{Bool, true, false, get_or}
 use Rattle.std.proofs.lemmas.Int.{ints}
 use Rattle.lvl_grid.specs.declared.point.Point.{Point}
@@ -10,7 +10,7 @@ use Rattle.lvl_grid.specs.Turn.{turned, reflected, shifted, image}
 use Rattle.lvl_grid.proofs.Composing.{same_point, turned_shifted, reflected_shifted, shifted_twice}
 use Rattle.lvl_names.specs.Shifts.{steps, lattice, one_place}
 use Rattle.lvl_changed.specs.inside.Shifts.{AreSums, turned_by}
-use Rattle.lvl_changed.proofs.Grid.{OnLattice, lattice_has, turned_steps, reflected_steps, zero_times}
+use Rattle.lvl_changed.proofs.Grid.{lattice_has, turned_steps, reflected_steps, zero_times}
 
 map_moved : (m : Map) (e p : Point)
     → image (record { flip = m.flip; turn = m.turn; at = shifted m.at e }) p ≡ shifted e (image m p)

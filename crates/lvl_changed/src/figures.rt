@@ -3,15 +3,22 @@ ghost use Rattle.std.specs.Prelude.{◌≡◌, ◌<◌, length, IsTrue};
 ghost use Rattle.lvl_cells.specs.Cells.{shape_at};
 ghost use Rattle.lvl_changed.specs.inside.Figures.{AreAlike, HasAlike};
 
-use crate::shifts::{are_same, last_shift, shift_at};
+use crate::shifts::{are_same, last_shift};
 use lvl_cells::{MovedRing, Shapes};
 use lvl_view::View;
 use std::alloc::{AllocError, Global};
 use std::cmp::Ordering;
+use std::hash::{FoldHasher, Hasher};
 
-/// What shapes are sorted by before their points are looked at: Layer, counts of rings and shifts,
-/// the second and the last shift.
-type Key = ((u32, u32), (usize, u64), (i64, i64), (i64, i64));
+/// The greatest number of shapes with one key that are tried for a shape.
+const MOST_TRIED: usize = 16;
+
+/// A shape, by its index, and its key.
+#[derive(Clone, Copy)]
+pub(crate) struct Keyed {
+    key: u64,
+    shape: usize,
+}
 
 /// The shapes of a cell, whose Layers count as those to which a view maps them.
 #[derive(Clone, Copy)]
@@ -20,18 +27,14 @@ pub(crate) struct Seen<'a> {
     pub view: &'a View,
 }
 
-/// Compares two rings point by point, then by length.
-fn compare_rings(first: &MovedRing<'_>, second: &MovedRing<'_>) -> Ordering {
-    for k in 0..first.len() {
-        let (Some(a), Some(b)) = (first.get(k), second.get(k)) else {
-            return Ordering::Greater;
-        };
-        let order = (a.x, a.y).cmp(&(b.x, b.y));
-        if order != Ordering::Equal {
-            return order;
+/// Hashes the points of a ring.
+fn hash_ring(hasher: &mut FoldHasher, ring: &MovedRing<'_>) {
+    for k in 0..ring.len() {
+        if let Some(point) = ring.get(k) {
+            hasher.write_i64(point.x);
+            hasher.write_i64(point.y);
         }
     }
-    first.len().cmp(&second.len())
 }
 
 /// Whether both rings have the same points in the same order.
@@ -83,57 +86,53 @@ fn have_same_shifts(first: &Shapes, i: usize, second: &Shapes, j: usize) -> bool
 }
 
 impl<'a> Seen<'a> {
-    fn key(&self, i: usize) -> Key
+    /// A number that shapes have in common that are the same, and few others have. Keys only guide
+    /// the search, so they have no contracts.
+    fn key(&self, i: usize) -> u64
         requires { i < length self.now.shapes.now }
     {
         let layer = self.view.target(self.shapes.layer(i));
-        let counts = (self.shapes.ring_count(i), self.shapes.shift_count(i));
-        let mut second = (0, 0);
-        let mut last = (0, 0);
+        let mut hasher = FoldHasher::default();
+        hasher.write_i64(i64::from(layer.layer));
+        hasher.write_i64(i64::from(layer.datatype));
+        hasher.write_u64(self.shapes.shift_count(i));
         if let Some(shifts) = self.shapes.shifts(i) {
-            let (one, other) = (shift_at(shifts, 1), last_shift(shifts));
-            second = (one.x, one.y);
-            last = (other.x, other.y);
+            let last = last_shift(shifts);
+            hasher.write_i64(last.x);
+            hasher.write_i64(last.y);
         }
-        ((layer.layer, layer.datatype), counts, second, last)
+        for j in 0..self.shapes.ring_count(i) {
+            hash_ring(&mut hasher, &self.shapes.ring(i, j));
+        }
+        hasher.finish()
     }
 }
 
-/// Compares the figures of shape `i` of the first and shape `j` of the second, ring by ring.
-fn compare_figures(first: &Shapes, i: usize, second: &Shapes, j: usize) -> Ordering
-    requires first { i < length first.now }
-    requires second { j < length second.now }
-{
-    for k in 0..first.ring_count(i) {
-        if k >= second.ring_count(j) {
-            return Ordering::Greater;
-        }
-        let order = compare_rings(&first.ring(i, k), &second.ring(j, k));
-        if order != Ordering::Equal {
-            return order;
-        }
+/// The shapes in order of their keys.
+pub(crate) fn keys_of(alloc: Global, seen: Seen<'_>) -> Result<Vec<Keyed>, AllocError> {
+    let mut keys = Vec::with_capacity(alloc, seen.shapes.len())?;
+    for shape in 0..seen.shapes.len() {
+        let key = seen.key(shape);
+        keys.push(Keyed { key, shape })?;
     }
-    Ordering::Equal
+    keys.sort_unstable_by_key(|keyed| keyed.key);
+    Ok(keys)
 }
 
-/// Compares shape `i` of the first with shape `j` of the second. All shapes that compare as equal
-/// are the same, except for the shifts of lists.
-fn compare_shapes(first: Seen<'_>, i: usize, second: Seen<'_>, j: usize) -> Ordering {
-    if i >= first.shapes.len() || j >= second.shapes.len() {
-        return i.cmp(&j);
+/// Puts a key before another one, and not at the same place.
+fn side_of(keyed: &Keyed, key: u64) -> Ordering {
+    if keyed.key < key {
+        return Ordering::Less;
     }
-    let order = first.key(i).cmp(&second.key(j));
-    if order != Ordering::Equal {
-        return order;
-    }
-    compare_figures(first.shapes, i, second.shapes, j)
+    Ordering::Greater
 }
 
-/// The indexes of the shapes, sorted by [`compare_shapes`].
-pub(crate) fn order_of(alloc: Global, seen: Seen<'_>) -> Result<Vec<usize>, AllocError> {
-    let mut order: Vec<usize> = (0..seen.shapes.len()).collect(alloc)?;
-    order.sort_unstable_by(|i, j| compare_shapes(seen, *i, seen, *j));
-    Ok(order)
+/// The index of the first shape whose key isn't less than the given one.
+fn first_of(keys: &[Keyed], key: u64) -> usize {
+    match keys.binary_search_by(|keyed| side_of(keyed, key)) {
+        Ok(place) => place,
+        Err(place) => place,
+    }
 }
 
 /// Whether shape `i` of the first and shape `j` of the second are the same and count as being on
@@ -157,15 +156,23 @@ fn are_same_shapes(first: Seen<'_>, i: usize, second: Seen<'_>, j: usize) -> boo
     have_same_shifts(first.shapes, i, second.shapes, j)
 }
 
-/// Whether the others have a shape that is the same as shape `i`. `order` has the sorted indexes of
-/// the others, else `false` says nothing.
-pub(crate) fn has_shape(others: Seen<'_>, order: &[usize], seen: Seen<'_>, i: usize) -> bool
+/// Whether the others have a shape that is the same as shape `i`. `keys` has the others in order of
+/// their keys, else `false` says nothing.
+pub(crate) fn has_shape(others: Seen<'_>, keys: &[Keyed], seen: Seen<'_>, i: usize) -> bool
     requires { i < length seen.shapes.now }
     ensures { IsTrue result → HasAlike seen.entry.view.now.pairs seen.entry.shapes.now i
         others.entry.view.now.pairs others.entry.shapes.now }
 {
-    match order.binary_search_by(|j| compare_shapes(others, *j, seen, i)) {
-        Ok(place) => are_same_shapes(seen, i, others, order[place]),
-        Err(_) => false,
+    let key = seen.key(i);
+    let start = first_of(keys, key);
+    for at in start..keys.len().min(start.saturating_add(MOST_TRIED)) {
+        let found = keys[at];
+        if found.key != key {
+            return false;
+        }
+        if are_same_shapes(seen, i, others, found.shape) {
+            return true;
+        }
     }
+    false
 }

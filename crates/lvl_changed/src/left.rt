@@ -8,7 +8,7 @@ ghost use Rattle.lvl_cells.specs.Coverage.{ShapeCovers};
 ghost use Rattle.lvl_changed.specs.inside.Figures.{AreLeft};
 ghost use Rattle.lvl_changed.specs.inside.Shapes.{ShapesCover};
 
-use crate::figures::{Seen, has_shape, order_of};
+use crate::figures::{Seen, has_shape, keys_of};
 use lvl_cells::{Cell, References, Shapes};
 use lvl_names::Offsets;
 use lvl_view::View;
@@ -63,10 +63,10 @@ fn alone(
         shapes: others,
         view: other_view,
     };
-    let order = order_of(alloc, there)?;
+    let keys = keys_of(alloc, there)?;
     let mut left = Shapes::new(alloc);
     for i in 0..shapes.len() {
-        if !has_shape(there, &order, seen, i) {
+        if !has_shape(there, &keys, seen, i) {
             push_left(alloc, &mut left, shapes, i)?;
         }
     }

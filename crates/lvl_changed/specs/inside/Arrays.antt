@@ -13,7 +13,7 @@ use Rattle.lvl_changed.specs.declared.placements.Placement.{Placement}
 use Rattle.lvl_changed.specs.declared.windows.Windows.{Windows}
 use Rattle.lvl_changed.specs.inside.Placements.{placed, partner_placed, PlacedCover, ReferencesCover}
 use Rattle.lvl_changed.specs.inside.Shifts.{AreSums}
-use Rattle.lvl_changed.specs.inside.Windows.{Has, Widens}
+use Rattle.lvl_changed.specs.inside.Windows.{Has}
 
 -- the array as a reference, to a cell of no name
 abbrev pub as_reference : Array → PlainReference

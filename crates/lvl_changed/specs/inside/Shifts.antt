@@ -1,9 +1,9 @@
 -- Lattices of shifts, and their sums.
-use Rattle.std.specs.Prelude.{◌≡◌, ◌<◌, ℕ, List, Contains}
+use Rattle.std.specs.Prelude.{◌≡◌, ◌<◌, List, Contains}
 use Rattle.lvl_grid.specs.declared.point.Point.{Point}
 use Rattle.lvl_grid.specs.declared.map.Map.{Map}
 use Rattle.lvl_grid.specs.Turn.{turned, reflected, shifted}
-use Rattle.lvl_names.specs.Shifts.{steps, lattice}
+use Rattle.lvl_names.specs.Shifts.{lattice}
 use Rattle.lvl_changed.specs.declared.lattices.Lattice.{Lattice}
 
 -- the shifts of the lattice

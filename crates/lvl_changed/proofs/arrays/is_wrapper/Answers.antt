@@ -2,7 +2,7 @@ use Rattle.std.proofs.Common.{◌≡◌, List, Some, length, slice_get, sym, ap,
 use Rattle.std.proofs.lemmas.Bool.Decides.{nat_tests}
 use Rattle.std.proofs.lemmas.Grind.{common_steps}
 use Rattle.std.proofs.lemmas.Option.{gets}
-use Rattle.lvl_cells.specs.Cells.{PlainCell, PlainReference, PlainShape, Rings}
+use Rattle.lvl_cells.specs.Cells.{PlainCell, Rings}
 use Rattle.lvl_changed.proofs.Lists.{one_element}
 use Rattle.lvl_changed.proofs.arrays.is_wrapper.Goals as goal
 

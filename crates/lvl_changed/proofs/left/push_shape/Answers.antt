@@ -1,5 +1,4 @@
-use Rattle.std.proofs.Common.{◌≡◌, ◌<◌, ◌++◌, ◌∷◌, [], List, length, get_or, sym, ap, ◌∙◌, subst, arith}
-use Rattle.std.proofs.lemmas.List.{take_all}
+use Rattle.std.proofs.Common.{◌≡◌, ◌<◌, ◌++◌, ◌∷◌, [], List, length, ap, ◌∙◌, arith}
 use Rattle.lvl_grid.specs.declared.point.Point.{Point}
 use Rattle.lvl_names.specs.declared.layer.Layer.{Layer}
 use Rattle.lvl_cells.specs.Cells.{PlainShape, Rings, shape_at}

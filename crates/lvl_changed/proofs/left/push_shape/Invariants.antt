@@ -1,6 +1,5 @@
 use Rattle.std.proofs.Common.{◌↔◌, ◌⊎◌, take}
 use Rattle.lvl_grid.specs.declared.point.Square.{Square}
-use Rattle.lvl_grid.specs.Winding.{SomeCovers}
 use Rattle.lvl_names.specs.declared.layer.Layer.{Layer}
 use Rattle.lvl_cells.specs.Cells.{shape_at}
 use Rattle.lvl_changed.specs.inside.Shapes.{ShapesCover}

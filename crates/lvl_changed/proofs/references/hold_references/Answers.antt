@@ -10,7 +10,7 @@ use Rattle.lvl_changed.specs.declared.windows.Windows.{Windows}
 use Rattle.lvl_changed.specs.inside.Arrays.{all_places}
 use Rattle.lvl_changed.specs.inside.Finding.{AreFound}
 use Rattle.lvl_changed.specs.inside.Placements.{PlacedCover, ReferencesCover}
-use Rattle.lvl_changed.specs.inside.Windows.{AlikeOutside, Has}
+use Rattle.lvl_changed.specs.inside.Windows.{AlikeOutside}
 use Rattle.lvl_changed.proofs.Placing.{refer_alike}
 use Rattle.lvl_changed.proofs.Widening.{widens_further}
 use Rattle.lvl_changed.proofs.references.hold_references.Goals as goal

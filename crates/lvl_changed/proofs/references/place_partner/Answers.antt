@@ -1,4 +1,4 @@
-use Rattle.std.proofs.Common.{◌↔◌, ◌⊎◌, ℕ, Option, Some, sym, subst}
+use Rattle.std.proofs.Common.{◌↔◌, ◌⊎◌, ℕ, Option, sym, subst}
 use Rattle.lvl_changed.specs.inside.Arrays.{all_places, as_reference}
 use Rattle.lvl_changed.specs.inside.Placements.{partner_placed, PlacedCover}
 use Rattle.lvl_changed.proofs.Arraying.{none_added}

@@ -1,4 +1,4 @@
-use Rattle.std.proofs.Common.{◌<◌, ◌≤◌, List, length, subst, arith}
+use Rattle.std.proofs.Common.{◌<◌, ◌≤◌, length, subst, arith}
 use Rattle.std.proofs.lemmas.List.{take_all}
 use Rattle.lvl_cells.specs.Cells.{PlainShape, Rings, shape_at}
 use Rattle.lvl_changed.proofs.Leaving.{no_rings, ring_held, RingsCover}

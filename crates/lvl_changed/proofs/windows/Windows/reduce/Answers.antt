@@ -1,6 +1,6 @@
 use Rattle.std.proofs.Common.{refl}
 use Rattle.lvl_changed.specs.declared.windows.Windows.{Windows}
-use Rattle.lvl_changed.proofs.Widening.{sorted_has, widens_further, widens_itself}
+use Rattle.lvl_changed.proofs.Widening.{sorted_has, widens_further}
 use Rattle.lvl_changed.proofs.windows.Windows.reduce.Goals as goal
 
 pub returns-in_default : goal.returns-in_default
