@@ -1,6 +1,6 @@
 -- Lattices.
-use Rattle.std.proofs.Common.{◌≡◌, ◌↔◌, ◌<◌, ◌≤◌, ◌+◌, ◌-◌, ◌*◌, ◌/◌, ◌%◌, ℕ, ℤ, pos, neg_ℤ, ◌+ℤ◌, ◌*ℤ◌, Contains, length, get_or}
-use Rattle.std.proofs.Common.{suc, refl, sym, ◌∙◌, subst, arith, Bool, true, false}
+use Rattle.std.proofs.Common.{◌≡◌, ◌↔◌, ◌<◌, ◌≤◌, ◌+◌, ◌*◌, ◌/◌, ◌%◌, ℕ, ℤ, pos, neg_ℤ, ◌+ℤ◌, ◌*ℤ◌, Contains, length, get_or}
+use Rattle.std.proofs.Common.{suc, refl, sym, ◌∙◌, arith, Bool, true, false}
 use Rattle.std.proofs.lemmas.Int.{ints}
 use Rattle.std.proofs.Math.Nat.{mul-le-mul_left, div-lt_iff_lt-mul}
 use Rattle.std.proofs.lemmas.Nat.{mod-mul-add, div-mul-add}
@@ -9,7 +9,7 @@ use Rattle.std.proofs.lemmas.List.FromFn.{length-map-range_with_len}
 use Rattle.lvl_grid.specs.declared.point.Point.{Point}
 use Rattle.lvl_grid.specs.declared.map.Turn.{Turn}
 use Rattle.lvl_grid.specs.declared.map.Turn.TheVariants.{R0, R90, R180, R270}
-use Rattle.lvl_grid.specs.Turn.{turned, reflected, shifted}
+use Rattle.lvl_grid.specs.Turn.{turned, reflected}
 use Rattle.lvl_grid.proofs.Composing.{same_point}
 use Rattle.lvl_names.specs.Shifts.{steps, lattice}
 
@@ -25,9 +25,6 @@ plus_swap i j a b = omega (arith, ints)
 
 pub zero_times : (a : ℤ) → pos 0 *ℤ a ≡ pos 0
 zero_times a = grind (arith, ints)
-
-back : (m i : ℕ) (a : ℤ) → i < m → (pos (m - 1 - i) *ℤ neg_ℤ a) +ℤ (pos (m - 1) *ℤ a) ≡ pos i *ℤ a
-back m i a h = grind (arith, ints)
 
 pub turned_steps : (t : Turn) (a : Point) (i : ℕ) (b : Point) (j : ℕ)
     → turned t (steps a i b j) ≡ steps (turned t a) i (turned t b) j
@@ -73,26 +70,3 @@ lattice_has a m b n e some =
 pub swapped : (a : Point) (m : ℕ) (b : Point) (n : ℕ) (e : Point) → OnLattice a m b n e → OnLattice b n a m e
 swapped a m b n e on =
     (on.1, on.0, on.3, on.2, same_point _ _ (plus_swap on.1 on.0 b.x a.x) (plus_swap on.1 on.0 b.y a.y) ∙ on.4)
-
--- the opposite of a point
-abbrev pub opposite : Point → Point
-opposite a = record { x = neg_ℤ a.x; y = neg_ℤ a.y }
-
-back_along : (m i : ℕ) (a : ℤ) (j : ℕ) (b at : ℤ) → i < m
-    → ((pos i *ℤ a) +ℤ (pos j *ℤ b)) +ℤ at
-    ≡ ((pos (m - 1 - i) *ℤ neg_ℤ a) +ℤ (pos j *ℤ b)) +ℤ (at +ℤ (pos (m - 1) *ℤ a))
-back_along m i a j b at h = omega (arith, ints, back m i a h)
-
--- from the last column on
-pub turned_back : (a : Point) (m : ℕ) (b : Point) (n : ℕ) (at e : Point) → OnLattice a m b n e
-    → (f : Point) × OnLattice (opposite a) m b n f
-    × (shifted at e ≡ shifted (shifted (steps a (m - 1) b 0) at) f)
-turned_back a m b n at e on = (
-  steps (opposite a) (m - 1 - on.0) b on.1,
-  (m - 1 - on.0, on.1, omega (arith, on.2), on.3, refl),
-  subst (λ (q : Point). shifted at q ≡ shifted (shifted (steps a (m - 1) b 0) at)
-      (steps (opposite a) (m - 1 - on.0) b on.1)) on.4
-      (same_point _ _
-      (omega (arith, ints, back_along m on.0 a.x on.1 b.x at.x on.2, zero_times b.x))
-      (omega (arith, ints, back_along m on.0 a.y on.1 b.y at.y on.2, zero_times b.y))),
-)

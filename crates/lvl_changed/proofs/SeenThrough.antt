@@ -1,6 +1,6 @@
 -- Cells that place one cell only, seen through.
 use Rattle.std.proofs.Common.{◌≡◌, ◌↔◌, ◌∷◌, [], List, Any, Contains, Some, slice_get, inl, inr, refl, sym, ap, ◌∙◌}
-use Rattle.std.proofs.Common.{subst}
+use Rattle.std.proofs.Common.{ℕ, map, subst}
 use Rattle.lvl_grid.specs.declared.point.Point.{Point}
 use Rattle.lvl_grid.specs.declared.point.Square.{Square}
 use Rattle.lvl_grid.specs.Turn.{image, image_square, shifted}
@@ -13,7 +13,7 @@ use Rattle.lvl_grid.specs.Winding.{SomeCovers}
 use Rattle.lvl_flat.specs.Flattened.{CoversAt}
 use Rattle.lvl_changed.specs.declared.arrays.Array.{Array}
 use Rattle.lvl_changed.specs.declared.placements.Placement.{Placement}
-use Rattle.lvl_changed.specs.inside.Arrays.{as_reference, each_place}
+use Rattle.lvl_changed.specs.inside.Arrays.{as_reference, each_place, IsArrayOf, IsReordered}
 use Rattle.lvl_changed.specs.inside.Placements.{PlacedCover, PlacementCovers, ReferencesCover}
 use Rattle.lvl_changed.specs.inside.Shifts.{AreSums, turned_by}
 use Rattle.lvl_changed.proofs.Moving.{covers_both}
@@ -81,4 +81,23 @@ seen_through cells a inner outer c r at none one same composed sums l is s =
             image_is f g d.4.0 ∙ (ap (image_square (map_at (as_reference a) f)) d.4.1 ∙ e.4.1),
             subst (λ k. CoversAt cells k l d.4.0) (sym same) d.4.2,
           )),
+    )
+
+one_way : (cells : List (PlainCell Rings)) (f : Point → Placement) (xs ys : List Point) (l : Layer) (s : Square)
+    → ((e : Point) → Contains xs e → Contains ys e) → PlacedCover cells (map f xs) l s
+    → PlacedCover cells (map f ys) l s
+one_way cells f xs ys l s same covers =
+    let P : Placement → Type 0 = PlacementCovers cells l s in
+    let at = (Any-map P f xs).0 covers in
+    (Any-map P f ys).1 (some_contained (λ e. P (f e)) ys at.1 (same at.1 (at.0, at.2, at.3)) at.4)
+
+-- an array with its shifts in another order is of the same reference
+pub array_reordered : (cells : List (PlainCell Rings)) (i j : ℕ) (a b : Array) → IsReordered a b
+    → IsArrayOf cells i j a → IsArrayOf cells i j b
+array_reordered cells i j a b same of c r at there l s =
+    let f : Point → Placement = λ e. record { cell = a.cell; map = map_at (as_reference a) e } in
+    let whole = of c r at there l s in
+    subst (λ (x : Array). PlacedCover cells (each_place x) l s ↔ ReferencesCover cells (r ∷ []) l s) (sym same.0) (
+      λ x. whole.0 (one_way cells f b.shifts a.shifts l s (λ e h. (same.1 e).1 h) x),
+      λ x. one_way cells f a.shifts b.shifts l s (λ e h. (same.1 e).0 h) (whole.1 x),
     )

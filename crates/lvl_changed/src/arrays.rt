@@ -3,9 +3,9 @@ ghost use Rattle.std.specs.Prelude.{◌≡◌, ◌<◌, ◌↔◌, length, Conta
 ghost use Rattle.lvl_cells.specs.Checks.{HasReference};
 ghost use Rattle.lvl_flat.specs.Placing.{IsPlacing};
 ghost use Rattle.lvl_changed.specs.declared.arrays.Array.{Array as PlainArray};
-ghost use Rattle.lvl_changed.specs.inside.Arrays.{as_reference, CoversSame, IsArrayOf, IsThrough, IsWrapper};
+ghost use Rattle.lvl_changed.specs.inside.Arrays.{as_reference, CoversSame, IsArrayOf, IsReordered, IsThrough, IsWrapper};
 
-use crate::lattices::sums;
+use crate::lattices::{reordered, sums};
 use crate::shifts::{are_same, moved};
 use crate::spots::{AtSpot, Spot};
 use lvl_cells::{Checked, KeptReference};
@@ -92,8 +92,20 @@ fn through(checked: &Checked, array: &Array) -> Result<Option<Array>, AllocError
     inner_of(array, &inner)
 }
 
+/// The array with the steps of its lattice in their order.
+fn in_order(array: Array) -> Array
+    ensures { IsReordered array result }
+{
+    let Some(shifts) = reordered(&array.shifts) else {
+        return array;
+    };
+    let Array { cell, by, .. } = array;
+    Array { cell, by, shifts }
+}
+
 /// What reference `j` of a cell places. A cell that has no shapes and one reference, as a row of
-/// cells, is seen through: what it places is taken as placed by the reference.
+/// cells, is seen through: what it places is taken as placed by the reference. The steps of a lattice are in an
+/// order of their own.
 pub(crate) fn array_of(checked: &Checked, cell: usize, j: usize) -> Result<Array, AllocError>
     requires cell { cell < length checked.now.cells }
     requires reference { HasReference checked.now.cells cell j }
@@ -103,10 +115,10 @@ pub(crate) fn array_of(checked: &Checked, cell: usize, j: usize) -> Result<Array
     for _ in 0..MOST_WRAPPERS {
         match through(checked, &array)? {
             Some(inner) => array = inner,
-            None => return Ok(array),
+            None => return Ok(in_order(array)),
         }
     }
-    Ok(array)
+    Ok(in_order(array))
 }
 
 impl Array {

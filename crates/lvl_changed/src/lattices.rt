@@ -1,6 +1,6 @@
 //! Lattices of shifts: their steps and counts, their sums, and the form in which they are compared.
 ghost use Rattle.std.specs.Prelude.{◌≡◌, IfOk, IfSome};
-ghost use Rattle.lvl_changed.specs.inside.Shifts.{AreSums, IsLatticeOf, SamePlaces, shifts_of, turned_by};
+ghost use Rattle.lvl_changed.specs.inside.Shifts.{AreSame, AreSums, IsLatticeOf, turned_by};
 
 use crate::shifts::{are_same, shift_at};
 use lvl_grid::{Map, Point};
@@ -84,6 +84,12 @@ fn turned(by: &Map, step: Point) -> Option<Point>
     turns.place(step)
 }
 
+/// Whether a step comes before another one in a lattice: first is the one that goes up or down less.
+fn comes_first(step: Point, other: Point) -> bool {
+    let (up, across) = (step.y.unsigned_abs(), step.x.unsigned_abs());
+    (up, across) < (other.y.unsigned_abs(), other.x.unsigned_abs())
+}
+
 /// The sums of a shift of the first and a shift of the second as the map turns it, or None if they
 /// can't be kept as they are, or as one lattice.
 pub(crate) fn sums(
@@ -113,5 +119,20 @@ fn lattice_of_sums(outer: &Offsets, inner: &Offsets, by: &Map) -> Option<Offsets
     if line.rows != 1 || steps.rows != 1 {
         return None;
     }
+    if comes_first(across, steps.across) {
+        return Offsets::lattice(across, line.columns, steps.across, steps.columns);
+    }
     Offsets::lattice(steps.across, steps.columns, across, line.columns)
+}
+
+/// The same shifts as a lattice whose steps are in their order, or None if they are in it already,
+/// or aren't found to be a lattice.
+pub(crate) fn reordered(shifts: &Offsets) -> Option<Offsets>
+    ensures { IfSome result (AreSame shifts.now) }
+{
+    let found = lattice_of(shifts)?;
+    if found.rows == 1 || !comes_first(found.up, found.across) {
+        return None;
+    }
+    Offsets::lattice(found.up, found.rows, found.across, found.columns)
 }

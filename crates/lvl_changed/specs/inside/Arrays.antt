@@ -12,7 +12,7 @@ use Rattle.lvl_changed.specs.declared.placed.Placed.{Placed}
 use Rattle.lvl_changed.specs.declared.placements.Placement.{Placement}
 use Rattle.lvl_changed.specs.declared.windows.Windows.{Windows}
 use Rattle.lvl_changed.specs.inside.Placements.{placed, partner_placed, PlacedCover, ReferencesCover}
-use Rattle.lvl_changed.specs.inside.Shifts.{AreSums}
+use Rattle.lvl_changed.specs.inside.Shifts.{AreSame, AreSums}
 use Rattle.lvl_changed.specs.inside.Windows.{Has}
 
 -- the array as a reference, to a cell of no name
@@ -48,6 +48,10 @@ pub record IsThrough (outer inner whole : Array) : Type 0 where
   pub cell : whole.cell ≡ inner.cell
   pub by : (p : Point) → image whole.by p ≡ image outer.by (image inner.by p)
   pub shifts : AreSums outer.by outer.shifts inner.shifts whole.shifts
+
+-- the second array is the first with the same shifts in another order
+abbrev pub IsReordered : Array → Array → Type 0
+IsReordered a b = (b ≡ record { cell = a.cell; by = a.by; shifts = b.shifts }) × AreSame a.shifts b.shifts
 
 -- both arrays cover the same
 abbrev pub CoversSame : List (PlainCell Rings) → Array → Array → Type 0

@@ -1,5 +1,5 @@
 -- Lattices of shifts, and their sums.
-use Rattle.std.specs.Prelude.{◌≡◌, ◌<◌, List, Contains}
+use Rattle.std.specs.Prelude.{◌≡◌, ◌↔◌, ◌<◌, List, Contains}
 use Rattle.lvl_grid.specs.declared.point.Point.{Point}
 use Rattle.lvl_grid.specs.declared.map.Map.{Map}
 use Rattle.lvl_grid.specs.Turn.{turned, reflected, shifted}
@@ -26,12 +26,6 @@ pub record AreSums (m : Map) (outer inner sums : List Point) : Type 0 where
   pub only : (e : Point) → Contains sums e
       → (f : Point) × (g : Point) × Contains outer f × Contains inner g × (e ≡ shifted f (turned_by m g))
 
--- each place of the first shifts from the first point is one of the second from the second
-abbrev pub GoTo : Point → List Point → Point → List Point → Type 0
-GoTo at shifts to others =
-    (e : Point) → Contains shifts e → (f : Point) × Contains others f × (shifted at e ≡ shifted to f)
-
--- the places are the same
-pub record SamePlaces (at : Point) (shifts : List Point) (to : Point) (others : List Point) : Type 0 where
-  pub there : GoTo at shifts to others
-  pub back : GoTo to others at shifts
+-- both lists have the same shifts
+abbrev pub AreSame : List Point → List Point → Type 0
+AreSame shifts others = (e : Point) → Contains shifts e ↔ Contains others e

@@ -4,7 +4,7 @@ use Rattle.lvl_grid.specs.declared.map.Map.{Map}
 use Rattle.lvl_names.specs.Shifts.{lattice}
 use Rattle.lvl_changed.specs.declared.lattices.Lattice.{Lattice}
 use Rattle.lvl_changed.specs.inside.Shifts.{AreSums, turned_by}
-use Rattle.lvl_changed.proofs.Sums.{sums_inner, sums_lines}
+use Rattle.lvl_changed.proofs.Sums.{sums_inner, sums_lines, sums_swapped}
 use Rattle.lvl_changed.proofs.Lists.{if_same}
 use Rattle.lvl_changed.proofs.lattices.lattice_of_sums.Goals as goal
 
@@ -27,6 +27,27 @@ returns-then-is_single c =
     l.rows) (sym c.in_ok-up.ensures) turned) in
     if_same (AreSums c.args.by.now c.args.outer.now c.args.inner.now) c.lattice.result
     (lattice c.in_ok-across.across l.columns c.in_ok-up.up l.rows) sums c.lattice.ensures.same
+
+pub returns-then-comes_first : goal.returns-then-comes_first
+returns-then-comes_first c =
+    let l : Lattice = c.in_ok-line.line in
+    let is = c.in_ok-line.ensures in
+    let k : Lattice = c.in_ok-steps.steps in
+    let first = c.in_ok-steps.ensures in
+    let one : c.args.outer.now ≡ lattice k.across k.columns k.up 1 =
+    subst (λ n. c.args.outer.now ≡ lattice k.across k.columns k.up n) c.if-steps-ne1.false first.is in
+    let other : c.args.inner.now ≡ lattice l.across l.columns l.up 1 =
+    subst (λ n. c.args.inner.now ≡ lattice l.across l.columns l.up n) c.if-line-ne1.false is.is in
+    let turned =
+    sums_lines c.args.by.now c.args.outer.now c.args.inner.now k.across k.columns k.up l.across l.columns l.up
+    first.columns is.columns one other in
+    let sums : Sums c.args.by.now c.args.outer.now c.args.inner.now k.across k.columns c.in_ok-across.across l.columns =
+    subst (λ (q : Point). Sums c.args.by.now c.args.outer.now c.args.inner.now k.across k.columns q l.columns)
+    (sym c.in_ok-across.ensures) turned in
+    if_same (AreSums c.args.by.now c.args.outer.now c.args.inner.now) c.lattice-then-comes_first.result
+    (lattice c.in_ok-across.across l.columns k.across k.columns)
+    (sums_swapped c.args.by.now c.args.outer.now c.args.inner.now k.across k.columns c.in_ok-across.across l.columns
+    first.columns is.columns sums) c.lattice-then-comes_first.ensures.same
 
 pub returns : goal.returns
 returns c =
