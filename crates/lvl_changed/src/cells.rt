@@ -147,11 +147,10 @@ fn windows_of(mut known: Vec<Option<Found>>, cell: usize, partner: usize) -> Opt
 ///
 /// The tops are compared with each other, and any other cell with one that it is likely to be the
 /// same as: one of its name that looks like it, one that is placed where it is, or else the one of
-/// its name. Own shapes are compared with own shapes, which are flattened for this, and references
-/// with references. Those that are the same on both sides aren't written out place by place. If
-/// only one side has a placement, the windows have all that it covers. What is found for a cell is
-/// added to the windows of the cells that place it, at each place. A cell that isn't placed is no
-/// partner, since nothing limits how much it draws.
+/// its name. Own shapes are compared with own shapes, and references with references. What is the
+/// same on both sides cancels; only the rest is flattened, or written out place by place, or becomes
+/// windows if it is large. What is found for a cell is added to the windows of the cells that place
+/// it, at each place. A cell that isn't placed is no partner, since nothing limits how much it draws.
 pub fn changed(
     alloc: Global,
     first: &Fitted,
