@@ -197,15 +197,15 @@ impl<'a> Matching<'a> {
         if !self.places_alone(ours) {
             return Ok(());
         }
-        let mut first = placed_of(alloc, first, ours)?;
-        let mut second = placed_of(alloc, second, theirs)?;
-        sort_by_spot(&mut first.singles);
-        sort_by_spot(&mut second.singles);
-        sort_by_spot(&mut first.arrays);
-        sort_by_spot(&mut second.arrays);
+        let mut placed = placed_of(alloc, first, ours)?;
+        let mut others = placed_of(alloc, second, theirs)?;
+        sort_by_spot(&mut placed.singles, first);
+        sort_by_spot(&mut others.singles, second);
+        sort_by_spot(&mut placed.arrays, first);
+        sort_by_spot(&mut others.arrays, second);
         for round in [Round::Named, Round::Free, Round::Shared] {
-            self.propose_all(&first.singles, &second.singles, round);
-            self.propose_all(&first.arrays, &second.arrays, round);
+            self.propose_all(&placed.singles, &others.singles, round);
+            self.propose_all(&placed.arrays, &others.arrays, round);
         }
         Ok(())
     }

@@ -2,6 +2,7 @@
 use crate::arrays::Array;
 use crate::placements::{Placement, quarters};
 use crate::shifts::{last_shift, shift_at};
+use lvl_cells::Checked;
 use lvl_grid::Map;
 
 /// How a cell is placed first, then how many places there are, and the second and the last of them.
@@ -44,9 +45,17 @@ impl AtSpot for Array {
     }
 }
 
-/// Sorts cells that are placed by their spots.
-pub(crate) fn sort_by_spot<T: AtSpot + Drop>(placed: &mut Vec<T>) {
-    placed.sort_unstable_by_key(|each| each.spot());
+/// The numbers of the shapes and of the references of a cell.
+fn counts_of(checked: &Checked, cell: usize) -> (usize, usize) {
+    match checked.cells().get(cell) {
+        Some(found) => (found.shapes.len(), found.references.len()),
+        None => (0, 0),
+    }
+}
+
+/// Sorts cells that are placed by their spots, and those at one spot by how much is in them.
+pub(crate) fn sort_by_spot<T: AtSpot + Drop>(placed: &mut Vec<T>, checked: &Checked) {
+    placed.sort_unstable_by_key(|each| (each.spot(), counts_of(checked, each.cell())));
 }
 
 /// The index of the first, from index `from` on, whose spot isn't before the given one.
