@@ -9,9 +9,29 @@ pub(crate) struct Sizes {
 }
 
 impl Sizes {
-    /// Whether neither side has more points than this number.
-    pub(crate) fn fit(&self, most: usize) -> bool {
-        self.ours.all.max(self.theirs.all) <= most as u64
+    /// Whether the window is to be drawn as a whole now that its size is known, where more or less was
+    /// expected before: if neither side has more points than may be had, or if its halves would have
+    /// hardly less.
+    pub(crate) fn are_tried(&self, expected: u64, most: usize) -> bool {
+        let most = most as u64;
+        let fit = self.ours.all.max(self.theirs.all) <= most;
+        fit && expected > most || !self.are_halved()
+    }
+
+    /// The points of a side in the left and in the right half of the window, or in the lower and in
+    /// the upper half.
+    pub(crate) fn of_halves(&self, across: bool) -> (u64, u64) {
+        if across {
+            (
+                self.ours.left.max(self.theirs.left),
+                self.ours.right.max(self.theirs.right),
+            )
+        } else {
+            (
+                self.ours.low.max(self.theirs.low),
+                self.ours.high.max(self.theirs.high),
+            )
+        }
     }
 
     /// The points of both sides in the window.
@@ -42,7 +62,7 @@ impl Sizes {
     }
 
     /// Whether halves have much less than the window.
-    pub(crate) fn are_halved(&self) -> bool {
+    fn are_halved(&self) -> bool {
         let all = self.all();
         let least = self.of_columns().min(self.of_rows());
         least <= all.saturating_add(all / 2)

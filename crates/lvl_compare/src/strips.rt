@@ -231,11 +231,42 @@ fn halves(window: &Window, across: bool) -> Option<(Window, Window)>
     }
 }
 
-/// The search of a window. If the estimates fit the budget, it is drawn as a whole; else, or if it
-/// has more points or doesn't fit in memory, its halves are searched one after the other. A window of
-/// one square may have any number of points, and so may each window once all cuts are made. Each
-/// window looks only at those own shapes and references of the tops that may cover squares of the
-/// one that it is a half of.
+/// The search after a window that is drawn as a whole, with at most this number of points on a side.
+fn whole(
+    alloc: Global,
+    first: &Fitted,
+    second: &Fitted,
+    view: &View,
+    group: &Group,
+    lists: &Lists,
+    window: &Window,
+    before: Progress,
+    most: usize,
+) -> Result<Progress, AllocError>
+    requires listed { AreListed (TopCovers first.now) (TopCovers second.now) view.now.pairs group.now }
+    requires lists { AreBoth first.now second.now window.now lists.now }
+    ensures found { IfOk result (λ after. IsImproved (TopCovers first.now)
+        (IsMoved view.now.pairs (TopCovers second.now)) (on group.now.span (IsInWindow window.now))
+        before.found after.found) }
+    ensures few { IfOk result (λ after. after.windows + 2 * cuts_left after.pace
+        ≤ before.windows + 2 * cuts_left before.pace + 1) }
+{
+    let known = before.found;
+    let found = difference_after(
+        alloc, first, second, view, group, lists, window, known, most,
+    )?;
+    Ok(Progress {
+        found,
+        pace: before.pace,
+        windows: before.windows.saturating_add(1),
+    })
+}
+
+/// The search of a window, where a side is expected to have this number of points at most. If that
+/// fits the budget, the window is drawn as a whole; else, or if it has more points or doesn't fit in
+/// memory, its halves are searched one after the other. A window of one square may have any number of
+/// points, and so may each window once all cuts are made. Each window looks only at those own shapes
+/// and references of the tops that may cover squares of the one that it is a half of.
 ///
 /// There are at most two windows for each cut, and one more.
 pub(crate) fn difference_within(
@@ -246,6 +277,7 @@ pub(crate) fn difference_within(
     group: &Group,
     wider: &Lists,
     window: &Window,
+    expected: u64,
     before: Progress,
 ) -> Result<Progress, AllocError>
     requires listed { AreListed (TopCovers first.now) (TopCovers second.now) view.now.pairs group.now }
@@ -256,49 +288,38 @@ pub(crate) fn difference_within(
     ensures few { IfOk result (λ after. after.windows + 2 * cuts_left after.pace
         ≤ before.windows + 2 * cuts_left before.pace + 1) }
 {
-    let (short, sizes) = wider.shortened(alloc, first, second, window)?;
-    let lists = shorter(&short, wider);
     let most = before.pace.points();
-    let known = before.found;
-    let windows = before.windows.saturating_add(1);
-    if sizes.fit(most) || !sizes.are_halved() {
-        let tried = difference_after(
-            alloc, first, second, view, group, lists, window, known, most,
+    if expected <= most as u64 {
+        let tried = whole(
+            alloc, first, second, view, group, wider, window, before, most,
         );
-        if let Ok(found) = tried {
-            return Ok(Progress {
-                found,
-                windows,
-                ..before
-            });
+        if let Ok(after) = tried {
+            return Ok(after);
         }
     }
-    let (Some(pace), Some((low, high))) = (
-        before.pace.next(),
-        halves(window, sizes.is_cut_across()),
-    ) else {
-        let found = difference_after(
-            alloc,
-            first,
-            second,
-            view,
-            group,
-            lists,
-            window,
-            known,
-            usize::MAX,
-        )?;
-        return Ok(Progress {
-            found,
-            windows,
-            ..before
-        });
+    let (short, sizes) = wider.shortened(alloc, first, second, window)?;
+    let lists = shorter(&short, wider);
+    if sizes.are_tried(expected, most) {
+        let tried = whole(
+            alloc, first, second, view, group, lists, window, before, most,
+        );
+        if let Ok(after) = tried {
+            return Ok(after);
+        }
+    }
+    let across = sizes.is_cut_across();
+    let (Some(pace), Some((low, high))) = (before.pace.next(), halves(window, across)) else {
+        let any = usize::MAX;
+        return whole(
+            alloc, first, second, view, group, lists, window, before, any,
+        );
     };
     let begun = Progress {
-        found: known,
+        found: before.found,
         pace,
-        windows,
+        windows: before.windows.saturating_add(1),
     };
-    let half = difference_within(alloc, first, second, view, group, lists, &low, begun)?;
-    difference_within(alloc, first, second, view, group, lists, &high, half)
+    let (less, more) = sizes.of_halves(across);
+    let half = difference_within(alloc, first, second, view, group, lists, &low, less, begun)?;
+    difference_within(alloc, first, second, view, group, lists, &high, more, half)
 }

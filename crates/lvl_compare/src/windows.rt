@@ -43,7 +43,10 @@ fn difference_in_group(
             pace: Pace::new(most),
             windows: 0,
         };
-        let end = difference_within(alloc, first, second, view, group, &lists, &part, start)?;
+        let size = u64::MAX;
+        let end = difference_within(
+            alloc, first, second, view, group, &lists, &part, size, start,
+        )?;
         found = end.found;
     }
     Ok(found)

@@ -11,7 +11,7 @@ ghost use Rattle.lvl_flat.specs.inside.Parts.{HasParts, MissesPart};
 
 use crate::bounds::Bounds;
 use crate::boxes::{Boxes, bounds_of_shifts, hold_shape, placed_by};
-use crate::estimate::{Estimate, Measures};
+use crate::estimate::{Count, Measures};
 use crate::indexes::Indexes;
 use lvl_cells::{Checked, Shapes};
 use lvl_grid::Window;
@@ -77,7 +77,7 @@ fn bounds_of(checked: &Checked, boxes: &Boxes, part: Part, index: usize) -> Opti
 }
 
 /// Whether the own shape or the reference at this index of the top may cover a square of the window.
-/// If so, its points are added to the estimate.
+/// If so, its points are counted.
 fn may_cover(
     checked: &Checked,
     boxes: &Boxes,
@@ -85,19 +85,19 @@ fn may_cover(
     part: Part,
     index: usize,
     window: &Window,
-    estimate: &mut Estimate,
+    count: &mut Count,
 ) -> bool
     requires { AreBoxes checked.now.cells boxes.now }
     ensures { result ≡ false → MissesPart checked.now window.now part index }
 {
     let Some(bounds) = bounds_of(checked, boxes, part, index) else {
-        estimate.add_unknown();
+        count.add_unknown();
         return true;
     };
     if bounds.misses(window) {
         return false;
     }
-    estimate.add(measures.of(checked, part, index), bounds, window);
+    count.add(measures.of(checked, part, index), bounds);
     true
 }
 
@@ -109,7 +109,7 @@ fn in_word(index: usize) -> Result<u32, AllocError>
 }
 
 /// Those of the indexes whose shapes or references may cover a square of the window. Their points
-/// are added to the estimate.
+/// are counted.
 pub(crate) fn narrowed(
     alloc: Global,
     checked: &Checked,
@@ -118,7 +118,7 @@ pub(crate) fn narrowed(
     part: Part,
     list: &Indexes,
     window: &Window,
-    estimate: &mut Estimate,
+    count: &mut Count,
 ) -> Result<Indexes, AllocError>
     requires boxes { AreBoxes checked.now.cells boxes.now }
     requires all { HasAll checked.now window.now part list.now }
@@ -127,7 +127,7 @@ pub(crate) fn narrowed(
     let mut kept = Vec::new(alloc);
     for place in 0..list.len() {
         let index = list.at(place);
-        if may_cover(checked, boxes, measures, part, index, window, estimate) {
+        if may_cover(checked, boxes, measures, part, index, window, count) {
             kept.push(in_word(index)?)?;
         }
     }

@@ -191,46 +191,28 @@ fn size_of_shape(shapes: &Shapes, i: usize) -> Size {
     if i >= shapes.len() {
         return size_of(0, 0, (origin, origin));
     }
-    size_of(
-        points_of_figure(shapes, i),
-        shapes.shift_count(i),
-        shapes.reach(i),
-    )
+    let points = points_of_figure(shapes, i);
+    match shapes.shifts(i) {
+        Some(shifts) => size_of(points, shifts.len(), shifts.reach()),
+        None => size_of(points, 1, (origin, origin)),
+    }
 }
 
-impl Estimate {
-    /// No points.
-    pub(crate) fn none() -> Estimate {
-        Estimate {
-            all: 0,
-            left: 0,
-            right: 0,
-            low: 0,
-            high: 0,
-        }
-    }
+/// A window, its halves, and an estimate that grows.
+#[derive(Clone, Copy)]
+pub(crate) struct Count {
+    columns: Stretch,
+    rows: Stretch,
+    left: Stretch,
+    right: Stretch,
+    low: Stretch,
+    high: Stretch,
+    so_far: Estimate,
+}
 
-    /// Adds what is so large that its box isn't known.
-    pub(crate) fn add_unknown(&mut self) {
-        self.all = self.all.saturating_add(1);
-        self.left = self.left.saturating_add(1);
-        self.right = self.right.saturating_add(1);
-        self.low = self.low.saturating_add(1);
-        self.high = self.high.saturating_add(1);
-    }
-
-    /// Adds a part of this size, which is spread over its box, in a window.
-    pub(crate) fn add(&mut self, size: Size, bounds: Bounds, window: &Window) {
-        let across = Stretch {
-            from: bounds.low.x,
-            to: bounds.high.x,
-        };
-        let up = Stretch {
-            from: bounds.low.y,
-            to: bounds.high.y,
-        };
-        let width = across.len().saturating_sub(size.across);
-        let height = up.len().saturating_sub(size.up);
+impl Count {
+    /// No points in the window.
+    pub(crate) fn new(window: &Window) -> Count {
         let columns = Stretch {
             from: window.x0,
             to: window.x1,
@@ -241,19 +223,103 @@ impl Estimate {
         };
         let (left, right) = columns.halves();
         let (low, high) = rows.halves();
-        let in_columns = share(size.points, across, width, columns);
-        let in_rows = share(size.points, up, height, rows);
-        let all = share(in_columns, up, height, rows);
+        Count {
+            columns,
+            rows,
+            left,
+            right,
+            low,
+            high,
+            so_far: Estimate::none(),
+        }
+    }
+
+    /// The estimate.
+    pub(crate) fn estimate(&self) -> Estimate {
+        self.so_far
+    }
+
+    /// Adds what is so large that its box isn't known.
+    pub(crate) fn add_unknown(&mut self) {
+        self.so_far.add(1, 1, 1, 1, 1);
+    }
+
+    /// Adds a part of this size, which is spread over its box and meets the window.
+    pub(crate) fn add(&mut self, size: Size, bounds: Bounds) {
+        if size.across == 0 && size.up == 0 {
+            self.add_single(size.points, bounds);
+        } else {
+            self.add_spread(size, bounds);
+        }
+    }
+
+    /// Adds a part that has one place.
+    fn add_single(&mut self, points: u64, bounds: Bounds) {
+        let left = if bounds.low.x < self.left.to {
+            points
+        } else {
+            0
+        };
+        let right = if bounds.high.x > self.left.to {
+            points
+        } else {
+            0
+        };
+        let low = if bounds.low.y < self.low.to {
+            points
+        } else {
+            0
+        };
+        let high = if bounds.high.y > self.low.to {
+            points
+        } else {
+            0
+        };
+        self.so_far.add(points, left, right, low, high);
+    }
+
+    /// Adds a part that has several.
+    fn add_spread(&mut self, size: Size, bounds: Bounds) {
+        let across = Stretch {
+            from: bounds.low.x,
+            to: bounds.high.x,
+        };
+        let up = Stretch {
+            from: bounds.low.y,
+            to: bounds.high.y,
+        };
+        let width = across.len().saturating_sub(size.across);
+        let height = up.len().saturating_sub(size.up);
+        let in_columns = share(size.points, across, width, self.columns);
+        let in_rows = share(size.points, up, height, self.rows);
+        self.so_far.add(
+            share(in_columns, up, height, self.rows),
+            share(in_rows, across, width, self.left),
+            share(in_rows, across, width, self.right),
+            share(in_columns, up, height, self.low),
+            share(in_columns, up, height, self.high),
+        );
+    }
+}
+
+impl Estimate {
+    /// No points.
+    fn none() -> Estimate {
+        Estimate {
+            all: 0,
+            left: 0,
+            right: 0,
+            low: 0,
+            high: 0,
+        }
+    }
+
+    /// Adds these numbers.
+    fn add(&mut self, all: u64, left: u64, right: u64, low: u64, high: u64) {
         self.all = self.all.saturating_add(all);
-        self.left = self
-            .left
-            .saturating_add(share(in_rows, across, width, left));
-        self.right = self
-            .right
-            .saturating_add(share(in_rows, across, width, right));
-        self.low = self.low.saturating_add(share(in_columns, up, height, low));
-        self.high = self
-            .high
-            .saturating_add(share(in_columns, up, height, high));
+        self.left = self.left.saturating_add(left);
+        self.right = self.right.saturating_add(right);
+        self.low = self.low.saturating_add(low);
+        self.high = self.high.saturating_add(high);
     }
 }

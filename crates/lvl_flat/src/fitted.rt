@@ -11,7 +11,7 @@ ghost use Rattle.lvl_refusal.specs.Refused.{Says};
 
 use crate::boxes::Boxes;
 use crate::candidates::{Candidates, Part, narrowed};
-use crate::estimate::{Estimate, Measures};
+use crate::estimate::{Count, Estimate, Measures};
 use crate::fault::FlatFault;
 use crate::flat::Flat;
 use crate::indexes::Indexes;
@@ -148,7 +148,7 @@ impl Fitted {
         requires { AreCandidates self.now window.now candidates.now }
         ensures { IfOk result (λ narrowed. AreCandidates self.now window.now narrowed.0) }
     {
-        let mut estimate = Estimate::none();
+        let mut count = Count::new(window);
         let shapes = narrowed(
             alloc,
             &self.checked,
@@ -157,7 +157,7 @@ impl Fitted {
             Part::Shape,
             &candidates.shapes,
             window,
-            &mut estimate,
+            &mut count,
         )?;
         let references = narrowed(
             alloc,
@@ -167,9 +167,9 @@ impl Fitted {
             Part::Reference,
             &candidates.references,
             window,
-            &mut estimate,
+            &mut count,
         )?;
-        Ok((Candidates { shapes, references }, estimate))
+        Ok((Candidates { shapes, references }, count.estimate()))
     }
 
     /// What [`Fitted::within`] returns, found from candidates for the window: only these own shapes
