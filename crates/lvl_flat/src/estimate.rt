@@ -169,18 +169,19 @@ impl Measures {
         }
     }
 
-    /// The size of a reference of the top.
+    /// The size of a reference of the top: what it places is taken to be spread over all of its box.
     fn of_reference(&self, checked: &Checked, j: usize) -> Size {
         let top = checked.top();
-        let origin = Point { x: 0, y: 0 };
         let target = checked.target(top, j).unwrap_or(usize::MAX);
         let inner = self.points.get(target).copied().unwrap_or(0);
-        match checked.cell(top).references.get(j) {
-            Some(reference) => {
-                let shifts = reference.shifts();
-                size_of(inner, shifts.len(), shifts.reach())
-            }
-            None => size_of(0, 0, (origin, origin)),
+        let places = match checked.cell(top).references.get(j) {
+            Some(reference) => reference.shifts().len(),
+            None => 0,
+        };
+        Size {
+            points: inner.saturating_mul(places),
+            across: u64::MAX,
+            up: u64::MAX,
         }
     }
 }
