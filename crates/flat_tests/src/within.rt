@@ -71,11 +71,7 @@ fn counts(alloc: Global, fitted: &Fitted, window: &Window) -> Result<(u64, usize
 }
 
 /// The same, of those own shapes and references of the top that may cover squares of the window.
-fn counts_of_some(
-    alloc: Global,
-    fitted: &Fitted,
-    window: &Window,
-) -> Result<(u64, usize), Fail> {
+fn counts_of_some(alloc: Global, fitted: &Fitted, window: &Window) -> Result<(u64, usize), Fail> {
     let (some, _) = fitted.narrowed(alloc, &fitted.candidates(), window)?;
     let (fewer, _) = fitted.narrowed(alloc, &some, window)?;
     let flat = fitted.within_of(alloc, &fewer, &[METAL], window, usize::MAX)?;
