@@ -3,8 +3,10 @@
 //! [`flatten`] walks the chains of references from the top and places each ring on the way. It
 //! returns a [`Flat`]: for each Layer, a list of rings that together cover exactly what the top
 //! covers there. [`Fitted::within`] does the same for a window, and takes memory only for what is
-//! drawn in it. [`flatten_shapes`] does the same for the own shapes of one cell. [`Flat::mapped`]
-//! moves the rings of each Layer to the Layer that it counts as in a view.
+//! drawn in it. [`Fitted::within_of`] looks only at those own shapes and references of the top that
+//! [`Fitted::narrowed`] found to reach into the window. [`flatten_shapes`] does the same for the own
+//! shapes of one cell. [`Flat::mapped`] moves the rings of each Layer to the Layer that it counts as
+//! in a view.
 //!
 //! Here `checked` is a checked library whose top draws one rectangle of 4 by 2 squares on the Layer
 //! `METAL`:
