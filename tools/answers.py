@@ -38,10 +38,11 @@ def ignored(text):
 
 
 class Refused(Exception):
-    def __init__(self, step, number, name, *values, at=None, allows=None):
+    def __init__(self, step, number, name, *values, at=None, allows=None, listed=False):
         words = [step, number, name, *values] + ([] if at is None else ["at", at])
         super().__init__(" ".join(str(word) for word in words))
         self.step, self.number, self.values, self.at, self.allows = step, number, values, at, allows
+        self.listed = listed
 
 
 class Lattice:

@@ -36,6 +36,7 @@ PARTS = [
         ("compare.rt", "compare_files", None),
         ("digest.rt", "digest_file", None),
         ("digest.rt", "digests_decide", None),
+        ("layout.rt", "widening_keeps", None),
     ]),
 ]
 
@@ -200,7 +201,7 @@ class Book:
         """The definitions that the clauses of a function's contract name."""
         text = (CRATES / "lvl" / "src" / file).read_text()
         start = re.search(rf"^pub fn {function}\b", text, re.M).start()
-        contract = text[start:text.index("\n{\n", start)]
+        contract = text[start:text.index("\n{", start)]
         kept = ""
         for clause in re.split(r"(?=^    ensures )", contract, flags=re.M)[1:]:
             if not clauses or clause.split()[1] in clauses:
@@ -291,9 +292,9 @@ code with them, and a checker reads the proofs; the definitions themselves only 
 [PROOF.md](PROOF.md) has the clauses that name them.
 
 `tools/believe.py` writes this page, and `make check` fails if it is out of date. It begins with the names in the
-contracts of `compare_layouts`, and then of `compare_view`, `compare_files`, `digest_file` and `digests_decide`, and goes from each
-definition to all those that it names; each is listed once, in the first part that needs it. A number is the line in
-the file, and what follows it is the comment that stands there; a file is followed by its first comment. Lines are
+contracts of `compare_layouts`, and then of `compare_view`, `compare_files`, `digest_file`, `digests_decide` and
+`widening_keeps`, and goes from each definition to all those that it names; each is listed once, in the first part
+that needs it. A number is the line in the file, and what follows it is the comment that stands there; a file is followed by its first comment. Lines are
 counted without comments, and types of the code aren't counted. What the program prints (`lvl_text`, `lvl_report`,
 `lvl_job`, `lvl_line`) has definitions of its own, which the verdict doesn't need.
 """

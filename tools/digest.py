@@ -3,7 +3,8 @@
 The corners are found by testing squares. The bytes of a Layer are "layer L datatype D", a line feed, and for each
 corner, in order of x and then y: x and y in eight bytes and the change in one, in two's complement, high byte
 first. The change at a point is the number of covered squares among its upper right and lower left neighbours, less
-the number among its upper left and lower right ones; a corner is a point where it isn't 0.
+the number among its upper left and lower right ones; a corner is a point where it isn't 0. The digest of a mask is the
+SHA-256 of the lines of its Layers.
 """
 import hashlib
 
@@ -37,11 +38,9 @@ def lines(layers):
 
 def lines_of(layers):
     """The same, of the corners in order, {(layer, datatype): corners}."""
-    mask, text = hashlib.sha256(), ""
+    text = ""
     for (layer, datatype), found in sorted(layers.items()):
         if found:
-            spelled = layer_bytes(layer, datatype, found)
-            mask.update(spelled)
-            digest = hashlib.sha256(spelled).hexdigest()
+            digest = hashlib.sha256(layer_bytes(layer, datatype, found)).hexdigest()
             text += f"layer {layer} datatype {datatype} corners {len(found)} sha256 {digest}\n"
-    return text + f"mask sha256 {mask.hexdigest()}\n"
+    return text + f"mask sha256 {hashlib.sha256(text.encode()).hexdigest()}\n"

@@ -17,10 +17,19 @@ The table, from a refusal to its hint:
     cells  6 ManyTops                                                      several cells could be the top:
                                                                            name one by --top-a
 
-Each begins with `lvl: `. The last one names --top-a or --top-b, by the side, and --top for show and digest. If
+    gds    5 TooLong, 26 Repetition,                                       try --large
+           27 TooManyCells
+    oasis  9 RepetitionSize, 11 TooLong,    not of a list                  try --large
+           39 TooManyCells
+    cells  7 TooManyPlacements,                                            try --large
+           8 TooManyRings
+
+Each begins with `lvl: `. The one that names --top-a or --top-b, by the side, and --top for show and digest. If
 other words were given, a hint to --ignore has them too, in the order properties, texts, names, padding, since the
 option can be given only once. If the word itself was given, there is no hint.
 """
+
+import re
 
 WORDS = ("properties", "texts", "names", "padding")
 # By step and number, the word that lets in each value of the fault; None is any.
@@ -32,6 +41,9 @@ MENDED = {
     ("oasis", 24): {"properties": (7, 8, 9, 10, 28, 29), "texts": (5, 6, 19), "names": (11, 12, 30, 31)},
     ("oasis", 2): {"padding": (None,)},
 }
+# By step and number, the refusals by a limit that --large lifts.
+LIFTED = {("gds", 5), ("gds", 26), ("gds", 27), ("oasis", 9), ("oasis", 11), ("oasis", 39), ("cells", 7), ("cells", 8)}
+LIFT = "lvl: try --large\n"
 
 
 def word_of(step, number, value):
@@ -42,11 +54,20 @@ def word_of(step, number, value):
     return None
 
 
+def is_lifted(answer):
+    """Whether an answer refuses a file by a limit that --large lifts, unless it is of a repetition that lists its
+    places."""
+    found = re.match(r"refused: \w+: (\w+) (\d+) ", answer)
+    return found is not None and (found.group(1), int(found.group(2))) in LIFTED
+
+
 def hint(refused, option, given):
     """The text on standard error, from the refusal of a file, the option that names its top, and the words of
     --ignore that were given."""
     fault = refused.step, refused.number
     value = refused.values[0] if refused.values else None
+    if fault in LIFTED and not refused.listed:
+        return LIFT
     word = word_of(*fault, value)
     if word is not None and word not in given:
         return "lvl: try --ignore %s\n" % ",".join(each for each in WORDS if each in (*given, word))

@@ -12,6 +12,7 @@ import tempfile
 from collections import namedtuple
 
 import crafted
+import hints
 import options
 from assembler import aref, boundary, box, cell_by_number, column, counted_name, lattice, oas_path, path, placement
 from assembler import element, gds_property, layer_name, named, oas_text, polygon, rectangle, row, security, short
@@ -20,6 +21,7 @@ from crafted import GDS_HEAD, GDS_TEXT, OAS_END, OAS_HEAD, OAS_TEXT, gds_cell, g
 
 MOST_BYTES, CELLS, PLACES = 4_294_967_295, 1_048_576, 16_777_216
 LONG, IGNORED = 100_000_000, ["--ignore", "all"]
+MOST_CELLS, MOST_PLACES, LARGE = 2**24, 2**60, ["--large"]
 # A name, the files (each as pieces), further words of the command line, and the lines of the right answer.
 Case = namedtuple("Case", "what files words answer")
 
@@ -241,11 +243,56 @@ def oasis_undrawn():
                   "oasis 2 IntegerTooLarge at %d" % len(OAS_HEAD), IGNORED)
 
 
+def long_files():
+    """Files of 5 GB, which are read to their end."""
+    square = b"".join(gds_file(gds_cell("TOP", box(0, 0, 10, 10))))
+    yield shown("gds of 5 GB", [square, 5 * 10**9 - len(square)], "TOP", 1, [(1, 0, 1)], LARGE)
+    strings = ([b"\x1C\x14\1n\x0B" + unsigned(LONG)] + [b"s" * (LONG // 100)] * 100) * 50
+    file = [OAS_HEAD, *strings, *oas_cell("TOP", rectangle(0, 0, 10, 10)), OAS_END]
+    yield shown("oasis of 5 GB", file, "TOP", 1, [(1, 0, 1)], LARGE + IGNORED)
+    late = len(OAS_HEAD) + MOST_BYTES // (LONG + 9) * (LONG + 9)
+    yield refused("oasis of 5 GB, not lifted", file, "oasis 11 TooLong at %d" % late, IGNORED)
+
+
+def lifted_cells():
+    """As many cells as --large allows, and one more."""
+    for more in (0, 1):
+        gds = gds_file(b"".join(gds_cell("%08d" % at)) for at in range(MOST_CELLS + more))
+        oas = oas_file(b"".join(oas_cell("%08d" % at)) for at in range(MOST_CELLS + more))
+        if more:
+            yield refused("gds cells + 1, lifted", gds, "gds 27 TooManyCells at %d" % (len(GDS_HEAD) + MOST_CELLS * 44),
+                          LARGE)
+            yield refused("oasis cells + 1, lifted", oas, "oasis 39 TooManyCells at %d"
+                          % (len(OAS_HEAD) + MOST_CELLS * 11), LARGE)
+        else:
+            yield shown("gds cells, lifted", gds, "00000005", MOST_CELLS, [], ["--top", "00000005", *LARGE])
+            yield shown("oasis cells, lifted", oas, "00000005", MOST_CELLS, [], ["--top", "00000005", *LARGE])
+
+
+def lifted():
+    """As many places as --large allows, and one more."""
+    many, square = lattice(2**30, 2**30, 2, 2), rectangle(0, 0, 1, 1)
+    shapes = rectangle(0, 0, 1, 1, 1, many)
+    yield shown("oasis rings, lifted", oas_file(oas_cell("TOP", shapes)), "TOP", 1, [(1, 0, MOST_PLACES)], LARGE)
+    yield refused("oasis rings + 1, lifted", oas_file(oas_cell("TOP", shapes, square)), "cells 8 TooManyRings", LARGE)
+    for what, n, answer in (("oasis chains, lifted", 2**30 - 1, None), ("oasis chains + 1, lifted", 2**30, 7)):
+        more = placement("A", 0, 0, row(2**30 - 1, 1)) if not answer else b""
+        file = oas_file(oas_cell("TOP", placement("A", 0, 0, lattice(2**30, n, 1, 1)), more), oas_cell("A"))
+        yield refused(what, file, "cells 7 TooManyPlacements", LARGE) if answer \
+            else shown(what, file, "TOP", 2, [], LARGE)
+    wide = oas_file(oas_cell("TOP", rectangle(0, 0, 1, 1, 1, lattice(2**30, 2**30 + 1, 1, 1))))
+    yield refused("oasis lattice + 1, lifted", wide, "oasis 9 RepetitionSize at %d" % (len(OAS_HEAD) + 5), LARGE)
+    array = gds_file(gds_cell("TOP", aref("A", 32_767, 32_767, (1, 0), (0, 1))), gds_cell("A", box(0, 0, 1, 1)))
+    yield shown("gds array, lifted", array, "TOP", 2, [(1, 0, 32_767**2)], LARGE)
+
+
 GROUPS = [
     layers, names, points, deltas, places, chains, rings, compared_rings, cells, deep, round_and_round, file_bytes,
 ]
 # Those that give --ignore.
 IGNORING = [gds_undrawn, long_strings, oasis_undrawn]
+# Those that give --large.
+LIFTING = [lifted, lifted_cells, long_files]
 
 
 def is_right(program, case, folder, has_hints):
@@ -257,8 +304,10 @@ def is_right(program, case, folder, has_hints):
         os.remove(name)
     last = case.answer[-1]
     status = 2 if last.startswith("refused") else 1 if last.startswith("differ") else 0
-    hint = "lvl: several cells could be the top: name one by --top\n"
-    errors = hint if last.endswith("ManyTops") and has_hints else ""
+    hint = "lvl: several cells could be the top: name one by --top\n" if last.endswith("ManyTops") else ""
+    if hints.is_lifted(last) and "--large" not in case.words and "oasis list" not in case.what:
+        hint = hints.LIFT
+    errors = hint if has_hints else ""
     right = (done.status, done.output, done.errors) == (status, "\n".join(case.answer) + "\n", errors)
     last = done.output.rstrip("\n").split("\n")[-1] if done.output else done.errors.strip()
     figures = "%.2f s, %.0f MB, %s bytes" % (done.seconds, done.megabytes, " and ".join("%d" % n for n in sizes))
@@ -272,7 +321,7 @@ def main():
     options.add_older(line)
     asked = options.parsed(line)
     with tempfile.TemporaryDirectory(prefix="lvl-limits-") as folder:
-        groups = [each for each in GROUPS + ([] if asked.plain else IGNORING) if asked.only in each.__name__]
+        groups = [each for each in GROUPS + ([] if asked.plain else IGNORING + LIFTING) if asked.only in each.__name__]
         right = [is_right(asked.program, case, folder, not asked.plain) for group in groups for case in group()]
     sys.exit(0 if all(right) else 1)
 

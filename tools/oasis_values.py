@@ -133,7 +133,8 @@ class Values:
 
     def listed(self, kind):
         count = self.unsigned() + 2
-        self.refuse_if(count > LISTED, 9, "RepetitionSize")
+        if count > LISTED:
+            raise Refused("oasis", 9, "RepetitionSize", at=self.begun, listed=True)
         grid = self.unsigned() if kind in (5, 7, 11) else 1
         shifts = [(0, 0)]
         for _ in range(count - 1):

@@ -59,7 +59,7 @@ placed one by one | T A,0,3,0; A 0..2 | T A,20,1,0 A,0,1,0 A,10,1,0; A 0..2 | | 
 two boxes for one, a thousand times | T A,0,1000,0; A 0..9 | T A,0,1000,0; A 4..9 0..4 | | -
 tops of different names | T A,0,8,0; A 0..2 | U A,0,8,0; A 0..2 | | -
 cells in another order | T M,0,2,0; M A,0,4,0; A 0..2 | T M,0,2,0; A 0..2; M A,0,4,0 | | -
-a place twice | T A,0,8,0; A 0..2 | T A,0,8,0 A,10,1,0; A 0..2 | | -
+a place twice | T A,0,8,0; A 0..2 | T A,0,8,0 A,10,1,0; A 0..2 | 10,0,12,1 | -
 out of reach | T A,0,8,0; A 0..2; X 0..1 | T A,0,8,0; A 0..2; X 7..9 | | -
 out of reach and absent | T A,0,8,0; A 0..2; X 0..1 | T A,0,8,0; A 0..2 | | -
 a cell without shapes removed | T A,0,8,0 X,50,1,0; A 0..2; X | T A,0,8,0; A 0..2 | | -
@@ -75,7 +75,7 @@ a place reflected | T A,0,7,0 A,80,1,0; A 0..2 | T A,0,7,0 A,80,1,-0; A 0..2 | 8
     1 80 -1 second
 a cell turned about | T A,0,8,0 B,100,1,0; A 0..2; B 0..2 | T A,0,8,0 B,102,1,180; A 0..2; B 0..2 | \
     100,-1,102,0 100,0,102,1 | 1 100 -1 second
-a cell renamed | T A,0,8,0 B,100,1,0; A 0..2; B 0..2 | T A,0,8,0 C,100,1,0; A 0..2; C 0..2 | 100,0,102,1 | -
+a cell renamed | T A,0,8,0 B,100,1,0; A 0..2; B 0..2 | T A,0,8,0 C,100,1,0; A 0..2; C 0..2 | | -
 a cell renamed and changed | T A,0,8,0 B,100,1,0; A 0..2; B 0..2 | T A,0,8,0 C,100,1,0; A 0..2; C 0..3 | \
     100,0,103,1 | 1 102 0 second
 a cell exchanged for another | T A,0,8,0 A,100,1,0; A 0..2; B 0..3 | T A,0,8,0 B,100,1,0; A 0..2; B 0..3 | \
@@ -96,7 +96,20 @@ a box that leaves 64 bits and returns | \
     T A,0,8,0 M,-1000,1,0; M B,9223372036854775800,1,0; A 0..2; B 0..9 | \
     T A,0,8,0 M,-1000,1,0; M B,9223372036854775800,1,0; A 0..2; B 0..9 | | -
 and in a cell renamed | T A,0,8,0 M,-1000,1,0; M B,9223372036854775800,1,0; A 0..2; B 0..9 | \
-    T A,0,8,0 N,-1000,1,0; N B,9223372036854775800,1,0; A 0..2; B 0..9 | anywhere | -
+    T A,0,8,0 N,-1000,1,0; N B,9223372036854775800,1,0; A 0..2; B 0..9 | | -
+and where another cell is placed | T A,0,8,0 M,-1000,1,0; M B,9223372036854775800,1,0; A 0..2; B 0..9 | \
+    T A,0,8,0 N,-1001,1,0; N B,9223372036854775800,1,0; A 0..2; B 0..9 | \
+    9223372036854774799,0,9223372036854774809,1 | 1 9223372036854774799 0 second
+and in a cell with a shape | T A,0,8,0 M,-1000,1,0; M 0..1 B,9223372036854775800,1,0; A 0..2; B 0..9 | \
+    T A,0,8,0 N,-1001,1,0; N 0..1 B,9223372036854775800,1,0; A 0..2; B 0..9 | anywhere | 1 -1001 0 second
+a row in a cell of its own | T A,0,8,0; A 0..2 | T R,0,1,0; R A,0,8,0; A 0..2 | | -
+and turned, in two cells | T R,100,1,90; R A,5,8,0; A 0..2 | T Q,100,1,90; Q R,5,1,0; R A,0,8,0; A 0..2 | | -
+a row turned otherwise | T R,0,1,0 A,0,8,0; R A,0,2,180; A 0..2 | T R,0,1,180 A,0,8,0; R A,0,2,0; A 0..2 | \
+    -12,-1,-10,0 8,-1,10,0 | 1 -12 -1 second
+two cells exchange their names | T A,0,8,0 B,100,1,0; A 0..2; B 0..3 | T B,0,8,0 A,100,1,0; B 0..2; A 0..3 | | -
+two cells with one name | T A,0,8,0 B,100,1,0; A 0..2; B 0..2 | T C,0,8,0 C,100,1,0; C 0..2 | | -
+all cells renamed | T M,0,2,0; M A,0,4,90 B,3,1,0; A 0..2; B 5..7 | \
+    U X,0,2,0; X Y,0,4,90 Z,3,1,0; Y 0..2; Z 5..7 | | -
 ";
 
 /// What changes find, and whether strips find the same.

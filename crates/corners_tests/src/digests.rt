@@ -1,6 +1,8 @@
 //! Digests of Layers, against those that `tools/digest_check.py` finds from a raster.
 use crate::texts::{cut, point, rings};
-use lvl_corners::{LayerDigest, MaskHash, cover_same};
+use lvl_corners::{
+    DigestedLayer, LayerDigest, LayerHash, Span, cover_same, layer_line, mask_sha256,
+};
 use lvl_grid::{Ring, Rings};
 use lvl_names::Layer;
 use std::alloc::Global;
@@ -46,8 +48,8 @@ const LAYERS: &str = "\
     8 f771974c1a0ebdd94620e2f4df39a79bac0ec4fe5c3ee5e2be56d00f40ddb3f3
 ";
 
-/// The digest of all these Layers together.
-const MASK: &str = "b367464dda2f33f3ecb2b712ead41b8b6346959dc46b75cb26d1d525fa210659";
+/// The SHA-256 of the lines of all these Layers.
+const MASK: &str = "4e173fdc143d172e72e6471cdc8f7313ee04bb7e7c69ce4fcaf32987352eb318";
 
 fn layer(layer: u32) -> Layer {
     Layer { layer, datatype: 0 }
@@ -59,46 +61,86 @@ fn digest_text(alloc: Global, digest: &LayerDigest) -> Result<String, Fail> {
     Ok(format!(in alloc; "{} {sha256}", digest.corners)?)
 }
 
-/// The same of a Layer of these rectangles, which are hashed.
-fn pushed(alloc: Global, mask: &mut MaskHash, number: &str, corners: &str) -> Result<String, Fail> {
-    let layer = layer(number.parse::<u32>()?);
-    match mask.push(alloc, layer, &rectangles(alloc, corners)?)? {
-        Some(digest) => digest_text(alloc, &digest),
-        None => Ok(String::from_str(alloc, "nothing")?),
-    }
+/// The digest of what the rings cover, in a strip left of an abscissa and one from there on.
+fn digest_of(
+    alloc: Global,
+    layer: Layer,
+    rings: &Rings,
+    at: i64,
+) -> Result<Option<LayerDigest>, Fail> {
+    let mut hash = LayerHash::new(alloc, layer)?;
+    let left = Span {
+        from: None,
+        below: Some(at),
+    };
+    let right = Span {
+        from: Some(at),
+        below: None,
+    };
+    hash.push(alloc, rings, left)?;
+    hash.push(alloc, rings, right)?;
+    Ok(hash.finish())
 }
 
-/// Whether the Layer of a row has its digest, which is hashed.
-fn row_is_pushed(alloc: Global, mask: &mut MaskHash, row: &str) -> Result<bool, Fail> {
+/// The number and the rectangles of a row, with how many corners they have, and their digest.
+fn row_of(row: &str) -> (&str, &str, &str) {
     let (number, row) = cut(row, " | ");
     let (corners, want) = cut(row, " | ");
-    Ok(pushed(alloc, mask, number, corners)?.as_str() == want)
+    (number, corners, want)
 }
 
-fn is_hex(alloc: Global, bytes: &[u8], text: &str) -> Result<bool, Fail> {
-    Ok(hex(alloc, bytes)?.as_str() == text)
+/// Lists the Layer of a row, if it has its digest.
+fn row_is_listed(alloc: Global, layers: &mut Vec<DigestedLayer>, row: &str) -> Result<bool, Fail> {
+    let (number, corners, want) = row_of(row);
+    let layer = layer(number.parse::<u32>()?);
+    let Some(digest) = digest_of(alloc, layer, &rectangles(alloc, corners)?, 3)? else {
+        return Ok(false);
+    };
+    layers.push(DigestedLayer { layer, digest })?;
+    Ok(digest_text(alloc, &digest)?.as_str() == want)
 }
 
 #[test]
 fn digests_of_layers(rt: HostRuntime) -> Result<(), Fail> {
     let alloc = rt.alloc();
-    let mut mask = MaskHash::new();
-    let nothing = mask.push(alloc, layer(0), &Rings::new(alloc))?;
-    assert!(rt; nothing.is_none());
+    let mut layers = Vec::new(alloc);
     for row in LAYERS.lines() {
-        assert!(rt; row_is_pushed(alloc, &mut mask, row)?, "{row}");
+        assert!(rt; row_is_listed(alloc, &mut layers, row)?, "{row}");
     }
-    assert!(rt; is_hex(alloc, &mask.finish(), MASK)?);
+    let mask = hex(alloc, &mask_sha256(alloc, &layers)?)?;
+    assert_eq!(rt; mask.as_str(), MASK);
+    Ok(())
+}
+
+#[test]
+fn digest_of_nothing(rt: HostRuntime) -> Result<(), Fail> {
+    let alloc = rt.alloc();
+    assert!(rt; digest_of(alloc, layer(0), &Rings::new(alloc), 0)?.is_none());
+    Ok(())
+}
+
+#[test]
+fn line_of_a_layer(rt: HostRuntime) -> Result<(), Fail> {
+    let digested = DigestedLayer {
+        layer: layer(7),
+        digest: LayerDigest {
+            corners: 12,
+            sha256: [160; 32],
+        },
+    };
+    let line = layer_line(rt.alloc(), &digested)?;
+    let want = "layer 7 datatype 0 corners 12 sha256 \
+        a0a0a0a0a0a0a0a0a0a0a0a0a0a0a0a0a0a0a0a0a0a0a0a0a0a0a0a0a0a0a0a0\n";
+    assert_eq!(rt; line.as_str(), want);
     Ok(())
 }
 
 #[test]
 fn growths_of_digests(rt: HostRuntime) -> Result<(), Fail> {
     let alloc = rt.alloc();
-    let mut mask = MaskHash::new();
     let text = "0,0 20,0 20,10 10,10 10,20 0,20; 10,10 20,10 20,20 10,20";
     let rings = rings(alloc, text)?;
-    assert!(rt; mask.push(alloc, layer(1), &rings)?.is_some());
+    assert!(rt; digest_of(alloc, layer(1), &rings, 10)?.is_some());
     assert!(rt; cover_same(alloc, &rings, &rings)?);
     Ok(())
 }

@@ -70,8 +70,25 @@ fn counts(alloc: Global, fitted: &Fitted, window: &Window) -> Result<(u64, usize
     Ok((count(&flat), flat.rings(METAL).len()))
 }
 
+/// The same, of those own shapes and references of the top that may cover squares of the window.
+fn counts_of_some(alloc: Global, fitted: &Fitted, window: &Window) -> Result<(u64, usize), Fail> {
+    let (some, _) = fitted.narrowed(alloc, &fitted.candidates(), window)?;
+    let (fewer, _) = fitted.narrowed(alloc, &some, window)?;
+    let flat = fitted.within_of(alloc, &fewer, &[METAL], window, usize::MAX)?;
+    Ok((count(&flat), flat.rings(METAL).len()))
+}
+
+/// Both, if they are the same.
+fn same_counts(alloc: Global, fitted: &Fitted, window: &Window) -> Result<(u64, usize), Fail> {
+    let counted = counts(alloc, fitted, window)?;
+    if counts_of_some(alloc, fitted, window)? != counted {
+        return Err(Fail::from("candidates draw something else"));
+    }
+    Ok(counted)
+}
+
 fn counts_text(alloc: Global, fitted: &Fitted, words: &str) -> Result<String, Fail> {
-    let (covered, held) = counts(alloc, fitted, &rows::window(words)?)?;
+    let (covered, held) = same_counts(alloc, fitted, &rows::window(words)?)?;
     Ok(format!(in alloc; "{covered} {held}")?)
 }
 
@@ -234,7 +251,7 @@ pub(crate) fn drawn(alloc: Global, shifts: &Offsets) -> Result<Checked, Fail> {
 /// How many rings there are in the window.
 fn rings_in(alloc: Global, checked: Checked, window: &Window) -> Result<usize, Fail> {
     let fitted = Fitted::new(alloc, checked)?;
-    let (_, held) = counts(alloc, &fitted, window)?;
+    let (_, held) = same_counts(alloc, &fitted, window)?;
     Ok(held)
 }
 

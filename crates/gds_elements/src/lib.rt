@@ -13,9 +13,10 @@
 //! ```
 //! use gds_elements::{Element, Step};
 //! use gds_records::record_type;
+//! use lvl_profile::Limits;
 //!
 //! let element = Element::open(alloc, record_type::BOUNDARY).ok_or("no element")?;
-//! let step = element.take(alloc, record_type::LAYER, b"\x00\x01")?;
+//! let step = element.take(alloc, Limits::STANDARD, record_type::LAYER, b"\x00\x01")?;
 //! assert!(rt; matches!(step, Step::Open(_)));
 //! assert!(rt; Element::open(alloc, record_type::LAYER).is_none());
 //! ```

@@ -116,7 +116,8 @@ impl WithIgnored {
         if self.awaits_value() {
             return Err(Cause::Breach(GdsKind::Misplaced(misplaced(kind))));
         }
-        self.reading.take(alloc, self.profile.limits, kind, payload)?;
+        self.reading
+            .take(alloc, self.profile.limits, kind, payload)?;
         self.last = Some(kind);
         Ok(())
     }
@@ -152,7 +153,8 @@ impl WithIgnored {
 fn is_passed(profile: Profile, kind: u8, payload: &[u8]) -> bool
     ensures { (d : ℕ) → result ≡ is_passed profile (record_of kind d payload.now) }
 {
-    is_ignored(profile.ignore, kind) && (kind != record_type::FORMAT || payload == ARCHIVE.as_slice())
+    is_ignored(profile.ignore, kind)
+        && (kind != record_type::FORMAT || payload == ARCHIVE.as_slice())
 }
 
 // Whether an ignored record of this type may come directly after one of the type `last`.

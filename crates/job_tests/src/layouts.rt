@@ -37,6 +37,13 @@ const SHA256: [u8; 32] = [
     0x0C, 0x2D, 0xCD, 0xE7, 0x2A, 0x70, 0xBA, 0xB5, 0xF8, 0x61, 0x57, 0x69, 0xE8, 0xFC, 0x57, 0x28,
 ];
 
+/// The SHA-256 of the line of that Layer: "layer 1 datatype 0 corners 4 sha256 " and these bytes in
+/// hexadecimal digits, and a line feed.
+const MASK_SHA256: [u8; 32] = [
+    0xCF, 0xC0, 0xBC, 0x7F, 0xD8, 0xA8, 0x4F, 0x10, 0xBC, 0x28, 0x92, 0xF2, 0xC7, 0x4E, 0x75, 0x07,
+    0x3D, 0x54, 0x63, 0xF8, 0x96, 0xD4, 0x7D, 0x97, 0x24, 0x4A, 0x7B, 0x12, 0xA9, 0x63, 0x55, 0x72,
+];
+
 const ONLY_LAYER: Layer = Layer {
     layer: 1,
     datatype: 0,
@@ -80,7 +87,17 @@ fn verdict_of_files(
 ) -> Result<Verdict, Refusal> {
     let view = View::whole(alloc);
     let (mut first, mut second) = (Pieces::new(ours, 168), Pieces::new(theirs, 1));
-    Ok(compare_files(alloc, &mut first, &mut second, &NO_TOPS, &view, under(ignore))?.verdict)
+    Ok(
+        compare_files(
+            alloc,
+            &mut first,
+            &mut second,
+            &NO_TOPS,
+            &view,
+            under(ignore),
+        )?
+        .verdict,
+    )
 }
 
 /// What `compare_view` says of them, with Layer 1/0 of the second taken as 2/0, in a window.
@@ -133,7 +150,7 @@ fn one_file(rt: HostRuntime) -> Result<(), Fail> {
         rt.alloc(),
         &mut Pieces::new(&bytes, 50),
         None,
-        Ignore::NOTHING,
+        Profile::STANDARD,
     );
     let shown = shown.ok().ok_or("not shown")?;
     assert_eq!(rt; shown.top.as_slice(), b"TOP".as_slice());
@@ -153,7 +170,7 @@ fn is_digest(digested: &Digested) -> bool {
     };
     digested.top.as_slice() == b"TOP".as_slice()
         && digested.mask.layers.as_slice() == [listed].as_slice()
-        && digested.mask.sha256 == SHA256
+        && digested.mask.sha256 == MASK_SHA256
 }
 
 fn digest(alloc: Global, bytes: &[u8], top: Option<&[u8]>) -> Result<Digested, Refusal> {
@@ -222,9 +239,9 @@ fn compared(alloc: Global, bytes: &[u8], ignore: Ignore) -> Answer {
 }
 
 fn shown(alloc: Global, bytes: &[u8], ignore: Ignore) -> Answer {
-    let layers = show_file(alloc, &mut Pieces::new(bytes, 50), None, under(ignore)).map(|shown| shown
-        .layers
-        .len());
+    let layers = show_file(alloc, &mut Pieces::new(bytes, 50), None, under(ignore)).map(
+        |shown| shown.layers.len(),
+    );
     let is_right = layers.as_ref().ok() == Some(&1);
     Answer::of(&layers, Side::First, is_right)
 }
@@ -233,7 +250,7 @@ fn digested(alloc: Global, bytes: &[u8], ignore: Ignore) -> Answer {
     let sha256 = digest_file(alloc, &mut Pieces::new(bytes, 50), None, under(ignore)).map(
         |digested| digested.mask.sha256,
     );
-    let is_right = sha256.as_ref().ok() == Some(&SHA256);
+    let is_right = sha256.as_ref().ok() == Some(&MASK_SHA256);
     Answer::of(&sha256, Side::First, is_right)
 }
 

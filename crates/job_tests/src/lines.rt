@@ -102,9 +102,7 @@ fn is_asked(asks: Asks<'_>, answer: &Result<Job, LineFault>) -> bool {
         ) => file.as_str() == a && is_text(top, name) && is_text(ignore, words),
         (
             Asks::Large,
-            Ok(
-                Job::Compare { large, .. } | Job::Show { large, .. } | Job::Digest { large, .. },
-            ),
+            Ok(Job::Compare { large, .. } | Job::Show { large, .. } | Job::Digest { large, .. }),
         ) => *large,
         (Asks::Nothing(kind), Err(LineFault::Words(error))) => error.kind() == kind,
         _ => false,

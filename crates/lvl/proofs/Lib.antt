@@ -8,3 +8,5 @@ pub mod Refused
 pub mod Viewing
 pub mod Showing
 pub mod Digesting
+pub mod Hashing
+pub mod Listing

@@ -73,7 +73,7 @@ shown_back rings cells top shown h = record {
 
 shown_lifted : (file : File) (found : List (PlainCell Rings)) (head : Head)
     → IsLayoutOf file.profile file.bytes found head
-    → (shown : Shown) → shown.head ≡ head → IsShownKept (kept_named found file.top) shown → IsShownFile file shown
+    → (shown : Shown) → shown.head ≡ head → IsShownKept (kept_named file.profile.limits found file.top) shown → IsShownFile file shown
 shown_lifted file found head read shown head_is k =
     let others : List Drawing = read.cells in
     let s = k.settled in
@@ -103,7 +103,7 @@ shown_lifted file found head read shown head_is k =
 pub file_shown : (file : File) (found : List (PlainCell Rings)) (head : Head)
     → IsLayoutOf file.profile file.bytes found head
     → (r : Result Shown Refusal) → IfOk r (λ shown. shown.head ≡ head)
-    → IfOk r (IsShownKept (kept_named found file.top)) → IfOk r (IsShownFile file)
+    → IfOk r (IsShownKept (kept_named file.profile.limits found file.top)) → IfOk r (IsShownFile file)
 file_shown file found head read (Ok shown) head_is k = shown_lifted file found head read shown head_is k
 file_shown file found head read (Err r) head_is k = tt
 
@@ -119,7 +119,7 @@ passed_flat Second file f e p = cc
 
 pub show_refused : (file : File) (found : List (PlainCell Rings)) (head : Head)
     → IsLayoutOf file.profile file.bytes found head
-    → (r : Refusal) → IsShowRefusal (kept_named found file.top) r → IsRefusalOf First file r
+    → (r : Refusal) → IsShowRefusal (kept_named file.profile.limits found file.top) r → IsRefusalOf First file r
 show_refused file found head read (FileRefusal side f) h = absurd h
 show_refused file found head read (CellsRefusal side f) h = record {
   unaccepted = λ b. cell_unaccepted file found head read f h.1;

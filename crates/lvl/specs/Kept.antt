@@ -10,13 +10,12 @@ use Rattle.lvl_profile.specs.declared.limits.Limits.{Limits}
 use Rattle.lvl_cells.specs.Checks.{Settled, IsSettled, PlacesFew}
 use Rattle.lvl_cells.specs.Faults.{IsFaultOf, IsSoundWith}
 use Rattle.lvl_cells.specs.declared.fault.CellFault.{CellFault}
-use Rattle.lvl_flat.specs.Flattened.{AllInRange, IsFlattened, IsFlatFault}
+use Rattle.lvl_flat.specs.Flattened.{AllInRange, IsFlatFault}
 use Rattle.lvl_flat.specs.declared.fault.FlatFault.{FlatFault}
 use Rattle.lvl_region.specs.declared.region.Side.TheVariants.{First, Second}
 use Rattle.lvl_view.specs.Views.{PlainView}
 use Rattle.lvl_view.specs.Moved.{IsMoved}
 use Rattle.lvl.specs.Views.{IsVerdictOf}
-use Rattle.lvl.specs.declared.flattened.FlatLibrary.{FlatLibrary}
 use Rattle.lvl.specs.declared.verdict.Verdict.{Verdict}
 use Rattle.lvl.specs.declared.verdict.Refusal.{Refusal}
 use Rattle.lvl.specs.declared.verdict.Refusal.TheVariants.{File as FileRefusal, Cells as CellsRefusal}
@@ -36,13 +35,6 @@ pub record IsCheckedAs (k : Kept) (s : Settled) : Type 0 where
 -- the library passes the check of cells
 abbrev pub Passes : Kept → Type 0
 Passes k = (s : Settled) × IsCheckedAs k s
-
--- the library passes the check of cells, and this is the name of its top and the rings that the top places
-pub record IsFlatLibrary (k : Kept) (found : FlatLibrary) : Type 0 where
-  pub settled : Settled
-  pub checked : IsCheckedAs k settled
-  pub flat : IsFlattened settled found.flat
-  pub top_is : found.top.items ≡ flat.top.name
 
 -- the fault is true, so the check of cells refuses the library
 pub record IsCellFault (k : Kept) (fault : CellFault) : Type 0 where

@@ -6,4 +6,5 @@ pub mod Answers
 pub mod Sides
 pub mod Shown
 pub mod Digested
+pub mod Hashes
 pub mod Views

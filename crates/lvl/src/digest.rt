@@ -1,4 +1,4 @@
-//! The digest of one layout: the file is read, checked and flattened, and what it draws is hashed.
+//! The digest of one layout: the file is read and checked, and what it draws is hashed strip by strip.
 ghost use Rattle.std.specs.Prelude.{◌≡◌, ◌≢◌, List, ℕ, Some, Err, IfOk, IfErr, option_copied};
 ghost use Rattle.lvl_io.specs.Bytes.{CountsFailure};
 ghost use Rattle.lvl_region.specs.declared.region.Side.TheVariants.{First};
@@ -8,13 +8,13 @@ ghost use Rattle.lvl.specs.Shown.{IsOfFirst, IsShowRefusal};
 ghost use Rattle.lvl.specs.Sides.{file_named, kept_named};
 ghost use Rattle.lvl.specs.declared.verdict.Refusal.TheVariants.{OutOfMemory};
 
-use crate::digested::{Digested, digest_flat};
-use crate::flattened::{FlatLibrary, flatten_library};
+use crate::digested::{Digested, digest_fitted};
 use crate::layout::Head;
-use crate::side::read_side;
+use crate::shown::top_name;
+use crate::side::{check_named, fit_side, read_side};
 use crate::verdict::Refusal;
 use lvl_cells::Library;
-use lvl_corners::mask_bytes_decide;
+use lvl_corners::masks_decide;
 use lvl_io::Read;
 use lvl_profile::{Limits, Profile};
 use lvl_region::Side;
@@ -32,19 +32,23 @@ fn digest_library(
     ensures digested { IfOk result (IsDigestedKept (kept_named limits library (option_copied top.entry))) }
     ensures refused { IfErr result (IsShowRefusal (kept_named limits library (option_copied top.entry))) }
 {
-    let FlatLibrary { top, flat } = flatten_library(alloc, limits, library, top)?;
-    let Ok(mask) = digest_flat(alloc, &flat) else {
+    let checked = check_named(alloc, Side::First, limits, library, top)?;
+    let Ok(top) = top_name(alloc, &checked) else {
+        return Err(Refusal::OutOfMemory);
+    };
+    let fitted = fit_side(alloc, Side::First, checked)?;
+    let Ok(mask) = digest_fitted(alloc, &fitted) else {
         return Err(Refusal::OutOfMemory);
     };
     Ok(Digested { head, top, mask })
 }
 
 /// The digest of what a file draws: its head, the name of its top, the digest of each Layer on which the
-/// top covers a square, and that of all these Layers. A refusal is of [`Side::First`]; unless it is out of
-/// memory or a failed read, the file isn't accepted.
+/// top covers a square, and the SHA-256 of the lines of these Layers. A refusal is of [`Side::First`]; unless
+/// it is out of memory or a failed read, the file isn't accepted.
 ///
-/// Two files draw the same mask exactly if the bytes that are hashed are the same, as
-/// [`digests_decide`] says.
+/// Except for a collision of SHA-256, two files draw the same mask exactly if that SHA-256 is the same, as
+/// [`digests_decide`] says. Only what is drawn in one strip is in memory.
 ///
 /// `bytes` is a file that draws one square:
 ///
@@ -77,10 +81,12 @@ pub fn digest_file<R: Read>(
 }
 
 /// Two files draw the same mask if and only if their digests are the same, except for a collision of
-/// SHA-256: the bytes that are hashed are the same if and only if both tops cover the same squares on every
-/// Layer. This function states the law and computes nothing.
+/// SHA-256. If both tops cover the same squares on every Layer, the digests are the same. If the SHA-256 of
+/// both masks is the same though the tops don't cover the same, then two different texts with one SHA-256 are
+/// in hand: the lines of the Layers, or the bytes of some Layer with the corners of what each top covers
+/// there. This function states the law and computes nothing.
 pub fn digests_decide()
     ensures { DigestsDecide }
 {
-    mask_bytes_decide()
+    masks_decide()
 }

@@ -1,30 +1,33 @@
 //! The digest of a layout.
-ghost use Rattle.std.specs.Prelude.{◌≡◌, ◌++◌, ◌∷◌, [], List, Option, map, IfOk, OnOk};
-ghost use Rattle.lvl_corners.specs.Masks.{Drawn};
-ghost use Rattle.lvl_corners.specs.Digests.{HasHashed, IsDigestOf};
-ghost use Rattle.lvl_corners.specs.declared.digest.LayerDigest.{LayerDigest as DigestOfLayer};
-ghost use Rattle.lvl.specs.Digested.{drawn_on, listed, IsMaskDigest};
+ghost use Rattle.std.specs.Prelude.{◌≡◌, ◌++◌, List, AllPairs, IfOk, OnOk};
+ghost use Rattle.lvl_names.specs.declared.layer.Layer.{Layer as PlainLayer};
+ghost use Rattle.lvl_names.specs.Layers.{ComesBefore};
+ghost use Rattle.lvl_flat.specs.Flattened.{TopCovers};
+ghost use Rattle.lvl_corners.specs.Masks.{AreDigests};
+ghost use Rattle.lvl.specs.Digested.{IsMaskDigest};
+ghost use Rattle.lvl.specs.Hashes.{AreDigestsOn};
 
+use crate::fitted::{most_points, shapes_of};
+use crate::hashes::hash_layers;
 use crate::layout::Head;
-use lvl_corners::{LayerDigest, MaskHash};
-use lvl_flat::Flat;
-use lvl_grid::Rings;
+use lvl_corners::{DigestedLayer, mask_sha256};
+use lvl_flat::Fitted;
 use lvl_names::Layer;
 use std::alloc::{AllocError, Global};
 
-/// A Layer that covers a square, and its digest.
-#[derive(Clone, Copy, Debug, PartialEq, Eq)]
-pub struct DigestedLayer {
-    pub layer: Layer,
-    pub digest: LayerDigest,
-}
+/// The number of Layers that are hashed at a time, unless there would be too many groups of them.
+/// Each takes some hundred bytes.
+const GROUP: usize = 65_536;
+
+/// The greatest number of groups of Layers. Each of them walks through the layout.
+const MOST_GROUPS: usize = 64;
 
 /// The digest of a mask.
 #[derive(Debug, Drop)]
 pub struct MaskDigest {
     /// The digest of each Layer that covers a square, in the order of the Layers.
     pub layers: Vec<DigestedLayer>,
-    /// The SHA-256 of the bytes of all these Layers.
+    /// The SHA-256 of the lines of these Layers (see [`lvl_corners::mask_sha256`]).
     pub sha256: [u8; 32],
 }
 
@@ -39,38 +42,49 @@ pub struct Digested {
     pub mask: MaskDigest,
 }
 
-/// Hashes what the rings cover on the next Layer of a mask, and lists the Layer's digest if it has
-/// one.
-fn push_layer(
+/// Lists the digests of those of some Layers on which the top covers a square.
+fn push_group(
     alloc: Global,
-    mask: &mut MaskHash,
-    layers: &mut Vec<DigestedLayer>,
-    layer: Layer,
-    rings: &Rings,
+    fitted: &Fitted,
+    layers: &[Layer],
+    digested: &mut Vec<DigestedLayer>,
 ) -> Result<(), AllocError>
-    ensures hashed { OnOk result ((ds : List Drawn) → HasHashed mask.old ds
-        → HasHashed mask.new (ds ++ record { layer = layer; rings = rings.now } ∷ [])) }
-    ensures listed { OnOk result ((digest : Option DigestOfLayer)
-        × IsDigestOf (record { layer = layer; rings = rings.now }) digest
-        × (layers.new.items ≡ layers.old.items ++ listed layer digest)) }
+    requires { AllPairs ComesBefore layers.now }
+    ensures { OnOk result ((done : List PlainLayer) → AllPairs ComesBefore (done ++ layers.now)
+        → AreDigestsOn (TopCovers fitted.now) done digested.old.items
+        → AreDigestsOn (TopCovers fitted.now) (done ++ layers.now) digested.new.items) }
 {
-    if let Some(digest) = mask.push(alloc, layer, rings)? {
-        layers.push(DigestedLayer { layer, digest })?;
+    let most = most_points(shapes_of(fitted));
+    for hash in hash_layers(alloc, fitted, layers, most)? {
+        let layer = hash.layer();
+        if let Some(digest) = hash.finish() {
+            digested.push(DigestedLayer { layer, digest })?;
+        }
     }
     Ok(())
 }
 
-/// The digest of the mask that a flat layout draws.
-pub(crate) fn digest_flat(alloc: Global, flat: &Flat) -> Result<MaskDigest, AllocError>
-    ensures { IfOk result (IsMaskDigest (map drawn_on flat.now)) }
+/// The digests of all Layers on which the top covers a square, in groups.
+fn digested_layers(alloc: Global, fitted: &Fitted) -> Result<Vec<DigestedLayer>, AllocError>
+    ensures { IfOk result (λ layers. AreDigests (TopCovers fitted.now) layers.items) }
 {
-    let mut mask = MaskHash::new();
-    let mut layers = Vec::new(alloc);
-    for index in 0..flat.len() {
-        if let Some(layer) = flat.layer(index) {
-            push_layer(alloc, &mut mask, &mut layers, layer, flat.rings(layer))?;
-        }
+    let layers = fitted.layers(alloc)?;
+    let size = GROUP.max(layers.len().div_ceil(MOST_GROUPS));
+    let mut digested = Vec::new(alloc);
+    let mut start = 0;
+    while start < layers.len() {
+        let end = start.saturating_add(size).min(layers.len());
+        push_group(alloc, fitted, &layers[start..end], &mut digested)?;
+        start = end;
     }
-    let sha256 = mask.finish();
+    Ok(digested)
+}
+
+/// The digest of the mask that the top draws. Only what is drawn in a strip is in memory.
+pub(crate) fn digest_fitted(alloc: Global, fitted: &Fitted) -> Result<MaskDigest, AllocError>
+    ensures { IfOk result (IsMaskDigest (TopCovers fitted.now)) }
+{
+    let layers = digested_layers(alloc, fitted)?;
+    let sha256 = mask_sha256(alloc, &layers)?;
     Ok(MaskDigest { layers, sha256 })
 }

@@ -16,7 +16,7 @@ use std::alloc::{AllocError, Global};
 const LEAST_BUDGET: usize = 600_000;
 
 /// The number of shapes in the cells of a library.
-fn shapes_of(fitted: &Fitted) -> usize {
+pub(crate) fn shapes_of(fitted: &Fitted) -> usize {
     let mut shapes: usize = 0;
     for cell in fitted.checked().cells() {
         shapes = shapes.saturating_add(cell.shapes.len());
@@ -24,10 +24,10 @@ fn shapes_of(fitted: &Fitted) -> usize {
     shapes
 }
 
-/// The greatest number of points that the rings of one side have in a strip. Each strip looks at
-/// all shapes, so strips grow with the files: a strip takes about a fifth of what the shapes take.
-fn most_points(first: &Fitted, second: &Fitted) -> usize {
-    let shapes = shapes_of(first).saturating_add(shapes_of(second));
+/// The greatest number of points that the rings of one side have in a strip of files with this
+/// number of shapes. Each strip looks at all shapes, so strips grow with the files: a strip takes
+/// about a fifth of what the shapes take.
+pub(crate) fn most_points(shapes: usize) -> usize {
     LEAST_BUDGET.saturating_add(shapes / 4)
 }
 
@@ -43,7 +43,7 @@ pub(crate) fn compare_fitted(
     ensures { IfOk result (IsVerdictOf (IsShown view.now.window) (TopCovers first.now)
         (IsMoved view.now.pairs (TopCovers second.now))) }
 {
-    let most = most_points(first, second);
+    let most = most_points(shapes_of(first).saturating_add(shapes_of(second)));
     match difference_by_changes(alloc, first, second, view, most)? {
         Some((layer, square, side)) => Ok(Verdict::Differ {
             layer,

@@ -24,8 +24,9 @@
 
 pub use compare::{compare_files, compare_layouts, compare_view};
 pub use digest::{digest_file, digests_decide};
-pub use digested::{Digested, DigestedLayer, MaskDigest};
-pub use layout::{FileFault, Head, Layout, widening_keeps, read_layout, read_layout_by};
+pub use digested::{Digested, MaskDigest};
+pub use layout::{FileFault, Head, Layout, read_layout, read_layout_by, widening_keeps};
+pub use lvl_corners::{DigestedLayer, layer_line};
 pub use show::show_file;
 pub use shown::Shown;
 pub use verdict::{Comparison, Refusal, Tops, Verdict};
@@ -34,9 +35,11 @@ mod compare;
 mod digest;
 mod digested;
 mod fitted;
-mod flattened;
+mod hashes;
 mod layout;
+mod pace;
 mod show;
 mod shown;
 mod side;
+mod strip;
 mod verdict;

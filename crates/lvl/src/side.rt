@@ -1,8 +1,8 @@
-//! The steps for one of two files: read it, check its cells, and test or flatten what its top
-//! places.
+//! The steps for one of two files: read it, check its cells, and test where its top places
+//! anything outside 64 bits.
 ghost use Rattle.std.specs.Prelude.{◌≡◌, ◌≢◌, List, ℕ, Some, Err, IfOk, IfErr, option_copied};
 ghost use Rattle.lvl_io.specs.Bytes.{CountsFailure};
-ghost use Rattle.lvl_flat.specs.Flattened.{IsFlattened, IsTopInRange};
+ghost use Rattle.lvl_flat.specs.Flattened.{IsTopInRange};
 ghost use Rattle.lvl.specs.Layouts.{IsLayoutOf};
 ghost use Rattle.lvl.specs.Kept.{IsCheckedAs};
 ghost use Rattle.lvl.specs.Answers.{IsEarlyOf, IsHopeless, is_read_of};
@@ -13,7 +13,7 @@ ghost use Rattle.lvl.specs.declared.verdict.Refusal.TheVariants.{OutOfMemory};
 use crate::layout::{Head, read_layout_by};
 use crate::verdict::Refusal;
 use lvl_cells::{Checked, Library, check_with};
-use lvl_flat::{Fitted, Flat, flatten};
+use lvl_flat::Fitted;
 use lvl_io::Read;
 use lvl_profile::{Limits, Profile};
 use lvl_refusal::Cause;
@@ -93,18 +93,6 @@ pub(crate) fn fit_side(alloc: Global, side: Side, checked: Checked) -> Result<Fi
 {
     match Fitted::new(alloc, checked) {
         Ok(fitted) => Ok(fitted),
-        Err(Cause::Breach(fault)) => Err(Refusal::Flat(side, fault)),
-        Err(Cause::OutOfMemory) => Err(Refusal::OutOfMemory),
-    }
-}
-
-/// The rings of the library, Layer by Layer. The library is dropped.
-pub(crate) fn flatten_side(alloc: Global, side: Side, checked: Checked) -> Result<Flat, Refusal>
-    ensures flat { IfOk result (IsFlattened checked) }
-    ensures refused { IfErr result (IsFlattenRefusal side checked) }
-{
-    match flatten(alloc, &checked) {
-        Ok(flat) => Ok(flat),
         Err(Cause::Breach(fault)) => Err(Refusal::Flat(side, fault)),
         Err(Cause::OutOfMemory) => Err(Refusal::OutOfMemory),
     }

@@ -1,6 +1,11 @@
+pub mod Lists
 pub mod Widening
 pub mod Moving
 pub mod Placing
+pub mod Grid
+pub mod Sums
+pub mod SeenThrough
+pub mod Arraying
 pub mod Same
 pub mod Walked
 pub mod Seeing
@@ -9,3 +14,4 @@ pub mod Own
 pub mod Missing
 pub mod Boxing
 pub mod Unchanged
+pub mod Leaving

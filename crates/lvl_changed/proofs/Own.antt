@@ -1,5 +1,5 @@
 -- What the own shapes of a cell cover, in terms of flat layouts.
-use Rattle.std.proofs.Common.{◌↔◌, List, Option, Some, None}
+use Rattle.std.proofs.Common.{◌≡◌, ◌↔◌, List, Option, Some, None, refl}
 use Rattle.std.specs.Prelude.{IfSome}
 use Rattle.lvl_grid.specs.declared.point.Square.{Square}
 use Rattle.lvl_names.specs.declared.layer.Layer.{Layer}
@@ -35,3 +35,8 @@ shapes_alike a b mapped xs ys pairs w ours theirs map same l s out = (
 pub any_some : {X : Type 0} (P : X → Type 0) (o : Option X) → ((x : X) → P x) → IfSome o P
 any_some P None all = tt
 any_some P (Some x) all = all x
+
+-- what holds of each value of an option holds of its value
+pub some_then : {X : Type 0} (o : Option X) (P : X → Type 0) → ((x : X) → o ≡ Some x → P x) → IfSome o P
+some_then None P each = tt
+some_then (Some x) P each = each x refl

@@ -1,7 +1,10 @@
 -- What references and placements cover, outside of windows.
 use Rattle.std.proofs.Common.{◌≡◌, ◌↔◌, ◌<◌, ◌+◌, ◌++◌, ◌∷◌, [], ℕ, List, Any, Contains, IsSomeAnd, Option, Some, None}
 use Rattle.std.proofs.Common.{◌⊎◌, map, take, length, get_or, slice_get, inl, inr, refl, sym, ap, ◌∙◌, subst}
-use Rattle.std.proofs.lemmas.List.{append-nil, take_more}
+use Rattle.std.proofs.Common.{false, pos}
+use Rattle.std.proofs.lemmas.List.{append-nil, take_more, get_or_default}
+use Rattle.std.proofs.lemmas.Option.{slice_get-get_or}
+use Rattle.lvl_grid.specs.declared.map.Turn.TheVariants.{R0}
 use Rattle.std.proofs.lemmas.List.Concat.{flat_map-append}
 use Rattle.lvl_grid.specs.declared.point.Point.{Point}
 use Rattle.lvl_grid.specs.declared.point.Square.{Square}
@@ -17,9 +20,12 @@ use Rattle.lvl_flat.specs.inside.Visits.{Pick, picks, PickCovers}
 use Rattle.lvl_view.specs.declared.map.LayerPair.{LayerPair}
 use Rattle.lvl_view.specs.Moved.{IsMoved}
 use Rattle.lvl_compare.specs.Tops.{Draws}
+use Rattle.lvl_cells.specs.Checks.{IsTargetOf}
+use Rattle.lvl_changed.specs.declared.arrays.Array.{Array}
 use Rattle.lvl_changed.specs.declared.found.Found.{Found}
 use Rattle.lvl_changed.specs.declared.placements.Placement.{Placement}
 use Rattle.lvl_changed.specs.declared.windows.Windows.{Windows}
+use Rattle.lvl_changed.specs.inside.Arrays.{as_reference, each_place, AddsArray, AddsPartner, IsArrayOf}
 use Rattle.lvl_changed.specs.inside.Finding.{IsFound, PartnerCovers}
 use Rattle.lvl_changed.specs.inside.Placements.{placed, partner_placed, HaveSame, PlacedCover, PlacementCovers}
 use Rattle.lvl_changed.specs.inside.Placements.{ReferencesCover}
@@ -153,57 +159,53 @@ picks_more rs j r lt is =
     ∙ (ap (λ xs. picks (take j rs) ++ xs) (append-nil (f (get_or rs j r)))
     ∙ ap (λ q. picks (take j rs) ++ f q) (sym is)))
 
--- what one more reference covers
-references_more : (cells : List (PlainCell Rings)) (rs : List PlainReference) (j k : ℕ) (r : PlainReference)
-    (c : PlainCell Rings) → slice_get cells k ≡ Some c → cell_named cells r.cell ≡ Some c → j < length rs
-    → r ≡ get_or rs j r → (l : Layer) (s : Square)
-    → ReferencesCover cells (take (j + 1) rs) l s
-    ↔ (ReferencesCover cells (take j rs) l s ⊎ PlacedCover cells (placed k r) l s)
-references_more cells rs j k r c at named lt is l s =
+no_reference : PlainReference
+no_reference = record { cell = []; flip = false; turn = R0; at = record { x = pos 0; y = pos 0 }; shifts = [] }
+
+-- what one more reference covers, which an array does too
+references_more : (cells : List (PlainCell Rings)) (i j : ℕ) (c : PlainCell Rings) (a : Array)
+    → slice_get cells i ≡ Some c → j < length c.references → IsArrayOf cells i j a → (l : Layer) (s : Square)
+    → ReferencesCover cells (take (j + 1) c.references) l s
+    ↔ (ReferencesCover cells (take j c.references) l s ⊎ PlacedCover cells (each_place a) l s)
+references_more cells i j c a at low is l s =
     let P : Pick → Type 0 = PickCovers cells l s in
+    let rs : List PlainReference = c.references in
+    let r : PlainReference = get_or rs j no_reference in
+    let one : r ≡ get_or rs j r = get_or_default rs j no_reference r low in
     let last : List Pick = map (λ e. (r, e)) r.shifts in
-    let here = reference_at cells k c r at named l s in
-    subst (λ xs. Any P xs ↔ (Any P (picks (take j rs)) ⊎ PlacedCover cells (placed k r) l s))
-    (sym (picks_more rs j r lt is)) (
-      λ a. elim (Any-sides P (picks (take j rs)) last a) [ inl b ↦ inl b | inr b ↦ inr (here.0 b) ],
+    let here : PlacedCover cells (each_place a) l s ↔ Any P last =
+    subst (λ (ps : List Pick). PlacedCover cells (each_place a) l s ↔ Any P ps) (append-nil last)
+    (is c r at (slice_get-get_or rs j no_reference low) l s) in
+    subst (λ xs. Any P xs ↔ (Any P (picks (take j rs)) ⊎ PlacedCover cells (each_place a) l s))
+    (sym (picks_more rs j r low one)) (
+      λ x. elim (Any-sides P (picks (take j rs)) last x) [ inl b ↦ inl b | inr b ↦ inr (here.1 b) ],
       λ e. elim e [
         | inl b ↦ Any-left P (picks (take j rs)) last b
-        | inr b ↦ Any-right P (picks (take j rs)) last (here.1 b)
+        | inr b ↦ Any-right P (picks (take j rs)) last (here.0 b)
       ],
-    )
-
--- what more placements cover
-placed_more : (cells : List (PlainCell Rings)) (ps qs : List Placement) (l : Layer) (s : Square)
-    → PlacedCover cells (ps ++ qs) l s ↔ (PlacedCover cells ps l s ⊎ PlacedCover cells qs l s)
-placed_more cells ps qs l s =
-    let P : Placement → Type 0 = PlacementCovers cells l s in (
-      λ a. Any-sides P ps qs a,
-      λ e. elim e [ inl b ↦ Any-left P ps qs b | inr b ↦ Any-right P ps qs b ],
     )
 
 -- with one more reference
-pub partners_more : (pairs : List LayerPair) (ours theirs : List (PlainCell Rings)) (rs : List PlainReference)
-    (ps : List Placement) (j k : ℕ) (r : PlainReference) (c : PlainCell Rings) (f : Found) (all : Windows)
-    → slice_get ours k ≡ Some c → cell_named ours r.cell ≡ Some c → j < length rs → r ≡ get_or rs j r
-    → IsFound pairs ours theirs k f → ((e : Point) → Contains r.shifts e → HasPlaced (map_at r e) f.windows all)
-    → AlikeOutside all (ReferencesCover ours (take j rs)) (IsMoved pairs (PlacedCover theirs ps))
-    → AlikeOutside all (ReferencesCover ours (take (j + 1) rs))
-    (IsMoved pairs (PlacedCover theirs (ps ++ partner_placed f.partner r)))
-partners_more pairs ours theirs rs ps j k r c f all at named lt is found has before l s out =
-    let qs : List Placement = partner_placed f.partner r in
-    let whole : Draws = PlacedCover theirs (ps ++ qs) in
-    let mine = references_more ours rs j k r c at named lt is l s in
+pub partners_more : (pairs : List LayerPair) (ours theirs : List (PlainCell Rings)) (i j : ℕ) (c : PlainCell Rings)
+    (ps new : List Placement) (a : Array) (f : Found) (all : Windows) → slice_get ours i ≡ Some c
+    → j < length c.references → IsArrayOf ours i j a → IsFound pairs ours theirs a.cell f
+    → ((e : Point) → Contains a.shifts e → HasPlaced (map_at (as_reference a) e) f.windows all)
+    → AddsPartner ps new f.partner a
+    → AlikeOutside all (ReferencesCover ours (take j c.references)) (IsMoved pairs (PlacedCover theirs ps))
+    → AlikeOutside all (ReferencesCover ours (take (j + 1) c.references)) (IsMoved pairs (PlacedCover theirs new))
+partners_more pairs ours theirs i j c ps new a f all at low is found has adds before l s out =
+    let qs : List Placement = partner_placed f.partner (as_reference a) in
+    let whole : Draws = PlacedCover theirs new in
+    let mine = references_more ours i j c a at low is l s in
     let earlier = before l s out in
-    let last = partner_alike pairs ours theirs k f r all f.partner refl found has l s out in (
+    let last = partner_alike pairs ours theirs a.cell f (as_reference a) all f.partner refl found has l s out in (
       λ x. elim (mine.0 x) [
         | inl y ↦
-            moved_more pairs (PlacedCover theirs ps) whole s s (λ i b. (placed_more theirs ps qs i s).1 (inl b)) l
-            (earlier.0 y)
+            moved_more pairs (PlacedCover theirs ps) whole s s (λ k b. (adds theirs k s).1 (inl b)) l (earlier.0 y)
         | inr y ↦
-            moved_more pairs (PlacedCover theirs qs) whole s s (λ i b. (placed_more theirs ps qs i s).1 (inr b)) l
-            (last.0 y)
+            moved_more pairs (PlacedCover theirs qs) whole s s (λ k b. (adds theirs k s).1 (inr b)) l (last.0 y)
       ],
-      λ m. elim ((placed_more theirs ps qs m.source s).0 m.covers) [
+      λ m. elim ((adds theirs m.source s).0 m.covers) [
         | inl b ↦
             mine.1 (inl (earlier.1 (record { source = m.source; is_target = m.is_target; covers = b })))
         | inr b ↦
@@ -219,18 +221,16 @@ partners_none pairs ours theirs all l s out = (
   λ m. absurd (Any-nil (PlacementCovers theirs m.source s) m.covers),
 )
 
--- the placements of a cell's references, with the indexes of the cells that these name
-pub own_more : (cells : List (PlainCell Rings)) (rs : List PlainReference) (ps : List Placement) (j k : ℕ)
-    (r : PlainReference) (c : PlainCell Rings) → slice_get cells k ≡ Some c → cell_named cells r.cell ≡ Some c
-    → j < length rs → r ≡ get_or rs j r
-    → ((l : Layer) (s : Square) → PlacedCover cells ps l s ↔ ReferencesCover cells (take j rs) l s)
-    → (l : Layer) (s : Square)
-    → PlacedCover cells (ps ++ placed k r) l s ↔ ReferencesCover cells (take (j + 1) rs) l s
-own_more cells rs ps j k r c at named lt is before l s =
-    let mine = references_more cells rs j k r c at named lt is l s in
-    let both = placed_more cells ps (placed k r) l s in (
-      λ a. elim (both.0 a) [ inl b ↦ mine.1 (inl ((before l s).0 b)) | inr b ↦ mine.1 (inr b) ],
-      λ a. elim (mine.0 a) [ inl b ↦ both.1 (inl ((before l s).1 b)) | inr b ↦ both.1 (inr b) ],
+-- what a cell's references place, with one more reference
+pub own_more : (cells : List (PlainCell Rings)) (i j : ℕ) (c : PlainCell Rings) (ps new : List Placement) (a : Array)
+    → slice_get cells i ≡ Some c → j < length c.references → IsArrayOf cells i j a → AddsArray ps new a → (l : Layer)
+    (s : Square) → PlacedCover cells ps l s ↔ ReferencesCover cells (take j c.references) l s
+    → PlacedCover cells new l s ↔ ReferencesCover cells (take (j + 1) c.references) l s
+own_more cells i j c ps new a at low is adds l s before =
+    let mine = references_more cells i j c a at low is l s in
+    let both = adds cells l s in (
+      λ x. elim (both.0 x) [ inl b ↦ mine.1 (inl (before.0 b)) | inr b ↦ mine.1 (inr b) ],
+      λ x. elim (mine.0 x) [ inl b ↦ both.1 (inl (before.1 b)) | inr b ↦ both.1 (inr b) ],
     )
 
 pub own_none : (cells : List (PlainCell Rings)) (l : Layer) (s : Square)
@@ -252,26 +252,40 @@ placement_held cells w p held l s covers = subst (λ q. Has w q) covers.1 (held 
 
 -- cells whose placements cover the same outside of windows have references that do
 pub refer_alike : (pairs : List LayerPair) (ours theirs : List (PlainCell Rings)) (xs ys : List PlainReference)
-    (ps ps2 qs qs2 : List Placement) (w1 w2 w3 : Windows)
-    → AlikeOutside w1 (ReferencesCover ours xs) (IsMoved pairs (PlacedCover theirs ps))
-    → ((l : Layer) (s : Square) → PlacedCover theirs qs l s ↔ ReferencesCover theirs ys l s)
-    → HaveSame ps ps2 → HaveSame qs qs2 → Widens w1 w2 → Widens w2 w3
-    → ((l : Layer) (s : Square) → (¬ Has w2 s) → PlacedCover theirs ps2 l s → PlacedCover theirs qs2 l s)
-    → ((l : Layer) (s : Square) → (¬ Has w3 s) → PlacedCover theirs qs2 l s → PlacedCover theirs ps2 l s)
-    → AlikeOutside w3 (ReferencesCover ours xs) (IsMoved pairs (ReferencesCover theirs ys))
-refer_alike pairs ours theirs xs ys ps ps2 qs qs2 w1 w2 w3 mine other same_ps same_qs wide wider to back l s out =
-    let out2 : ¬ Has w2 s = λ h. out (wider.has s h) in
-    let both = mine l s (λ h. out2 (wide.has s h)) in
+    (ps qs : List Placement) (old new : Windows)
+    → AlikeOutside old (ReferencesCover ours xs) (IsMoved pairs (PlacedCover theirs ps))
+    → ((l : Layer) (s : Square) → PlacedCover theirs qs l s ↔ ReferencesCover theirs ys l s) → Widens old new
+    → ((l : Layer) (s : Square) → (¬ Has new s) → PlacedCover theirs ps l s ↔ PlacedCover theirs qs l s)
+    → AlikeOutside new (ReferencesCover ours xs) (IsMoved pairs (ReferencesCover theirs ys))
+refer_alike pairs ours theirs xs ys ps qs old new mine other wide same l s out =
+    let both = mine l s (λ h. out (wide.has s h)) in
     let here : Draws = PlacedCover theirs ps in
     let there : Draws = ReferencesCover theirs ys in (
-      λ x.
-          moved_more pairs here there s s
-          (λ k a.
-          (other k s).0 (same_cover theirs qs2 qs (λ p. ((same_qs p).1, (same_qs p).0)) k s
-          (to k s out2 (same_cover theirs ps ps2 same_ps k s a)))) l (both.0 x),
-      λ m.
-          both.1 (moved_more pairs there here s s
-          (λ k a.
-          same_cover theirs ps2 ps (λ p. ((same_ps p).1, (same_ps p).0)) k s
-          (back k s out (same_cover theirs qs qs2 same_qs k s ((other k s).1 a)))) l m),
+      λ x. moved_more pairs here there s s (λ k a. (other k s).0 ((same k s out).0 a)) l (both.0 x),
+      λ m. both.1 (moved_more pairs there here s s (λ k a. (same k s out).1 ((other k s).1 a)) l m),
     )
+
+-- the reference to a cell covers what the array of that cell does
+pub array_of_reference : (cells : List (PlainCell Rings)) (i j k : ℕ) (q : PlainReference) (a : Array)
+    (t : IsTargetOf cells i j k) → slice_get t.cell.references j ≡ Some q
+    → a ≡ record {
+      cell = k;
+      by = record { flip = q.flip; turn = q.turn; at = q.at };
+      shifts = q.shifts;
+    } → IsArrayOf cells i j a
+array_of_reference cells i j k q a t here is c r at there l s =
+    let both : Some t.cell ≡ Some c = sym t.cell_is ∙ at in
+    let one : t.cell ≡ c = cc in
+    let refs : Some q ≡ Some r = sym here ∙ (ap (λ (b : PlainCell Rings). slice_get b.references j) one ∙ there) in
+    let same : q ≡ r = cc in
+    let known : Some t.reference ≡ Some q = sym t.reference_is ∙ here in
+    let this : t.reference ≡ q = cc in
+    let named : cell_named cells q.cell ≡ Some t.target =
+    ap (λ (x : PlainReference). cell_named cells x.cell) (sym this) ∙ t.named in
+    let last : List Pick = map (λ e. (q, e)) q.shifts in
+    let covers : PlacedCover cells (placed k q) l s ↔ ReferencesCover cells (q ∷ []) l s =
+    subst (λ (ps : List Pick). PlacedCover cells (placed k q) l s ↔ Any (PickCovers cells l s) ps)
+    (sym (append-nil last)) (turned_round (reference_at cells k t.target q t.target_is named l s)) in
+    let mine : PlacedCover cells (each_place a) l s ↔ ReferencesCover cells (q ∷ []) l s =
+    subst (λ (b : Array). PlacedCover cells (each_place b) l s ↔ ReferencesCover cells (q ∷ []) l s) (sym is) covers in
+    subst (λ (x : PlainReference). PlacedCover cells (each_place a) l s ↔ ReferencesCover cells (x ∷ []) l s) same mine

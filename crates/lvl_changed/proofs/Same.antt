@@ -41,7 +41,7 @@ second true false t u a b h = cc
 second false true t u a b h = cc
 second false false t u a b h = h
 
-maps : (m n : Map) → map-eq.it m n ≡ true → m ≡ n
+pub maps : (m n : Map) → map-eq.it m n ≡ true → m ≡ n
 maps m n h =
     let flip = flips m.flip n.flip m.turn n.turn m.at n.at h in
     let rest =

@@ -1,12 +1,14 @@
 -- Windows that are placed, joined and added.
 use Rattle.std.proofs.Common.{◌≡◌, ◌<◌, ◌++◌, ◌∷◌, [], ℕ, List, Bool, true, false, IsTrue, Any, ◌⊎◌, inl, inr, length}
 use Rattle.std.proofs.Common.{◌+◌, ◌≤◌, Contains, take, get_or, sym, subst, ap, ◌∙◌, arith}
-use Rattle.std.specs.List.{swap_remove}
+use Rattle.std.proofs.Common.{set}
+use Rattle.std.specs.List.{remove, swap_remove}
+use Rattle.std.specs.List.Sorted.{IsPermutation}
 use Rattle.std.proofs.lemmas.Int.{ints, clamps}
-use Rattle.std.proofs.lemmas.List.{take_all, take_more}
+use Rattle.std.proofs.lemmas.List.{take_all, take_more, get_or_default}
 use Rattle.std.proofs.lemmas.List.Elements.{Contains-push_cases}
 use Rattle.std.proofs.lemmas.Option.{slice_get_within, get_or_from_slice_get}
-use Rattle.std.proofs.lemmas.List.Sorted.{Contains-permutation, IsPermutation-swap_remove}
+use Rattle.std.proofs.lemmas.List.Sorted.{Contains-permutation, IsPermutation-remove, IsPermutation-swap_remove}
 use Rattle.lvl_grid.specs.declared.point.Point.{Point}
 use Rattle.lvl_grid.specs.declared.point.Square.{Square}
 use Rattle.lvl_grid.specs.declared.point.Window.{Window}
@@ -22,6 +24,7 @@ use Rattle.lvl_compare.specs.Parts.{SomeHas}
 use Rattle.lvl_compare.proofs.InStrips.{hull, hull_first, hull_second}
 use Rattle.lvl_changed.specs.declared.windows.Windows.{Windows}
 use Rattle.lvl_changed.specs.inside.Windows.{Has, HasPlaced, Widens}
+use Rattle.lvl_changed.proofs.Lists.{set_has, set_keeps}
 
 -- the window at a point
 abbrev pub at_point : Point → Window
@@ -187,3 +190,47 @@ widens_itself a = record { has = λ s h. h }
 
 pub widens_further : (a b c : Windows) → Widens a b → Widens b c → Widens a c
 widens_further a b c p q = record { has = λ s h. q.has s (p.has s h) }
+
+-- windows that are sorted
+pub sorted_has : (from to : Windows) → to.anywhere ≡ from.anywhere → IsPermutation from.list.items to.list.items
+    → Widens from to
+sorted_has from to flag moved = record { has = each }
+  where
+    each : (s : Square) → Has from s → Has to s
+    each s (inl any) = inl (flag_is from to flag any)
+    each s (inr a) =
+        inr (some_contained (λ w. IsInWindow w s) to.list.items a.1
+        (Contains-permutation from.list.items to.list.items a.1 moved (a.0, a.2, a.3)) a.4)
+
+-- one window is removed, and another joined with it
+pub next_joined : (from to : Windows) (xs : List Window) (next whole none : Window) (i : ℕ)
+    → i + 1 < length from.list.items → next ≡ get_or from.list.items (i + 1) next
+    → xs ≡ remove from.list.items (i + 1) → to.anywhere ≡ from.anywhere → i < length xs
+    → whole ≡ hull (get_or xs i none) next → to.list.items ≡ set xs i whole → Widens from to
+next_joined from to xs next whole none i low at left flag inside is done = record { has = each }
+  where
+    each : (s : Square) → Has from s → Has to s
+    each s (inl any) = inl (flag_is from to flag any)
+    each s (inr a) =
+        let P : Window → Type 0 = λ w. IsInWindow w s in
+        let all = IsPermutation-remove from.list.items (i + 1) next low at in
+        let there : Any P (next ∷ remove from.list.items (i + 1)) =
+        some_contained P (next ∷ remove from.list.items (i + 1)) a.1
+        (Contains-permutation from.list.items (next ∷ remove from.list.items (i + 1)) a.1 all (a.0, a.2, a.3)) a.4 in
+        let here : IsInWindow whole s → SomeHas to.list.items s =
+        λ h. subst (λ ws. Any P ws) (sym done) (some_contained P (set xs i whole) whole (set_has xs i whole inside) h) in
+        elim (Any-uncons P next (remove from.list.items (i + 1)) there) [
+          | inl h ↦
+              inr (here (subst (λ (w : Window). IsInWindow w s) (sym is) (hull_second (get_or xs i none) next s h)))
+          | inr h ↦
+              let b : Any P xs = subst (λ ws. Any P ws) (sym left) h in
+              elim (set_keeps xs i whole b.1 (b.0, b.2, b.3)) [
+                | inl same ↦
+                    inr
+                    (here
+                    (subst (λ (w : Window). IsInWindow w s) (sym is)
+                    (hull_first (get_or xs i none) next s
+                    (subst P (same ∙ get_or_default xs i b.1 none inside) b.4))))
+                | inr c ↦ inr (subst (λ ws. Any P ws) (sym done) (some_contained P (set xs i whole) b.1 c b.4))
+              ]
+        ]

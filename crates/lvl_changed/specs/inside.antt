@@ -1,5 +1,7 @@
-pub mod Partners
 pub mod Windows
 pub mod Placements
+pub mod Shifts
+pub mod Arrays
 pub mod Finding
 pub mod Shapes
+pub mod Figures

@@ -13,7 +13,7 @@ ghost use Rattle.lvl_changed.specs.inside.Windows.{AlikeOutside, Has};
 ghost use Rattle.lvl_changed.specs.inside.Finding.{AreFound, IsFound};
 
 use crate::found::Found;
-use crate::partners::{index_by_name, placed_partner};
+use crate::partners::{partner_in, partners_of};
 use crate::references::hold_references;
 use crate::shapes::hold_shapes;
 use crate::windows::Windows;
@@ -145,11 +145,12 @@ fn windows_of(mut known: Vec<Option<Found>>, cell: usize, partner: usize) -> Opt
 /// second mapped by the view. None if no such windows are found. There are at most 64, and the list
 /// is empty if both are found to draw the same everywhere. Fails only if out of memory.
 ///
-/// The tops are compared with each other, and any other cell with the cell of the same name: own
-/// shapes with own shapes, which are flattened for this, and references place by place. If only one
-/// side has a placement, the windows have all that it covers. What is found for a cell is added to
-/// the windows of the cells that place it, at each place. A cell whose partner isn't placed is
-/// treated as one without a partner, since nothing limits how much the partner draws.
+/// The tops are compared with each other, and any other cell with one that it is likely to be the
+/// same as: one of its name that looks like it, one that is placed where it is, or else the one of
+/// its name. Own shapes are compared with own shapes, and references with references. What is the
+/// same on both sides cancels; only the rest is flattened, or written out place by place, or becomes
+/// windows if it is large. What is found for a cell is added to the windows of the cells that place
+/// it, at each place. A cell that isn't placed is no partner, since nothing limits how much it draws.
 pub fn changed(
     alloc: Global,
     first: &Fitted,
@@ -161,18 +162,15 @@ pub fn changed(
 {
     let ours = first.checked();
     let theirs = second.checked();
-    let Some(index) = index_by_name(alloc, theirs)? else {
-        return Ok(None);
-    };
+    let partners = partners_of(alloc, first, second)?;
     let times = ours.times();
-    let their_times = theirs.times();
     let mut known = none_known(alloc, ours.cells().len())?;
     for i in (0..ours.order().len()).rev() {
         let cell = ours.order()[i];
         if times[cell] == 0 {
             continue;
         }
-        let partner = placed_partner(ours, cell, theirs, &index, their_times);
+        let partner = partner_in(&partners, cell, theirs);
         let most = most_windows(times[cell]);
         let found = found_of(alloc, first, cell, second, partner, view, &known, most)?;
         keep(&mut known, cell, found);

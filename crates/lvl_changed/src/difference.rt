@@ -7,7 +7,7 @@ ghost use Rattle.lvl_compare.specs.Tops.{DrawSame, IsFirstDifference};
 ghost use Rattle.lvl_changed.specs.Changed.{IsOutside};
 
 use crate::cells::changed;
-use crate::partners::pays_by_cells;
+use crate::pays::pays_by_cells;
 use lvl_compare::{difference_by_strips, difference_in_windows};
 use lvl_flat::Fitted;
 use lvl_grid::{Square, Window};

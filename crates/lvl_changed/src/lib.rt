@@ -26,15 +26,24 @@
 pub use alike::same_by_cells;
 pub use cells::changed;
 pub use difference::difference_by_changes;
-pub use partners::pays_by_cells;
+pub use pays::pays_by_cells;
 
 mod alike;
+mod arrays;
 mod cells;
 mod difference;
+mod figures;
 mod found;
+mod lattices;
+mod left;
+mod listing;
 mod partners;
+mod pays;
+mod placed;
 mod placements;
 mod references;
 mod rings;
 mod shapes;
+mod shifts;
+mod spots;
 mod windows;

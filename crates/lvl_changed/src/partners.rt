@@ -1,107 +1,249 @@
-//! Which cells of two libraries are compared with each other, and whether that is likely to pay.
-ghost use Rattle.std.specs.Prelude.{◌<◌, length, IfOk, IfSome};
-ghost use Rattle.lvl_cells.specs.Cells.{names};
-ghost use Rattle.lvl_cells.specs.Resolving.{IsIndexOf};
-ghost use Rattle.lvl_changed.specs.inside.Partners.{IsPartner};
+//! Partners: which cells of two libraries are compared with each other.
+//!
+//! Any choice is right. It is made so that cells that draw the same are compared, which costs
+//! least.
+ghost use Rattle.std.specs.Prelude.{◌<◌, length, IfSome};
 
-use lvl_cells::{Cell, Checked, index_of};
+use crate::placed::{Placed, placed_of};
+use crate::spots::{AtSpot, skip_to_spot, sort_by_spot};
+use lvl_cells::{Checked, index_of};
+use lvl_flat::Fitted;
 use lvl_refusal::Cause;
 use std::alloc::{AllocError, Global};
 use std::collections::BTreeMap;
 
-/// A map from the names of the cells to their indexes. None doesn't occur, since the names of a
-/// checked library are distinct.
-pub(crate) fn index_by_name(
-    alloc: Global,
-    checked: &Checked,
-) -> Result<Option<BTreeMap<&[u8], usize>>, AllocError>
-    ensures { IfOk result (λ found. IfSome found (IsIndexOf (names checked.now.cells))) }
-{
+/// The cells of two libraries, while they are matched.
+#[derive(Drop)]
+struct Matching<'a> {
+    first: &'a Fitted,
+    second: &'a Fitted,
+    names: BTreeMap<&'a [u8], usize>,
+    partners: Vec<Option<usize>>,
+    taken: Vec<bool>,
+}
+
+/// Which cells that are placed at the same spot become partners.
+#[derive(Clone, Copy, PartialEq, Eq)]
+enum Round {
+    /// Those of the same name.
+    Named,
+    /// Those that aren't partners yet.
+    Free,
+    /// Those of which only the second is one already.
+    Shared,
+}
+
+/// A map from the names of the cells to their indexes. It is empty if two cells have the same name,
+/// which doesn't occur.
+fn index_by_name(alloc: Global, checked: &Checked) -> Result<BTreeMap<&[u8], usize>, AllocError> {
     match index_of(alloc, checked.cells()) {
-        Ok(index) => Ok(Some(index)),
-        Err(Cause::Breach(_)) => Ok(None),
+        Ok(index) => Ok(index),
+        Err(Cause::Breach(_)) => Ok(BTreeMap::new(alloc)),
         Err(Cause::OutOfMemory) => Err(AllocError),
     }
 }
 
-/// The index of the cell that a cell is compared with: the tops with each other, any other with the
-/// cell of the same name, if there is one.
-fn partner_of(
-    first: &Checked,
-    cell: usize,
-    second: &Checked,
-    index: &BTreeMap<&[u8], usize>,
-) -> Option<usize>
-    requires cell { cell < length first.now.cells }
-    requires index { IsIndexOf (names second.now.cells) index.now }
-    ensures { IfSome result (IsPartner first.now second.now cell) }
-{
-    if cell == first.top() {
-        return Some(second.top());
-    }
-    let partnered = &first.cells()[cell];
-    index.get(partnered.name.as_bytes()).copied()
-}
-
-/// The partner of a cell, as [`partner_of`] says, but only if it is placed: `times` says how often
-/// each cell of the second library is.
-pub(crate) fn placed_partner(
-    first: &Checked,
-    cell: usize,
-    second: &Checked,
-    index: &BTreeMap<&[u8], usize>,
-    times: &[u64],
-) -> Option<usize>
-    requires cell { cell < length first.now.cells }
-    requires index { IsIndexOf (names second.now.cells) index.now }
-    ensures { IfSome result (IsPartner first.now second.now cell) }
-{
-    let partner = partner_of(first, cell, second, index)?;
-    match times.get(partner) {
-        Some(0) => None,
-        _ => Some(partner),
+/// The name of a cell, or no bytes if there is no such cell.
+fn name_of(library: &Fitted, cell: usize) -> &[u8] {
+    match library.checked().cells().get(cell) {
+        Some(found) => found.name.as_bytes(),
+        None => &[],
     }
 }
 
-/// The number of rings that a cell itself draws, at most `u64::MAX`: each counts once for each
-/// shift of its shape.
-fn rings_of(cell: &Cell) -> u64 {
-    let shapes = &cell.shapes;
-    let mut sum = 0u64;
-    for i in 0..shapes.len() {
-        let drawn = (shapes.ring_count(i) as u64).saturating_mul(shapes.shift_count(i));
-        sum = sum.saturating_add(drawn);
+/// Whether the top places a cell.
+fn is_placed(library: &Fitted, cell: usize) -> bool {
+    match library.checked().times().get(cell) {
+        Some(times) => *times > 0,
+        None => false,
     }
-    sum
 }
 
-/// The number of shifts of the shapes and references of a cell, at most `u64::MAX`.
-fn shifts_of(cell: &Cell) -> u64 {
-    let mut sum = 0u64;
-    for i in 0..cell.shapes.len() {
-        sum = sum.saturating_add(cell.shapes.shift_count(i));
-    }
-    for j in 0..cell.references.len() {
-        sum = sum.saturating_add(cell.references.reference(j).shifts().len());
-    }
-    sum
+/// Whether two cells have as many shapes, as many references and the same extent.
+fn look_alike(first: &Fitted, ours: usize, second: &Fitted, theirs: usize) -> bool {
+    let (Some(a), Some(b)) = (
+        first.checked().cells().get(ours),
+        second.checked().cells().get(theirs),
+    ) else {
+        return false;
+    };
+    a.shapes.len() == b.shapes.len()
+        && a.references.len() == b.references.len()
+        && first.extent_of(ours) == second.extent_of(theirs)
 }
 
-/// Whether a comparison cell by cell is likely to cost less than one of flat layouts. It is if the
-/// cells that are placed have at most a quarter as many own rings as are placed in all, and if all
-/// cells together have at most about twice as many shifts as there are placed rings, since each
-/// shift is looked at. The answer is one of cost only.
-pub fn pays_by_cells(checked: &Checked) -> bool {
-    let mut own = 0u64;
-    let mut placed = 0u64;
-    let mut shifts = 0u64;
-    for (cell, times) in checked.cells().iter().zip(checked.times()) {
-        shifts = shifts.saturating_add(shifts_of(cell));
-        if *times > 0 {
-            let rings = rings_of(cell);
-            own = own.saturating_add(rings);
-            placed = placed.saturating_add(rings.saturating_mul(*times));
+impl<'a> Matching<'a> {
+    /// No partners, except that the tops are.
+    fn new(
+        alloc: Global,
+        first: &'a Fitted,
+        second: &'a Fitted,
+    ) -> Result<Matching<'a>, AllocError> {
+        let (ours, theirs) = (first.checked(), second.checked());
+        let mut matching = Matching {
+            first,
+            second,
+            names: index_by_name(alloc, theirs)?,
+            partners: vec![in alloc; None; ours.cells().len()]?,
+            taken: vec![in alloc; false; theirs.cells().len()]?,
+        };
+        matching.join(ours.top(), theirs.top());
+        Ok(matching)
+    }
+
+    /// Makes two cells partners.
+    fn join(&mut self, ours: usize, theirs: usize) {
+        if ours < self.partners.len() && theirs < self.taken.len() {
+            self.partners[ours] = Some(theirs);
+            self.taken[theirs] = true;
         }
     }
-    placed / 4 >= own && shifts / 2 <= placed
+
+    /// The partner of a cell, if it has one.
+    fn partner(&self, ours: usize) -> Option<usize> {
+        match self.partners.get(ours) {
+            Some(partner) => *partner,
+            None => None,
+        }
+    }
+
+    /// Whether a cell of the second library is a partner, or isn't placed.
+    fn is_taken(&self, theirs: usize) -> bool {
+        match self.taken.get(theirs) {
+            Some(taken) => *taken || !is_placed(self.second, theirs),
+            None => true,
+        }
+    }
+
+    /// The cell of the same name, if it can become a partner.
+    fn namesake(&self, ours: usize) -> Option<usize> {
+        let theirs = *self.names.get(name_of(self.first, ours))?;
+        if self.is_taken(theirs) {
+            return None;
+        }
+        Some(theirs)
+    }
+
+    /// Makes cells of the same name partners if they look alike.
+    fn join_by_name(&mut self) {
+        for ours in 0..self.partners.len() {
+            if self.partner(ours).is_some() || !is_placed(self.first, ours) {
+                continue;
+            }
+            let Some(theirs) = self.namesake(ours) else {
+                continue;
+            };
+            if look_alike(self.first, ours, self.second, theirs) {
+                self.join(ours, theirs);
+            }
+        }
+    }
+
+    /// Whether a reference of a cell is to one without a partner.
+    fn places_alone(&self, cell: usize) -> bool {
+        let checked = self.first.checked();
+        let Some(found) = checked.cells().get(cell) else {
+            return false;
+        };
+        for j in 0..found.references.len() {
+            match checked.target(cell, j) {
+                Some(target) if self.partner(target).is_none() => return true,
+                _ => (),
+            }
+        }
+        false
+    }
+
+    /// Makes two cells that are placed at the same spot partners, if the round says so.
+    fn propose(&mut self, ours: usize, theirs: usize, round: Round) {
+        if self.partner(ours).is_some() || !is_placed(self.second, theirs) {
+            return;
+        }
+        let joins = match round {
+            Round::Named => {
+                !self.is_taken(theirs) && name_of(self.first, ours) == name_of(self.second, theirs)
+            }
+            Round::Free => !self.is_taken(theirs),
+            Round::Shared => self.namesake(ours).is_none(),
+        };
+        if joins {
+            self.join(ours, theirs);
+        }
+    }
+
+    /// Proposes the cells that are placed at the same spots. Both lists are sorted by their spots.
+    fn propose_all<T: AtSpot>(&mut self, ours: &[T], theirs: &[T], round: Round) {
+        let mut at = 0;
+        for placed in ours {
+            at = skip_to_spot(theirs, at, &placed.spot());
+            if at < theirs.len() && theirs[at].spot() == placed.spot() {
+                self.propose(placed.cell(), theirs[at].cell(), round);
+                at += 1;
+            }
+        }
+    }
+
+    /// Looks for partners among the cells that two partners place.
+    fn match_placed(
+        &mut self,
+        alloc: Global,
+        ours: usize,
+        theirs: usize,
+    ) -> Result<(), AllocError> {
+        let (first, second) = (self.first.checked(), self.second.checked());
+        if ours >= first.cells().len() || theirs >= second.cells().len() {
+            return Ok(());
+        }
+        if !self.places_alone(ours) {
+            return Ok(());
+        }
+        let mut placed = placed_of(alloc, first, ours)?;
+        let mut others = placed_of(alloc, second, theirs)?;
+        sort_by_spot(&mut placed.singles, first);
+        sort_by_spot(&mut others.singles, second);
+        sort_by_spot(&mut placed.arrays, first);
+        sort_by_spot(&mut others.arrays, second);
+        for round in [Round::Named, Round::Free, Round::Shared] {
+            self.propose_all(&placed.singles, &others.singles, round);
+            self.propose_all(&placed.arrays, &others.arrays, round);
+        }
+        Ok(())
+    }
+}
+
+/// For each cell of the first library, the index of its partner, if it has one.
+///
+/// The tops are partners, and so are cells of the same name that look alike. Then the cells that
+/// two partners place at the same spots become partners, from the tops on, and last cells of the
+/// same name, whatever they look like. Cells that aren't placed have no partner.
+pub(crate) fn partners_of(
+    alloc: Global,
+    first: &Fitted,
+    second: &Fitted,
+) -> Result<Vec<Option<usize>>, AllocError> {
+    let mut matching = Matching::new(alloc, first, second)?;
+    matching.join_by_name();
+    for cell in first.checked().order() {
+        let ours = *cell;
+        if !is_placed(first, ours) {
+            continue;
+        }
+        if let (None, Some(theirs)) = (matching.partner(ours), matching.namesake(ours)) {
+            matching.join(ours, theirs);
+        }
+        if let Some(theirs) = matching.partner(ours) {
+            matching.match_placed(alloc, ours, theirs)?;
+        }
+    }
+    Ok(matching.partners)
+}
+
+/// The partner of a cell in a list of partners.
+pub(crate) fn partner_in(partners: &[Option<usize>], cell: usize, second: &Checked) -> Option<usize>
+    ensures { IfSome result (λ j. j < length second.now.cells) }
+{
+    match partners.get(cell) {
+        Some(Some(partner)) if *partner < second.cells().len() => Some(*partner),
+        _ => None,
+    }
 }

@@ -1,15 +1,14 @@
-//! Placements: the cells that a cell places, one for each place.
-ghost use Rattle.std.specs.Prelude.{◌≡◌, ◌++◌, ◌<◌, ◌↔◌, length, Contains, IsTrue, IfOk, IfSome, OnOk, slice_get};
+//! Placements: cells that are placed, one for each place.
+ghost use Rattle.std.specs.Prelude.{Contains, IsTrue, OnOk};
 ghost use Rattle.lvl_grid.specs.declared.point.Square.{Square};
 ghost use Rattle.lvl_names.specs.declared.layer.Layer.{Layer};
 ghost use Rattle.lvl_changed.specs.inside.Windows.{Has, Widens};
-ghost use Rattle.lvl_changed.specs.inside.Placements.{placed, HaveSame, PlacedCover, ReferencesCover};
+ghost use Rattle.lvl_changed.specs.inside.Placements.{HaveSame, PlacedCover};
 
 use crate::windows::Windows;
-use lvl_cells::{Checked, KeptReference};
-use lvl_flat::{Fitted, placing_at};
+use lvl_flat::Fitted;
 use lvl_grid::{Map, Turn};
-use std::alloc::{AllocError, Global};
+use std::alloc::AllocError;
 
 /// What placements are sorted by. Different placements have different keys.
 type Key = (usize, i64, i64, u8, bool);
@@ -17,8 +16,8 @@ type Key = (usize, i64, i64, u8, bool);
 /// A cell, by its index, and a map that places it.
 #[derive(Clone, Copy, PartialEq, Eq)]
 pub(crate) struct Placement {
-    cell: usize,
-    map: Map,
+    pub cell: usize,
+    pub map: Map,
 }
 
 impl Placement {
@@ -29,54 +28,13 @@ impl Placement {
 }
 
 /// The number of quarter turns.
-fn quarters(turn: Turn) -> u8 {
+pub(crate) fn quarters(turn: Turn) -> u8 {
     match turn {
         Turn::R0 => 0,
         Turn::R90 => 1,
         Turn::R180 => 2,
         Turn::R270 => 3,
     }
-}
-
-/// Appends the cell at the index `cell`, placed at each place of the reference.
-pub(crate) fn push_places(
-    placements: &mut Vec<Placement>,
-    reference: &KeptReference<'_>,
-    cell: usize,
-) -> Result<(), AllocError>
-    ensures { OnOk result (placements.new.items ≡ placements.old.items ++ placed cell reference.now) }
-{
-    for k in 0..reference.shifts().len() {
-        let Some(map) = placing_at(reference, k) else {
-            unreachable!()
-        };
-        placements.push(Placement { cell, map })?;
-    }
-    Ok(())
-}
-
-/// The placements of a cell's references, with the indexes of the cells that these name.
-pub(crate) fn placements_of(
-    alloc: Global,
-    checked: &Checked,
-    cell: usize,
-) -> Result<Vec<Placement>, AllocError>
-    requires { cell < length checked.now.cells }
-    ensures { IfOk result (λ placements. IfSome (slice_get checked.now.cells cell)
-        (λ c. (layer : Layer) (s : Square)
-        → PlacedCover checked.now.cells placements.items layer s
-        ↔ ReferencesCover checked.now.cells c.references layer s)) }
-{
-    let mut placements = Vec::new(alloc);
-    let parent = &checked.cells()[cell];
-    for j in 0..parent.references.len() {
-        let reference = parent.references.reference(j);
-        let Some(target) = checked.target(cell, j) else {
-            unreachable!()
-        };
-        push_places(&mut placements, &reference, target)?;
-    }
-    Ok(placements)
 }
 
 /// Sorts placements by their keys.

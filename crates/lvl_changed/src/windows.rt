@@ -1,5 +1,5 @@
 //! A few windows that together have all squares of some set, and possibly more.
-ghost use Rattle.std.specs.Prelude.{◌≡◌, ◌<◌, IsTrue, IfSome, OnOk, Contains, vec_len};
+ghost use Rattle.std.specs.Prelude.{◌≡◌, ◌<◌, ◌+◌, IsTrue, IfSome, OnOk, Contains, vec_len};
 ghost use Rattle.lvl_grid.specs.declared.point.Point.{Point as GridPoint};
 ghost use Rattle.lvl_grid.specs.declared.point.Square.{Square};
 ghost use Rattle.lvl_grid.specs.Clip.{IsInWindow};
@@ -8,15 +8,22 @@ ghost use Rattle.lvl_names.specs.declared.layer.Layer.{Layer};
 ghost use Rattle.lvl_cells.specs.Cells.{map_at};
 ghost use Rattle.lvl_flat.specs.Flattened.{CoversAt};
 ghost use Rattle.lvl_compare.specs.Parts.{SomeHas};
+ghost use Rattle.lvl_changed.specs.inside.Arrays.{as_reference, each_place, HasEach};
+ghost use Rattle.lvl_changed.specs.inside.Placements.{PlacedCover};
 ghost use Rattle.lvl_changed.specs.inside.Windows.{Has, HasPlaced, Widens};
 
-use lvl_cells::KeptReference;
-use lvl_flat::{Fitted, placing_at};
+use crate::arrays::Array;
+use crate::shifts::moved;
+use lvl_flat::Fitted;
 use lvl_grid::{Map, Point, Window};
 use std::alloc::{AllocError, Global};
 
-/// A set of squares: at most `most` windows, no two of which share a square (one, if `most` is 0),
-/// or the whole grid if `anywhere` is set.
+/// The greatest number of places of an array at which windows are placed one by one.
+const MOST_PLACES: u64 = 4096;
+
+/// A set of squares: some windows, or the whole grid if `anywhere` is set. Windows that share a
+/// square are joined when one is added. If there are more than twice `most`, they are reduced to
+/// `most`, or to one.
 #[derive(Drop)]
 pub(crate) struct Windows {
     list: Vec<Window>,
@@ -37,10 +44,16 @@ fn has_no_square(window: Window) -> bool
     window.x0 >= window.x1 || window.y0 >= window.y1
 }
 
-/// The sum of the width and the height of a window, at most `u64::MAX`.
-fn girth(window: Window) -> u64 {
-    let width = window.x0.abs_diff(window.x1);
-    width.saturating_add(window.y0.abs_diff(window.y1))
+/// The number of squares of a window, at most `u128::MAX`.
+fn area(window: Window) -> u128 {
+    let width = u128::from(window.x0.abs_diff(window.x1));
+    width.saturating_mul(u128::from(window.y0.abs_diff(window.y1)))
+}
+
+/// The number of squares that two windows get if they are joined.
+fn growth(first: Window, second: Window) -> u128 {
+    let both = area(first).saturating_add(area(second));
+    area(first.joined(second)).saturating_sub(both)
 }
 
 /// The window from a point to the same point, which has no squares.
@@ -52,6 +65,18 @@ pub(crate) fn spot(point: Point) -> Window
         y0: point.y,
         x1: point.x,
         y1: point.y,
+    }
+}
+
+/// The window between two corners.
+pub(crate) fn between(low: Point, high: Point) -> Window
+    ensures { result ≡ record { x0 = low.x; y0 = low.y; x1 = high.x; y1 = high.y } }
+{
+    Window {
+        x0: low.x,
+        y0: low.y,
+        x1: high.x,
+        y1: high.y,
     }
 }
 
@@ -85,8 +110,20 @@ fn placed(window: &Window, map: &Map) -> Option<Window>
     Some(spot(low).joined(spot(high)))
 }
 
+/// A window that has the images of a window at all places of the array, or None if it would leave
+/// 64 signed bits.
+fn everywhere(window: &Window, array: &Array) -> Option<Window>
+    ensures { IfSome result (λ all. HasEach array.now window.now (IsInWindow all)) }
+{
+    let first = placed(window, &array.by)?;
+    let (least, greatest) = array.shifts.reach();
+    let low = moved(low_corner(&first), least)?;
+    let high = moved(high_corner(&first), greatest)?;
+    Some(between(low, high))
+}
+
 impl Windows {
-    /// The empty set. At most `most` windows are kept of those that are added, and at least one.
+    /// The empty set. If more than twice `most` windows are added, some are joined.
     pub(crate) fn none(alloc: Global, most: usize) -> Windows {
         Windows {
             list: Vec::new(alloc),
@@ -102,14 +139,19 @@ impl Windows {
         !self.anywhere && self.list.is_empty()
     }
 
-    /// The windows, or None if the set is the whole grid.
+    /// At most `most` windows, and at least one, unless the set has no squares. None if it is the
+    /// whole grid.
     pub(crate) fn into_list(self) -> Option<Vec<Window>>
         ensures { IfSome result (λ list. (s : Square) → Has self s → SomeHas list.items s) }
     {
-        if self.anywhere {
+        let most = self.most;
+        let mut reduced = self;
+        reduced.reduce(most);
+        let Windows { list, anywhere, .. } = reduced;
+        if anywhere {
             return None;
         }
-        Some(self.list)
+        Some(list)
     }
 
     /// Makes the set the whole grid.
@@ -119,27 +161,8 @@ impl Windows {
         self.anywhere = true;
     }
 
-    /// The index of a window that grows least if it is joined with the given one, or None if there
-    /// are no windows.
-    fn nearest(&self, window: Window) -> Option<usize>
-        ensures { IfSome result (λ i. i < vec_len self.now.list) }
-    {
-        let mut nearest = None;
-        let mut least = u64::MAX;
-        for i in 0..self.list.len() {
-            let other = self.list[i];
-            let growth = girth(other.joined(window)).saturating_sub(girth(other));
-            if nearest.is_none() || growth < least {
-                nearest = Some(i);
-                least = growth;
-            }
-        }
-        nearest
-    }
-
-    /// The index of a window to be joined with the given one before that is added: one that shares
-    /// a square with it, or the nearest if there are as many windows as there may be.
-    fn to_join(&self, window: Window) -> Option<usize>
+    /// The index of a window that shares a square with the given one.
+    fn met(&self, window: Window) -> Option<usize>
         ensures { IfSome result (λ i. i < vec_len self.now.list) }
     {
         for i in 0..self.list.len() {
@@ -147,15 +170,12 @@ impl Windows {
                 return Some(i);
             }
         }
-        if self.list.len() < self.most {
-            return None;
-        }
-        self.nearest(window)
+        None
     }
 
     /// Adds a window, unless it has no squares. It is joined with windows that share a square with
     /// it.
-    pub(crate) fn hold(&mut self, window: Window) -> Result<(), AllocError>
+    fn add(&mut self, window: Window) -> Result<(), AllocError>
         ensures held { OnOk result ((s : Square) → IsInWindow window s → Has self.new s) }
         ensures kept { OnOk result (Widens self.old self.new) }
     {
@@ -163,11 +183,68 @@ impl Windows {
             return Ok(());
         }
         let mut whole = window;
-        while let Some(i) = self.to_join(whole) {
+        while let Some(i) = self.met(whole) {
             let other = self.list.swap_remove(i);
             whole = whole.joined(other);
         }
         self.list.push(whole)?;
+        Ok(())
+    }
+
+    /// The index of a window that grows least if it is joined with the next, or None if there is no
+    /// next one.
+    fn closest(&self) -> Option<usize>
+        ensures { IfSome result (λ i. i + 1 < vec_len self.now.list) }
+    {
+        let mut closest = None;
+        let mut least = u128::MAX;
+        for i in 1..self.list.len() {
+            let grown = growth(self.list[i - 1], self.list[i]);
+            if closest.is_none() || grown < least {
+                closest = Some(i - 1);
+                least = grown;
+            }
+        }
+        closest
+    }
+
+    /// Joins a window with the next.
+    fn join_next(&mut self, i: usize)
+        requires { i + 1 < vec_len self.old.list }
+        ensures kept { Widens self.old self.new }
+        ensures fewer { vec_len self.new.list < vec_len self.old.list }
+    {
+        let next = self.list.remove(i + 1);
+        self.list[i] = self.list[i].joined(next);
+    }
+
+    /// If there are more than `limit` windows, joins some until there are at most `most`: from left
+    /// to right those that follow one another and grow least.
+    fn reduce(&mut self, limit: usize)
+        ensures { Widens self.old self.new }
+    {
+        if self.list.len() <= limit {
+            return;
+        }
+        self.list
+            .sort_unstable_by_key(|window| (window.x0, window.y0));
+        while self.list.len() > self.most {
+            let Some(i) = self.closest() else {
+                return;
+            };
+            self.join_next(i);
+        }
+    }
+
+    /// Adds a window, unless it has no squares. Of twice as many windows as are kept, some are
+    /// joined.
+    pub(crate) fn hold(&mut self, window: Window) -> Result<(), AllocError>
+        ensures held { OnOk result ((s : Square) → IsInWindow window s → Has self.new s) }
+        ensures kept { OnOk result (Widens self.old self.new) }
+    {
+        self.add(window)?;
+        let most = self.most.saturating_mul(2);
+        self.reduce(most);
         Ok(())
     }
 
@@ -201,26 +278,72 @@ impl Windows {
         Ok(())
     }
 
-    /// Adds the images of other windows at each place of a reference.
-    pub(crate) fn hold_places(
-        &mut self,
-        held: &Windows,
-        reference: &KeptReference<'_>,
-    ) -> Result<(), AllocError>
-        ensures held { OnOk result ((e : GridPoint) → Contains reference.now.shifts e
-            → HasPlaced (map_at reference.now e) held.now self.new) }
+    /// Adds one window that has the images of a window at all places of the array.
+    fn hold_everywhere(&mut self, window: &Window, array: &Array) -> Result<(), AllocError>
+        ensures held { OnOk result (HasEach array.now window.now (Has self.new)) }
+        ensures kept { OnOk result (Widens self.old self.new) }
+    {
+        match everywhere(window, array) {
+            Some(window) => self.hold(window),
+            None => {
+                self.hold_anywhere();
+                Ok(())
+            }
+        }
+    }
+
+    /// Adds for each other window one that has its images at all places of the array.
+    fn hold_all_everywhere(&mut self, held: &Windows, array: &Array) -> Result<(), AllocError>
+        ensures held { OnOk result ((e : GridPoint) → Contains array.now.shifts e
+            → HasPlaced (map_at (as_reference array.now) e) held.now self.new) }
+        ensures kept { OnOk result (Widens self.old self.new) }
+    {
+        if held.anywhere {
+            self.hold_anywhere();
+            return Ok(());
+        }
+        for window in &held.list {
+            self.hold_everywhere(window, array)?;
+        }
+        Ok(())
+    }
+
+    /// Adds the images of other windows at each place of the array. If there are more than
+    /// [`MOST_PLACES`], one window has all images of each.
+    pub(crate) fn hold_places(&mut self, held: &Windows, array: &Array) -> Result<(), AllocError>
+        ensures held { OnOk result ((e : GridPoint) → Contains array.now.shifts e
+            → HasPlaced (map_at (as_reference array.now) e) held.now self.new) }
         ensures kept { OnOk result (Widens self.old self.new) }
     {
         if held.is_empty() {
             return Ok(());
         }
-        for k in 0..reference.shifts().len() {
-            let Some(map) = placing_at(reference, k) else {
-                unreachable!()
+        if array.shifts.len() > MOST_PLACES {
+            return self.hold_all_everywhere(held, array);
+        }
+        for k in 0..array.shifts.len() {
+            let Some(map) = array.place(k) else {
+                self.hold_anywhere();
+                return Ok(());
             };
             self.hold_all_placed(held, &map)?;
         }
         Ok(())
+    }
+
+    /// Adds a window that has all that an array covers.
+    pub(crate) fn hold_array(&mut self, library: &Fitted, array: &Array) -> Result<(), AllocError>
+        ensures held { OnOk result ((layer : Layer) (s : Square) → ¬ Has self.new s
+            → ¬ PlacedCover library.now.cells (each_place array.now) layer s) }
+        ensures kept { OnOk result (Widens self.old self.new) }
+    {
+        match library.extent_of(array.cell) {
+            Some(window) => self.hold_everywhere(&window, array),
+            None => {
+                self.hold_anywhere();
+                Ok(())
+            }
+        }
     }
 
     /// Adds a window that has all squares that a cell covers.

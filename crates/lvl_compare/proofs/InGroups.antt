@@ -29,7 +29,7 @@ use Rattle.lvl_compare.specs.declared.groups.Span.{Span}
 use Rattle.lvl_compare.specs.declared.groups.Group.{Group}
 use Rattle.lvl_compare.specs.inside.Groups.{AreAbove, AreListed, AreRowsBefore, IsListed, NoneBefore, is_after}
 use Rattle.lvl_compare.specs.inside.Groups.{is_before, is_of_span, is_until, on}
-use Rattle.lvl_compare.specs.inside.Strips.{Difference, IsFoundIn, IsImproved, IsLeast, IsLeftIn, Part, Precedes}
+use Rattle.lvl_compare.specs.inside.Strips.{Difference, IsFoundIn, IsImproved, IsLeast, Part, Precedes}
 use Rattle.lvl_compare.specs.inside.Strips.{ShowsOf}
 use Rattle.lvl_compare.specs.inside.Strips.{everywhere, rows_to}
 use Rattle.lvl_compare.proofs.Finding.{IsSpared, layers_order, least_improves}
@@ -200,26 +200,26 @@ later_spared a b k l q later =
       | inr here ↦ before_itself k.0 (subst (λ (x : Layer). ComesBefore k.0 x) here.0 later)
     ])
 
-lesser_layers : (a b : Draws) (big small : Span) (w : Window) (x : ℤ) (k : Difference) → small.after ≡ big.after
-    → IsLesser big.last (Some k.0) small.last → (l : Layer) (q : Square) → on big (IsLeftIn w x) l q
-    → on small (IsLeftIn w x) l q ⊎ IsSpared a b (Some k) l q
-lesser_layers a b big small w x k after last l q h =
+lesser_layers : (a b : Draws) (big small : Span) (w : Window) (k : Difference) → small.after ≡ big.after
+    → IsLesser big.last (Some k.0) small.last → (l : Layer) (q : Square) → on big (IsInWindow w) l q
+    → on small (IsInWindow w) l q ⊎ IsSpared a b (Some k) l q
+lesser_layers a b big small w k after last l q h =
     elim (cases_Bool (is_until (Some k.0) l)) [
       | inl until ↦ inl ((span_up_to big small k.0 l after last).1 (h.0, until), h.1)
       | inr past ↦ inr (later_spared a b k l q (past_last k.0 l past))
     ]
 
 -- and where no side draws on a Layer before that one, rows above the square
-lesser_rows : (a t : Draws) (pairs : List LayerPair) (big : Span) (small : Group) (w : Window) (x : ℤ) (k : Difference)
+lesser_rows : (a t : Draws) (pairs : List LayerPair) (big : Span) (small : Group) (w : Window) (k : Difference)
     → small.span.after ≡ big.after → IsLesser big.last (Some k.0) small.span.last → AreListed a t pairs small
-    → NoneBefore pairs small k.0 → (y : ℤ) → AreAbove w y k.1 → (l : Layer) (q : Square) → on big (IsLeftIn w x) l q
-    → on small.span (IsLeftIn (rows_to y w) x) l q ⊎ IsSpared a (IsMoved pairs t) (Some k) l q
-lesser_rows a t pairs big small w x k after last listed none y later l q h =
+    → NoneBefore pairs small k.0 → (y : ℤ) → AreAbove w y k.1 → (l : Layer) (q : Square) → on big (IsInWindow w) l q
+    → on small.span (IsInWindow (rows_to y w)) l q ⊎ IsSpared a (IsMoved pairs t) (Some k) l q
+lesser_rows a t pairs big small w k after last listed none y later l q h =
     let b : Draws = IsMoved pairs t in
-    elim (lesser_layers a b big small.span w x k after last l q h) [
+    elim (lesser_layers a b big small.span w k after last l q h) [
       | inr spared ↦ inr spared
       | inl part ↦
-          elim (rows_or_above w y x q part.1) [
+          elim (rows_or_above w y q part.1) [
             | inl row ↦ inl (part.0, row)
             | inr above ↦
                 elim (layers_order l k.0) [
@@ -239,7 +239,7 @@ lesser_rows a t pairs big small w x k after last listed none y later l q h =
                             inr (inl (λ early. elim early [
                               | inl before ↦
                                   before_itself k.0 (subst (λ (m : Layer). ComesBefore m k.0) same before)
-                              | inr here ↦ later q part.1.0 above here.1
+                              | inr here ↦ later q part.1 above here.1
                             ]))
                         | inr gt ↦ inr (later_spared a b k l q gt)
                       ]
@@ -247,33 +247,27 @@ lesser_rows a t pairs big small w x k after last listed none y later l q h =
           ]
     ]
 
--- one more strip, of which what can't precede the known difference is left out
-pub next_improves : (a t : Draws) (pairs : List LayerPair) (big : Span) (small : Group) (w rows : Window) (x : ℤ)
+-- one more part, of which what can't precede the known difference is left out
+pub next_improves : (a t : Draws) (pairs : List LayerPair) (big : Span) (small : Group) (w rows : Window)
     (k : Difference) (next found : Option Difference) → small.span.after ≡ big.after → IsLesser big.last (Some k.0)
     small.span.last
     → AreListed a t pairs small → AreRowsBefore pairs small k w rows
-    → IsFoundIn a (IsMoved pairs t) (on small.span (IsLeftIn rows x)) next → IsLeast (Some k) next found
-    → IsImproved a (IsMoved pairs t) (on big (IsLeftIn w x)) (Some k) found
-next_improves a t pairs big small w rows x k next found after last listed (inl is) h =
+    → IsFoundIn a (IsMoved pairs t) (on small.span (IsInWindow rows)) next → IsLeast (Some k) next found
+    → IsImproved a (IsMoved pairs t) (on big (IsInWindow w)) (Some k) found
+next_improves a t pairs big small w rows k next found after last listed (inl is) h =
     let b : Draws = IsMoved pairs t in
-    least_improves a b (on small.span (IsLeftIn w x)) (on big (IsLeftIn w x)) (Some k) next found
+    least_improves a b (on small.span (IsInWindow w)) (on big (IsInWindow w)) (Some k) next found
     (λ l q s. (((span_up_to big small.span k.0 l after last).0 s.0).0, s.1))
-    (lesser_layers a b big small.span w x k after last)
-    (subst (λ (v : Window). IsFoundIn a b (on small.span (IsLeftIn v x)) next) is h)
-next_improves a t pairs big small w rows x k next found after last listed (inr is) h =
+    (lesser_layers a b big small.span w k after last)
+    (subst (λ (v : Window). IsFoundIn a b (on small.span (IsInWindow v)) next) is h)
+next_improves a t pairs big small w rows k next found after last listed (inr is) h =
     let b : Draws = IsMoved pairs t in
-    least_improves a b (on small.span (IsLeftIn (rows_to is.0.y w) x)) (on big (IsLeftIn w x)) (Some k) next found
-    (λ l q s. (((span_up_to big small.span k.0 l after last).0 s.0).0, in_rows w is.0.y x q s.1))
-    (lesser_rows a t pairs big small w x k after last listed is.1 is.0.y is.0.above)
-    (subst (λ (v : Window). IsFoundIn a b (on small.span (IsLeftIn v x)) next) is.0.is h)
+    least_improves a b (on small.span (IsInWindow (rows_to is.0.y w))) (on big (IsInWindow w)) (Some k) next found
+    (λ l q s. (((span_up_to big small.span k.0 l after last).0 s.0).0, in_rows w is.0.y q s.1))
+    (lesser_rows a t pairs big small w k after last listed is.1 is.0.y is.0.above)
+    (subst (λ (v : Window). IsFoundIn a b (on small.span (IsInWindow v)) next) is.0.is h)
 
--- these rows are as wide as the window
-pub rows_wide : (pairs : List LayerPair) (group : Group) (k : Difference) (w rows : Window)
-    → AreRowsBefore pairs group k w rows → (rows.x0 ≡ w.x0) × (rows.x1 ≡ w.x1)
-rows_wide pairs group k w rows (inl is) = (ap (λ (v : Window). v.x0) is, ap (λ (v : Window). v.x1) is)
-rows_wide pairs group k w rows (inr is) = (ap (λ (v : Window). v.x0) is.0.is, ap (λ (v : Window). v.x1) is.0.is)
-
--- with nothing known, the first difference of a strip is an improvement
+-- with nothing known, the first difference of a part is an improvement
 pub first_improves : (a b : Draws) (part : Part) (next : Option Difference) → IsFoundIn a b part next
     → IsImproved a b part None next
 first_improves a b part next h =

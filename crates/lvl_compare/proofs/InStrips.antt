@@ -1,6 +1,6 @@
--- The squares of a window, strip by strip.
+-- The squares of a window, part by part.
 use Rattle.std.proofs.Common.{◌↔◌, ◌⊎◌, inl, inr, Option, Some, None, ℤ, ◌<ℤ◌, ◌≤ℤ◌}
-use Rattle.std.proofs.Common.{int_lt, refl, arith, ℕ, zero, pos, negsuc, ◌-ℤ◌, ◌<◌}
+use Rattle.std.proofs.Common.{int_lt, refl, arith, zero, pos, negsuc, ◌-ℤ◌, ◌<◌}
 use Rattle.std.specs.Prelude.{IfNone, IfSome}
 use Rattle.std.specs.Int.{int_min, int_max}
 use Rattle.std.proofs.lemmas.Int.{ints, clamps}
@@ -13,108 +13,30 @@ use Rattle.lvl_columns.specs.Windows.{IsShown}
 use Rattle.lvl_compare.specs.Tops.{Draws, DrawSame, IsFirstDifference}
 use Rattle.lvl_compare.specs.declared.groups.Span.{Span}
 use Rattle.lvl_compare.specs.inside.Groups.{on}
-use Rattle.lvl_compare.specs.inside.Strips.{Difference, IsFoundIn, IsImproved, IsLeftIn, everywhere, from_on, rows_to}
-use Rattle.lvl_compare.specs.inside.Strips.{up_to}
+use Rattle.lvl_compare.specs.inside.Strips.{AreHalves, Difference, IsFoundIn, IsImproved, everywhere, rows_to, up}
 use Rattle.lvl_compare.specs.inside.Strips.{seen_of}
-use Rattle.lvl_compare.proofs.Finding.{below, improved_alike, improved_more, improved_none, not_below}
-
--- the squares of the part of a window up to an abscissa
-pub front_left : (w : Window) (x : ℤ) → x ≤ℤ w.x1 → (q : Square) → IsInWindow (up_to x w) q → IsLeftIn w x q
-front_left w x inside q h = (
-  record {
-    x_from = h.x_from;
-    x_below = omega (arith, ints, h.x_below, inside);
-    y_from = h.y_from;
-    y_below = h.y_below;
-  },
-  h.x_below,
-)
-
-pub left_front : (w : Window) (x : ℤ) (q : Square) → IsLeftIn w x q → IsInWindow (up_to x w) q
-left_front w x q h = record { x_from = h.0.x_from; x_below = h.1; y_from = h.0.y_from; y_below = h.0.y_below }
-
--- a square left of a greater abscissa is left of the lesser one, or in the strip between both
-strip_in : (w : Window) (x end : ℤ) → w.x0 ≤ℤ x → (q : Square) → IsLeftIn (from_on x w) end q → IsLeftIn w end q
-strip_in w x end from q h = (
-  record {
-    x_from = omega (arith, ints, h.0.x_from, from);
-    x_below = h.0.x_below;
-    y_from = h.0.y_from;
-    y_below = h.0.y_below;
-  },
-  h.1,
-)
-
-left_or_strip : (w : Window) (x end : ℤ) (q : Square) → IsLeftIn w end q
-    → IsLeftIn w x q ⊎ IsLeftIn (from_on x w) end q
-left_or_strip w x end q h =
-    elim (cases_Bool (int_lt q.x x)) [
-      | inl lt ↦ inl (h.0, below q.x x lt)
-      | inr ge ↦
-          inr (
-            record {
-              x_from = not_below q.x x ge;
-              x_below = h.0.x_below;
-              y_from = h.0.y_from;
-              y_below = h.0.y_below;
-            },
-            h.1,
-          )
-    ]
-
-further_left : (w : Window) (x end : ℤ) → x <ℤ end → (q : Square) → IsLeftIn w x q → IsLeftIn w end q
-further_left w x end further q h = (h.0, omega (arith, ints, h.1, further))
-
--- one more strip
-pub strip_improved : (a b : Draws) (span : Span) (w : Window) (x end : ℤ) (known found last : Option Difference)
-    → w.x0 ≤ℤ x → x <ℤ end → IsImproved a b (on span (IsLeftIn w x)) known found
-    → IsImproved a b (on span (IsLeftIn (from_on x w) end)) found last
-    → IsImproved a b (on span (IsLeftIn w end)) known last
-strip_improved a b span w x end known found last from further =
-    improved_more a b (on span (IsLeftIn w x)) (on span (IsLeftIn (from_on x w) end)) (on span (IsLeftIn w end)) known
-    found last (λ l q h. (h.0, further_left w x end further q h.1)) (λ l q h. (h.0, strip_in w x end from q h.1))
-    (λ l q h.
-    elim (left_or_strip w x end q h.1) [ inl left ↦ inl (h.0, left) | inr strip ↦ inr (h.0, strip) ])
-
--- no square of the window is left of its left border, and all are left of its right border
-pub none_left : (a b : Draws) (span : Span) (w : Window) (known : Option Difference)
-    → IsImproved a b (on span (IsLeftIn w w.x0)) known known
-none_left a b span w known =
-    improved_none a b (on span (IsLeftIn w w.x0)) known
-    (λ l q shown. omega (arith, ints, shown.1.0.x_from, shown.1.1))
-
-pub all_left : (a b : Draws) (span : Span) (w : Window) (x : ℤ) (known found : Option Difference) → w.x1 ≤ℤ x
-    → IsImproved a b (on span (IsLeftIn w x)) known found → IsImproved a b (on span (IsInWindow w)) known found
-all_left a b span w x known found past =
-    improved_alike a b (on span (IsLeftIn w x)) (on span (IsInWindow w)) known found (λ l q h. (h.0, h.1.0))
-    (λ l q h. (h.0, (h.1, omega (arith, ints, h.1.x_below, past))))
+use Rattle.lvl_compare.proofs.Finding.{below, improved_more, not_below}
 
 -- a square of the rows up to one is in the window, and one of the window is in these rows or above
-pub in_rows : (w : Window) (y x : ℤ) (q : Square) → IsLeftIn (rows_to y w) x q → IsLeftIn w x q
-in_rows w y x q h = (
-  record {
-    x_from = h.0.x_from;
-    x_below = h.0.x_below;
-    y_from = h.0.y_from;
-    y_below = omega (arith, ints, clamps, h.0.y_below);
-  },
-  h.1,
-)
+pub in_rows : (w : Window) (y : ℤ) (q : Square) → IsInWindow (rows_to y w) q → IsInWindow w q
+in_rows w y q h = record {
+  x_from = h.x_from;
+  x_below = h.x_below;
+  y_from = h.y_from;
+  y_below = omega (arith, ints, clamps, h.y_below);
+}
 
-pub rows_or_above : (w : Window) (y x : ℤ) (q : Square) → IsLeftIn w x q → IsLeftIn (rows_to y w) x q ⊎ (y <ℤ q.y)
-rows_or_above w y x q h =
+pub rows_or_above : (w : Window) (y : ℤ) (q : Square) → IsInWindow w q → IsInWindow (rows_to y w) q ⊎ (y <ℤ q.y)
+rows_or_above w y q h =
     elim (cases_Bool (int_lt y q.y)) [
       | inl above ↦ inr (below y q.y above)
       | inr not ↦
-          inl (
-            record {
-              x_from = h.0.x_from;
-              x_below = h.0.x_below;
-              y_from = h.0.y_from;
-              y_below = omega (arith, ints, clamps, h.0.y_below, not_below y q.y not);
-            },
-            h.1,
-          )
+          inl (record {
+            x_from = h.x_from;
+            x_below = h.x_below;
+            y_from = h.y_from;
+            y_below = omega (arith, ints, clamps, h.y_below, not_below y q.y not);
+          })
     ]
 
 -- the window that has the squares of both
@@ -168,25 +90,80 @@ found_apart a b Seen P (Some at) shown ours theirs h = record {
       nowhere_else a b Seen P ours theirs at.0 q seen (λ in'. h.least at.0 q in' (inr (refl, before)));
 }
 
--- a number that isn't below zero, as a natural number
-up : ℤ → ℕ
-up (pos n) = n
-up (negsuc n) = zero
-
 up_rises : (a b : ℤ) → pos zero ≤ℤ a → a <ℤ b → up a < up b
-unfolding up
 up_rises (pos m) (pos n) from less = omega (arith, ints, less)
 up_rises (pos m) (negsuc n) from less = absurd (omega (arith, ints, less))
 up_rises (negsuc m) b from less = absurd (omega (arith, ints, from))
 
--- the number of columns from an abscissa up to another
-pub columns : ℤ → ℤ → ℕ
-columns x end = up (end -ℤ x)
+-- a window is cut at an abscissa or an ordinate
+pub cut_columns : (w : Window) (x : ℤ) → w.x0 <ℤ x → x <ℤ w.x1
+    → AreHalves w (record { x0 = w.x0; y0 = w.y0; x1 = x; y1 = w.y1 }) (record { x0 = x; y0 = w.y0; x1 = w.x1; y1 = w.y1 })
+cut_columns w x from to =
+    let width : ℤ = w.x1 -ℤ w.x0 in
+    let left : up (x -ℤ w.x0) < up width = up_rises (x -ℤ w.x0) width (omega (arith, ints, from)) (omega (arith, ints, to)) in
+    let right : up (w.x1 -ℤ x) < up width = up_rises (w.x1 -ℤ x) width (omega (arith, ints, to)) (omega (arith, ints, from)) in
+    record {
+      first = λ q h. record {
+        x_from = h.x_from;
+        x_below = omega (arith, ints, h.x_below, to);
+        y_from = h.y_from;
+        y_below = h.y_below;
+      };
+      second = λ q h. record {
+        x_from = omega (arith, ints, h.x_from, from);
+        x_below = h.x_below;
+        y_from = h.y_from;
+        y_below = h.y_below;
+      };
+      all = λ q h.
+          elim (cases_Bool (int_lt q.x x)) [
+            | inl lt ↦
+                inl (record { x_from = h.x_from; x_below = below q.x x lt; y_from = h.y_from; y_below = h.y_below })
+            | inr ge ↦
+                inr (record { x_from = not_below q.x x ge; x_below = h.x_below; y_from = h.y_from; y_below = h.y_below })
+          ];
+      first_less = omega (arith, left);
+      second_less = omega (arith, right);
+    }
 
-pub fewer_columns : (x end last : ℤ) → x <ℤ end → end ≤ℤ last → columns end last < columns x last
-unfolding columns
-fewer_columns x end last further inside =
-    up_rises (last -ℤ end) (last -ℤ x) (omega (arith, ints, inside)) (omega (arith, ints, further))
+pub cut_rows : (w : Window) (y : ℤ) → w.y0 <ℤ y → y <ℤ w.y1
+    → AreHalves w (record { x0 = w.x0; y0 = w.y0; x1 = w.x1; y1 = y }) (record { x0 = w.x0; y0 = y; x1 = w.x1; y1 = w.y1 })
+cut_rows w y from to =
+    let height : ℤ = w.y1 -ℤ w.y0 in
+    let low : up (y -ℤ w.y0) < up height = up_rises (y -ℤ w.y0) height (omega (arith, ints, from)) (omega (arith, ints, to)) in
+    let high : up (w.y1 -ℤ y) < up height = up_rises (w.y1 -ℤ y) height (omega (arith, ints, to)) (omega (arith, ints, from)) in
+    record {
+      first = λ q h. record {
+        x_from = h.x_from;
+        x_below = h.x_below;
+        y_from = h.y_from;
+        y_below = omega (arith, ints, h.y_below, to);
+      };
+      second = λ q h. record {
+        x_from = h.x_from;
+        x_below = h.x_below;
+        y_from = omega (arith, ints, h.y_from, from);
+        y_below = h.y_below;
+      };
+      all = λ q h.
+          elim (cases_Bool (int_lt q.y y)) [
+            | inl lt ↦
+                inl (record { x_from = h.x_from; x_below = h.x_below; y_from = h.y_from; y_below = below q.y y lt })
+            | inr ge ↦
+                inr (record { x_from = h.x_from; x_below = h.x_below; y_from = not_below q.y y ge; y_below = h.y_below })
+          ];
+      first_less = omega (arith, low);
+      second_less = omega (arith, high);
+    }
+
+-- one half after the other
+pub halves_improved : (a b : Draws) (span : Span) (w low high : Window) (known found last : Option Difference)
+    → AreHalves w low high → IsImproved a b (on span (IsInWindow low)) known found
+    → IsImproved a b (on span (IsInWindow high)) found last → IsImproved a b (on span (IsInWindow w)) known last
+halves_improved a b span w low high known found last cut =
+    improved_more a b (on span (IsInWindow low)) (on span (IsInWindow high)) (on span (IsInWindow w)) known found last
+    (λ l q h. (h.0, cut.first q h.1)) (λ l q h. (h.0, cut.second q h.1))
+    (λ l q h. elim (cut.all q h.1) [ inl in' ↦ inl (h.0, in') | inr in' ↦ inr (h.0, in') ])
 
 -- the intersection with the optional window has exactly those squares of the window that are compared
 pub seen_shown : (v : Option Window) (w : Window) (q : Square) → IsInWindow (seen_of v w) q → IsShown v q

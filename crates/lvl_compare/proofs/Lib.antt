@@ -3,3 +3,4 @@ pub mod Finding
 pub mod InStrips
 pub mod InGroups
 pub mod InWindows
+pub mod InLists

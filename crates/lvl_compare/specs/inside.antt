@@ -1,2 +1,4 @@
 pub mod Strips
 pub mod Groups
+pub mod Lists
+pub mod Paces

@@ -27,7 +27,9 @@ pub use windows::{difference_by_strips, difference_in_windows};
 
 mod flats;
 mod groups;
+mod lists;
 mod pace;
 mod regions;
+mod sizes;
 mod strips;
 mod windows;

@@ -1,116 +1,57 @@
-//! How wide strips are, and how many points they may have.
-ghost use Rattle.std.specs.Prelude.{◌≡◌, ◌<◌, length};
+//! How many points a window may have, and how often windows may be cut.
+ghost use Rattle.std.specs.Prelude.{◌≡◌, ◌<◌, IfSome};
+ghost use Rattle.lvl_compare.specs.inside.Paces.{cuts_left};
 
-use lvl_cells::Shapes;
-use lvl_flat::Fitted;
-use lvl_grid::Window;
+/// How many cuts are made with one budget of points. The budget is then doubled.
+const MOST_CUTS: u32 = 256;
 
-/// How many strips are tried with one budget of points. The budget is then doubled, so no layout
-/// takes many more strips than it has points.
-const MOST_TRIES: u32 = 256;
+/// How often the budget is doubled: then it is any number of points.
+const MOST_DOUBLINGS: u32 = 64;
 
-/// How many strips a window is cut into at first, and how many points the rings of a side may have
-/// in one.
-#[derive(Clone, Copy)]
-pub(crate) struct Budget {
-    strips: u64,
-    most: usize,
-}
-
-impl Budget {
-    /// As many strips as there would be after a window was halved until none had more than `most`
-    /// points, if it has this number of points, spread evenly. So none need be tried again.
-    pub(crate) fn new(points: u64, most: usize) -> Budget {
-        let strips = points
-            .saturating_add(points / 64)
-            .checked_div(most as u64)
-            .unwrap_or(0)
-            .saturating_add(1);
-        Budget {
-            strips: strips.checked_next_power_of_two().unwrap_or(strips),
-            most,
-        }
-    }
-}
-
-/// How wide the next strip may be, how many points the rings of a side may have in it, and how many
-/// more strips may be tried with this number of points.
+/// How many points the rings of a side may have in a window, and how many more cuts may be made with
+/// this number of points.
 #[derive(Clone, Copy)]
 pub(crate) struct Pace {
-    pub width: u64,
-    pub points: usize,
-    tries: u32,
+    most: usize,
+    doublings: u32,
+    cuts: u32,
 }
 
 impl Pace {
-    /// The pace at which the search of a window begins.
-    pub(crate) fn new(window: &Window, budget: Budget) -> Pace
-        ensures { 0 < result.width }
+    /// The pace at which a search begins, with this number of points.
+    pub(crate) fn new(most: usize) -> Pace
+        ensures { cuts_left result ≡ 16640 }
     {
-        let width = window.x0.abs_diff(window.x1);
         Pace {
-            width: width
-                .checked_div(budget.strips)
-                .unwrap_or(0)
-                .saturating_add(1),
-            points: budget.most,
-            tries: MOST_TRIES,
+            most: most.max(1),
+            doublings: 0,
+            cuts: MOST_CUTS,
         }
     }
 
-    /// The pace after a strip of this width with at most this number of points on a side. The next
-    /// strip may be as wide, or twice as wide if this one had at most half the points that it might
-    /// have.
-    pub(crate) fn after(self, width: u64, points: usize) -> Pace
-        ensures { 0 < width → 0 < result.width }
+    /// The number of points that a side may have.
+    pub(crate) fn points(self) -> usize {
+        let times = 1_usize.checked_shl(self.doublings).unwrap_or(usize::MAX);
+        self.most.saturating_mul(times)
+    }
+
+    /// The pace after one more cut, or None if no more may be made.
+    pub(crate) fn next(self) -> Option<Pace>
+        ensures { IfSome result (λ next. cuts_left next < cuts_left self) }
     {
-        let width = if points <= self.points / 2 {
-            width.saturating_mul(2)
-        } else {
-            width
-        };
-        self.next(width)
-    }
-
-    /// The pace of the next strip, of at most this width.
-    pub(crate) fn next(self, width: u64) -> Pace
-        ensures { result.width ≡ width }
-    {
-        if self.tries > 0 {
-            return Pace {
-                width,
-                points: self.points,
-                tries: self.tries - 1,
-            };
+        if self.cuts > 0 {
+            return Some(Pace {
+                cuts: self.cuts - 1,
+                ..self
+            });
         }
-        Pace {
-            width,
-            points: self.points.saturating_mul(2).saturating_add(1),
-            tries: MOST_TRIES,
+        if self.doublings >= MOST_DOUBLINGS {
+            return None;
         }
+        Some(Pace {
+            doublings: self.doublings + 1,
+            cuts: MOST_CUTS - 1,
+            ..self
+        })
     }
-}
-
-/// The number of points of the top's own shapes at all their shifts.
-pub(crate) fn own_points(fitted: &Fitted) -> u64 {
-    let checked = fitted.checked();
-    let Some(top) = checked.cells().get(checked.top()) else {
-        return 0;
-    };
-    let mut points: u64 = 0;
-    for i in 0..top.shapes.len() {
-        points = points.saturating_add(points_of_shape(&top.shapes, i));
-    }
-    points
-}
-
-/// The number of points of a shape at all its shifts.
-fn points_of_shape(shapes: &Shapes, i: usize) -> u64
-    requires { i < length shapes.now }
-{
-    let mut points: u64 = 0;
-    for j in 0..shapes.ring_count(i) {
-        points = points.saturating_add(shapes.ring(i, j).len() as u64);
-    }
-    points.saturating_mul(shapes.shift_count(i))
 }

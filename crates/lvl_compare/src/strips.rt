@@ -1,18 +1,20 @@
-//! Comparison of two libraries in a window, strip by strip, so that only what is drawn in one strip
-//! is in memory.
-ghost use Rattle.std.specs.Prelude.{◌≡◌, ◌<◌, ◌<ℤ◌, ◌≤ℤ◌, ◌↔◌, IsTrue, IfOk};
+//! Comparison of two libraries in a window, part by part, so that only what is drawn in one part is
+//! in memory.
+ghost use Rattle.std.specs.Prelude.{◌≡◌, ◌≤◌, ◌+◌, ◌*◌, ◌<ℤ◌, ◌↔◌, IsTrue, IfOk, IfSome};
 ghost use Rattle.lvl_grid.specs.Clip.{IsInWindow};
 ghost use Rattle.lvl_columns.specs.Windows.{window_of};
 ghost use Rattle.lvl_flat.specs.Flattened.{TopCovers};
 ghost use Rattle.lvl_view.specs.Moved.{IsMoved};
-ghost use Rattle.lvl_compare.specs.inside.Strips.{Precedes, IsFoundIn, IsImproved, IsLeast, IsLeftIn, rows_to, seen_of};
-ghost use Rattle.lvl_compare.specs.inside.Strips.{up_to};
+ghost use Rattle.lvl_compare.specs.inside.Strips.{AreHalves, Precedes, IsFoundIn, IsImproved, IsLeast, rows_to, seen_of};
 ghost use Rattle.lvl_compare.specs.inside.Groups.{AreAbove, AreListed, AreRowsBefore, on};
+ghost use Rattle.lvl_compare.specs.inside.Lists.{AreBoth};
+ghost use Rattle.lvl_compare.specs.inside.Paces.{cuts_left};
 
 use crate::flats::first_difference;
 use crate::groups::Group;
+use crate::lists::{Lists, shorter};
 use crate::pace::Pace;
-use lvl_flat::{Fitted, Flat};
+use lvl_flat::Fitted;
 use lvl_grid::{Square, Window};
 use lvl_names::{Layer, comes_before};
 use lvl_region::Side;
@@ -22,13 +24,13 @@ use std::alloc::{AllocError, Global};
 /// A Layer, a square that only one side draws there, and the side.
 pub(crate) type Difference = (Layer, Square, Side);
 
-/// How far a window is searched: the first difference that is known, the abscissa up to which the
-/// squares are searched, and the pace of the next strip.
+/// How far a search is: the first difference that is known, the pace of what is still to be searched,
+/// and how many windows were looked at.
 #[derive(Clone, Copy)]
 pub(crate) struct Progress {
     pub found: Option<Difference>,
-    pub end: i64,
     pub pace: Pace,
+    pub windows: u64,
 }
 
 /// Whether the first comes before the second: by Layer, then by square.
@@ -64,61 +66,28 @@ pub(crate) fn shared(first: Window, second: Option<&Window>) -> Window
     }
 }
 
-/// The number of points of the rings of a flat layout.
-fn points_of(flat: &Flat) -> usize {
-    let mut points: usize = 0;
-    for place in 0..flat.len() {
-        if let Some(layer) = flat.layer(place) {
-            points = points.saturating_add(flat.rings(layer).points().len());
-        }
-    }
-    points
-}
-
-/// The first difference of two layouts on the Layers of a group within a strip, and the greater of
-/// the numbers of points of both sides there. If one is more than `most`, that is reported as out of
-/// memory.
+/// The first difference of two layouts on the Layers of a group within a window. If one of them has
+/// more than `most` points there, that is reported as out of memory.
 fn difference_of(
     alloc: Global,
     first: &Fitted,
     second: &Fitted,
     view: &View,
     group: &Group,
-    strip: &Window,
+    lists: &Lists,
+    window: &Window,
     most: usize,
-) -> Result<(Option<Difference>, usize), AllocError>
-    requires { AreListed (TopCovers first.now) (TopCovers second.now) view.now.pairs group.now }
-    ensures { IfOk result (λ parts. IsFoundIn (TopCovers first.now)
-        (IsMoved view.now.pairs (TopCovers second.now)) (on group.now.span (IsInWindow strip.now)) parts.0) }
+) -> Result<Option<Difference>, AllocError>
+    requires listed { AreListed (TopCovers first.now) (TopCovers second.now) view.now.pairs group.now }
+    requires lists { AreBoth first.now second.now window.now lists.now }
+    ensures { IfOk result (IsFoundIn (TopCovers first.now)
+        (IsMoved view.now.pairs (TopCovers second.now)) (on group.now.span (IsInWindow window.now))) }
 {
-    let ours = first.within(alloc, &group.ours, strip, most)?;
-    let theirs = second.within(alloc, &group.theirs, strip, most)?;
-    let points = points_of(&ours).max(points_of(&theirs));
+    let ours = first.within_of(alloc, &lists.ours, &group.ours, window, most)?;
+    let theirs = second.within_of(alloc, &lists.theirs, &group.theirs, window, most)?;
     let mapped = theirs.mapped(alloc, view)?;
     let found = first_difference(alloc, &ours, &mapped)?;
-    Ok((found, points))
-}
-
-/// The abscissa at which a strip of at most this width ends that begins where the window does.
-fn end_of(window: &Window, width: u64) -> i64
-    requires wide { 0 < width }
-    requires squares { window.now.x0 <ℤ window.now.x1 }
-    ensures further { window.now.x0 <ℤ result }
-    ensures inside { result ≤ℤ window.now.x1 }
-{
-    window.x0.saturating_add_unsigned(width).min(window.x1)
-}
-
-/// The part of a window up to an abscissa, which is excluded.
-fn front(window: &Window, end: i64) -> Window
-    ensures { result ≡ up_to end window.now }
-{
-    Window {
-        x0: window.x0,
-        y0: window.y0,
-        x1: end,
-        y1: window.y1,
-    }
+    Ok(found)
 }
 
 /// The rows of a window up to this one.
@@ -145,64 +114,6 @@ fn last_row(window: &Window, square: Square) -> i64
     }
 }
 
-/// The first difference of two layouts on the Layers of a group within the first strip of a window.
-/// The strip is at most as wide as the pace allows, and is halved until it doesn't have too many
-/// points and fits in memory. A strip of width 1 may have any number of points.
-fn first_strip(
-    alloc: Global,
-    first: &Fitted,
-    second: &Fitted,
-    view: &View,
-    group: &Group,
-    window: &Window,
-    pace: Pace,
-) -> Result<Progress, AllocError>
-    requires wide { 0 < pace.width }
-    requires squares { window.now.x0 <ℤ window.now.x1 }
-    requires listed { AreListed (TopCovers first.now) (TopCovers second.now) view.now.pairs group.now }
-    ensures found { IfOk result (λ strip. IsFoundIn (TopCovers first.now)
-        (IsMoved view.now.pairs (TopCovers second.now)) (on group.now.span (IsLeftIn window.now strip.end))
-        strip.found) }
-    ensures further { IfOk result (λ strip. window.now.x0 <ℤ strip.end) }
-    ensures inside { IfOk result (λ strip. strip.end ≤ℤ window.now.x1) }
-    ensures wide { IfOk result (λ strip. 0 < strip.pace.width) }
-{
-    let end = end_of(window, pace.width);
-    let strip = front(window, end);
-    if let Ok((found, points)) = difference_of(
-        alloc,
-        first,
-        second,
-        view,
-        group,
-        &strip,
-        pace.points,
-    ) {
-        return Ok(Progress {
-            found,
-            end,
-            pace: pace.after(pace.width, points),
-        });
-    }
-    if pace.width == 1 {
-        let (found, points) = difference_of(alloc, first, second, view, group, &strip, usize::MAX)?;
-        return Ok(Progress {
-            found,
-            end,
-            pace: pace.after(1, points),
-        });
-    }
-    first_strip(
-        alloc,
-        first,
-        second,
-        view,
-        group,
-        window,
-        pace.next(pace.width / 2),
-    )
-}
-
 /// The rows of a window that may have a square before a known one, on the Layers of a group up to its
 /// Layer: all rows, unless no Layer of the group comes before its Layer.
 fn rows_before(
@@ -221,61 +132,194 @@ fn rows_before(
     }
 }
 
-/// The search of a window after one more strip. Only what may precede the known difference is drawn:
-/// Layers up to its Layer, and if there is none before that one, rows that may have a square before
-/// its own.
-fn next_strip(
+/// The first difference of two layouts on the Layers of a group within a window, if it precedes what
+/// is known, else what is known. Only what may precede the known difference is drawn: Layers up to
+/// its Layer, and if there is none before that one, rows that may have a square before its own.
+fn difference_after(
     alloc: Global,
     first: &Fitted,
     second: &Fitted,
     view: &View,
     group: &Group,
-    rest: &Window,
-    before: Progress,
-) -> Result<Progress, AllocError>
-    requires wide { 0 < before.pace.width }
-    requires squares { rest.now.x0 <ℤ rest.now.x1 }
+    lists: &Lists,
+    window: &Window,
+    found: Option<Difference>,
+    most: usize,
+) -> Result<Option<Difference>, AllocError>
     requires listed { AreListed (TopCovers first.now) (TopCovers second.now) view.now.pairs group.now }
-    ensures found { IfOk result (λ strip. IsImproved (TopCovers first.now)
-        (IsMoved view.now.pairs (TopCovers second.now)) (on group.now.span (IsLeftIn rest.now strip.end))
-        before.found strip.found) }
-    ensures further { IfOk result (λ strip. rest.now.x0 <ℤ strip.end) }
-    ensures inside { IfOk result (λ strip. strip.end ≤ℤ rest.now.x1) }
-    ensures wide { IfOk result (λ strip. 0 < strip.pace.width) }
+    requires lists { AreBoth first.now second.now window.now lists.now }
+    ensures { IfOk result (IsImproved (TopCovers first.now) (IsMoved view.now.pairs (TopCovers second.now))
+        (on group.now.span (IsInWindow window.now)) found) }
 {
-    let Some(known) = before.found else {
-        return first_strip(alloc, first, second, view, group, rest, before.pace);
+    let Some(known) = found else {
+        return difference_of(alloc, first, second, view, group, lists, window, most);
     };
     let lesser = group.part(alloc, view, group.span.up_to(known.0))?;
-    let rows = rows_before(alloc, view, &lesser, rest, &known);
-    let strip = first_strip(alloc, first, second, view, &lesser, &rows, before.pace)?;
+    let rows = rows_before(alloc, view, &lesser, window, &known);
+    let next = difference_of(alloc, first, second, view, &lesser, lists, &rows, most)?;
+    Ok(least(found, next))
+}
+
+/// The coordinate in the middle between two, or None if there is none between them.
+fn middle(from: i64, to: i64) -> Option<i64>
+    ensures { IfSome result (λ middle. (from <ℤ middle) × (middle <ℤ to)) }
+{
+    let middle = from.saturating_add_unsigned(from.abs_diff(to) / 2);
+    if from < middle && middle < to {
+        return Some(middle);
+    }
+    None
+}
+
+/// The part of a window left of an abscissa.
+fn left_of(window: &Window, x: i64) -> Window
+    ensures { result ≡ record { x0 = window.now.x0; y0 = window.now.y0; x1 = x; y1 = window.now.y1 } }
+{
+    Window { x1: x, ..*window }
+}
+
+/// The part of a window from an abscissa on.
+fn right_of(window: &Window, x: i64) -> Window
+    ensures { result ≡ record { x0 = x; y0 = window.now.y0; x1 = window.now.x1; y1 = window.now.y1 } }
+{
+    Window { x0: x, ..*window }
+}
+
+/// The part of a window below an ordinate.
+fn below(window: &Window, y: i64) -> Window
+    ensures { result ≡ record { x0 = window.now.x0; y0 = window.now.y0; x1 = window.now.x1; y1 = y } }
+{
+    Window { y1: y, ..*window }
+}
+
+/// The part of a window from an ordinate on.
+fn above(window: &Window, y: i64) -> Window
+    ensures { result ≡ record { x0 = window.now.x0; y0 = y; x1 = window.now.x1; y1 = window.now.y1 } }
+{
+    Window { y0: y, ..*window }
+}
+
+/// The left and the right half of a window, or None if it has less than two columns.
+fn columns_of(window: &Window) -> Option<(Window, Window)>
+    ensures { IfSome result (λ halves. AreHalves window.now halves.0 halves.1) }
+{
+    let x = middle(window.x0, window.x1)?;
+    Some((left_of(window, x), right_of(window, x)))
+}
+
+/// The lower and the upper half of a window, or None if it has less than two rows.
+fn rows_of(window: &Window) -> Option<(Window, Window)>
+    ensures { IfSome result (λ halves. AreHalves window.now halves.0 halves.1) }
+{
+    let y = middle(window.y0, window.y1)?;
+    Some((below(window, y), above(window, y)))
+}
+
+/// Two halves of a window, beside each other if it is to be cut across and can be. None if it is a
+/// single square, or has none.
+fn halves(window: &Window, across: bool) -> Option<(Window, Window)>
+    ensures { IfSome result (λ halves. AreHalves window.now halves.0 halves.1) }
+{
+    let (better, other) = if across {
+        (columns_of(window), rows_of(window))
+    } else {
+        (rows_of(window), columns_of(window))
+    };
+    match better {
+        Some(halves) => Some(halves),
+        None => other,
+    }
+}
+
+/// The search after a window that is drawn as a whole, with at most this number of points on a side.
+fn whole(
+    alloc: Global,
+    first: &Fitted,
+    second: &Fitted,
+    view: &View,
+    group: &Group,
+    lists: &Lists,
+    window: &Window,
+    before: Progress,
+    most: usize,
+) -> Result<Progress, AllocError>
+    requires listed { AreListed (TopCovers first.now) (TopCovers second.now) view.now.pairs group.now }
+    requires lists { AreBoth first.now second.now window.now lists.now }
+    ensures found { IfOk result (λ after. IsImproved (TopCovers first.now)
+        (IsMoved view.now.pairs (TopCovers second.now)) (on group.now.span (IsInWindow window.now))
+        before.found after.found) }
+    ensures few { IfOk result (λ after. after.windows + 2 * cuts_left after.pace
+        ≤ before.windows + 2 * cuts_left before.pace + 1) }
+{
+    let known = before.found;
+    let found = difference_after(
+        alloc, first, second, view, group, lists, window, known, most,
+    )?;
     Ok(Progress {
-        found: least(before.found, strip.found),
-        end: strip.end,
-        pace: strip.pace,
+        found,
+        pace: before.pace,
+        windows: before.windows.saturating_add(1),
     })
 }
 
-/// The first difference of two layouts on the Layers of a group within a window, if it precedes
-/// what is known, else what is known. The window is searched strip by strip.
+/// The search of a window, where a side is expected to have this number of points at most. If that
+/// fits the budget, the window is drawn as a whole; else, or if it has more points or doesn't fit in
+/// memory, its halves are searched one after the other. A window of one square may have any number of
+/// points, and so may each window once all cuts are made. Each window looks only at those own shapes
+/// and references of the tops that may cover squares of the one that it is a half of.
+///
+/// There are at most two windows for each cut, and one more.
 pub(crate) fn difference_within(
     alloc: Global,
     first: &Fitted,
     second: &Fitted,
     view: &View,
     group: &Group,
-    window: Window,
-    mut progress: Progress,
-) -> Result<Option<Difference>, AllocError>
-    requires wide { 0 < progress.pace.width }
+    wider: &Lists,
+    window: &Window,
+    expected: u64,
+    before: Progress,
+) -> Result<Progress, AllocError>
     requires listed { AreListed (TopCovers first.now) (TopCovers second.now) view.now.pairs group.now }
-    ensures { IfOk result (IsImproved (TopCovers first.now) (IsMoved view.now.pairs (TopCovers second.now))
-        (on group.now.span (IsInWindow window)) progress.found) }
+    requires lists { AreBoth first.now second.now window.now wider.now }
+    ensures found { IfOk result (λ after. IsImproved (TopCovers first.now)
+        (IsMoved view.now.pairs (TopCovers second.now)) (on group.now.span (IsInWindow window.now))
+        before.found after.found) }
+    ensures few { IfOk result (λ after. after.windows + 2 * cuts_left after.pace
+        ≤ before.windows + 2 * cuts_left before.pace + 1) }
 {
-    let mut rest = window;
-    while rest.x0 < rest.x1 {
-        progress = next_strip(alloc, first, second, view, group, &rest, progress)?;
-        rest.x0 = progress.end;
+    let most = before.pace.points();
+    if expected <= most as u64 {
+        let tried = whole(
+            alloc, first, second, view, group, wider, window, before, most,
+        );
+        if let Ok(after) = tried {
+            return Ok(after);
+        }
     }
-    Ok(progress.found)
+    let (short, sizes) = wider.shortened(alloc, first, second, window)?;
+    let lists = shorter(&short, wider);
+    if sizes.are_tried(expected, most) {
+        let tried = whole(
+            alloc, first, second, view, group, lists, window, before, most,
+        );
+        if let Ok(after) = tried {
+            return Ok(after);
+        }
+    }
+    let across = sizes.is_cut_across();
+    let (Some(pace), Some((low, high))) = (before.pace.next(), halves(window, across)) else {
+        let any = usize::MAX;
+        return whole(
+            alloc, first, second, view, group, lists, window, before, any,
+        );
+    };
+    let begun = Progress {
+        found: before.found,
+        pace,
+        windows: before.windows.saturating_add(1),
+    };
+    let (less, more) = sizes.of_halves(across);
+    let half = difference_within(alloc, first, second, view, group, lists, &low, less, begun)?;
+    difference_within(alloc, first, second, view, group, lists, &high, more, half)
 }

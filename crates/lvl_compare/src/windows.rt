@@ -9,7 +9,8 @@ ghost use Rattle.lvl_compare.specs.inside.Groups.{AreListed, on};
 ghost use Rattle.lvl_compare.specs.inside.Strips.{IsFoundIn, everywhere};
 
 use crate::groups::{Group, Span};
-use crate::pace::{Budget, Pace, own_points};
+use crate::lists::Lists;
+use crate::pace::Pace;
 use crate::strips::{Difference, Progress, difference_within, shared};
 use lvl_flat::Fitted;
 use lvl_grid::{Square, Window};
@@ -27,34 +28,38 @@ fn difference_in_group(
     view: &View,
     group: &Group,
     windows: &[Window],
-    budget: Budget,
+    most: usize,
 ) -> Result<Option<Difference>, AllocError>
     requires { AreListed (TopCovers first.now) (TopCovers second.now) view.now.pairs group.now }
     ensures { IfOk result (IsFoundIn (TopCovers first.now) (IsMoved view.now.pairs (TopCovers second.now))
         (on group.now.span (IsSeenIn view.now.window windows.now))) }
 {
+    let lists = Lists::whole(first, second);
     let mut found = None;
     for window in windows {
         let part = shared(*window, view.window());
         let start = Progress {
             found,
-            end: part.x0,
-            pace: Pace::new(&part, budget),
+            pace: Pace::new(most),
+            windows: 0,
         };
-        found = difference_within(alloc, first, second, view, group, part, start)?;
+        let size = u64::MAX;
+        let end = difference_within(
+            alloc, first, second, view, group, &lists, &part, size, start,
+        )?;
+        found = end.found;
     }
     Ok(found)
 }
 
-/// The first difference of two layouts in some windows, which have this number of points. The
-/// Layers are searched in groups, in their order, up to the first group that has a difference.
+/// The first difference of two layouts in some windows. The Layers are searched in groups, in their
+/// order, up to the first group that has a difference.
 pub(crate) fn difference_by_groups(
     alloc: Global,
     first: &Fitted,
     second: &Fitted,
     view: &View,
     windows: &[Window],
-    points: u64,
     most: usize,
 ) -> Result<Option<Difference>, AllocError>
     ensures { IfOk result (IsFoundIn (TopCovers first.now) (IsMoved view.now.pairs (TopCovers second.now))
@@ -62,29 +67,28 @@ pub(crate) fn difference_by_groups(
 {
     let layers = Group::whole(alloc, first, second)?;
     let ends = layers.ends(alloc, view)?;
-    let budget = Budget::new(points / (ends.len() as u64 + 1), most);
     let mut after = None;
     for end in &ends {
         let last = Some(*end);
         let group = layers.part(alloc, view, Span { after, last })?;
-        let found = difference_in_group(alloc, first, second, view, &group, windows, budget)?;
+        let found = difference_in_group(alloc, first, second, view, &group, windows, most)?;
         if found.is_some() {
             return Ok(found);
         }
         after = last;
     }
     let group = layers.part(alloc, view, Span { after, last: None })?;
-    difference_in_group(alloc, first, second, view, &group, windows, budget)
+    difference_in_group(alloc, first, second, view, &group, windows, most)
 }
 
 /// The first Layer, and on it the first square, by `y` and then `x`, that only one of two layouts
 /// draws, with its side; None if both draw the same squares on every Layer. The Layers of the
 /// second are mapped by the view, and if the view has a window, only its squares are compared.
 ///
-/// The layouts are searched in strips, from left to right, so wide that neither side has more than
-/// `most` points in one. Only one strip is in memory at a time. After 256 strips `most` is doubled,
-/// so there are never many more strips than points. A strip of width 1 may have any number of
-/// points. Many Layers are searched in groups, one after another. Fails only if out of memory.
+/// The layouts are searched in windows, which are halved until neither side has more than `most`
+/// points in one. Only one window is in memory at a time. After 256 cuts `most` is doubled. A window
+/// of one square may have any number of points. Many Layers are searched in groups, one after
+/// another. Fails only if out of memory.
 pub fn difference_by_strips(
     alloc: Global,
     first: &Fitted,
@@ -99,9 +103,8 @@ pub fn difference_by_strips(
         (IsMoved view.now.pairs (TopCovers second.now)) at.0 at.1 at.2)) }
 {
     let window = first.extent().joined(second.extent());
-    let points = own_points(first).max(own_points(second));
     let windows = slice::from_ref(&window);
-    difference_by_groups(alloc, first, second, view, windows, points, most)
+    difference_by_groups(alloc, first, second, view, windows, most)
 }
 
 /// The first Layer, and on it the first square of the windows, by `y` and then `x`, that only one
@@ -125,5 +128,5 @@ pub fn difference_in_windows(
         (λ at. IsFirstDifference (IsSeenIn view.now.window windows.now) (TopCovers first.now)
         (IsMoved view.now.pairs (TopCovers second.now)) at.0 at.1 at.2)) }
 {
-    difference_by_groups(alloc, first, second, view, windows, 0, most)
+    difference_by_groups(alloc, first, second, view, windows, most)
 }

@@ -10,6 +10,5 @@ pub mod Spelling
 pub mod Spans
 pub mod Vectors
 pub mod Pairs
-pub mod Heads
 pub mod Lines
-pub mod MaskLines
+pub mod Masks

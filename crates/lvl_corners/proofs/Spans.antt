@@ -1,5 +1,5 @@
 -- The corners of two adjacent columns.
-use Rattle.std.proofs.Common.{◌≡◌, Bool, true, ◌||◌, List, ◌++◌}
+use Rattle.std.proofs.Common.{◌≡◌, Bool, true, false, ◌||◌, List, [], ◌++◌}
 use Rattle.std.proofs.Common.{ℤ, pos, ◌-ℤ◌, ◌<ℤ◌, ◌≤ℤ◌, int_lt, int_le, ◌↔◌, inl, inr, Contains, Option, None}
 use Rattle.std.proofs.Common.{Some}
 use Rattle.std.proofs.Common.{refl, sym, ◌∙◌, ap, arith}
@@ -16,7 +16,7 @@ use Rattle.lvl_corners.specs.declared.corner.Corner.{Corner}
 use Rattle.lvl_corners.specs.declared.span.Span.{Span}
 use Rattle.lvl_corners.specs.Corners.{bit, change_at, ComesBefore, IsBounded, AreCornersOf}
 use Rattle.lvl_corners.proofs.Pairs.{pairs_of_both}
-use Rattle.lvl_corners.specs.inside.Spans.{is_below, spanned, whole, left_part, right_part, AreCornersIn}
+use Rattle.lvl_corners.specs.Spans.{is_below, spanned, whole, left_part, right_part, AreCornersIn}
 
 -- the corners at all abscissas are the corners
 pub corners_in_all : (P : Square → Type 0) (ks : List Corner) → AreCornersIn P whole ks → AreCornersOf P ks
@@ -31,6 +31,16 @@ corners_in_all P ks h = record {
       λ both. (h.each k).1 (refl, both.0, both.1),
     );
   };
+}
+
+-- a set without squares has no corners
+pub no_corners_in : (P : Square → Type 0) (span : Span) → ((s : Square) → P s → ⊥) → AreCornersIn P span []
+no_corners_in P span none = record {
+  covered = λ s. false;
+  is_covered = λ s. (λ t. cc, λ p. absurd (none s p));
+  bounded = record { left = pos 0; bottom = pos 0; each = λ s t. absurd (cc) };
+  rising = λ i j d lt far. absurd (omega (arith, far));
+  each = λ k. (λ c. let none = c.1 in absurd (omega (arith, none)), λ all. absurd (all.1 all.2));
 }
 
 -- the corners are those of any set with the same squares

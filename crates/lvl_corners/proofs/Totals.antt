@@ -14,7 +14,7 @@ use Rattle.lvl_corners.specs.declared.mark.Mark.{Mark}
 use Rattle.lvl_corners.specs.declared.span.Span.{Span}
 use Rattle.lvl_corners.specs.Corners.{bit, change_at, ComesBefore}
 use Rattle.lvl_corners.specs.inside.Marks.{net}
-use Rattle.lvl_corners.specs.inside.Spans.{spanned}
+use Rattle.lvl_corners.specs.Spans.{spanned}
 use Rattle.lvl_corners.specs.inside.Sums.{total_at, IsLess, AreTotals}
 use Rattle.lvl_corners.proofs.IntTests.{eq_yes, eq_is, ne_above, ne_below}
 

@@ -1,4 +1,5 @@
 pub mod Corners
+pub mod Spans
 pub mod Bytes
 pub mod Masks
 pub mod Digests

@@ -1,6 +1,6 @@
 pub mod Marks
 pub mod Rows
 pub mod Sums
-pub mod Spans
+pub mod Budgets
 pub mod Hashing
 pub mod Sinks

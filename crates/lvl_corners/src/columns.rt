@@ -7,7 +7,8 @@ ghost use Rattle.lvl_grid.specs.Clip.{IsIn};
 ghost use Rattle.lvl_grid.specs.Winding.{SomeCovers};
 ghost use Rattle.lvl_corners.specs.declared.corner.Corner.{Corner as GridCorner};
 ghost use Rattle.lvl_corners.specs.Corners.{AreCornersOf, FitsCorner};
-ghost use Rattle.lvl_corners.specs.inside.Spans.{AreCornersIn, KeepsBudget, paid, spanned, whole};
+ghost use Rattle.lvl_corners.specs.Spans.{AreCornersIn, spanned};
+ghost use Rattle.lvl_corners.specs.inside.Budgets.{KeepsBudget, paid};
 
 use crate::cut::column_cut;
 use crate::send::send_swept;
@@ -166,10 +167,12 @@ fn send_part<S: CornerSink>(
     Ok(())
 }
 
-/// Sends the corners of what the rings cover to a sink, as [`send_corners`] does, within a budget.
+/// Sends the corners of what the rings cover, at the abscissas of a span, to a sink, as
+/// [`send_corners_in`] does, within a budget.
 fn send_within<S: CornerSink>(
     alloc: Global,
     rings: &Rings,
+    span: Span,
     budget: &mut Budget,
     sink: &mut S,
 ) -> Result<(), AllocError>
@@ -177,10 +180,9 @@ fn send_within<S: CornerSink>(
     ensures sent { OnOk result ((corners : List GridCorner)
         × S.takes sink.old sink.new corners
         × All FitsCorner corners
-        × AreCornersIn (SomeCovers rings.now) whole corners) }
+        × AreCornersIn (SomeCovers rings.now) span corners) }
     ensures budget { OnOk result (KeepsBudget budget.old budget.new) }
 {
-    let span = Span::whole();
     let Some(at) = cut_of(alloc, rings, &span, 0, budget)? else {
         return send_swept(alloc, rings, span, sink);
     };
@@ -197,9 +199,27 @@ fn send_within<S: CornerSink>(
     Ok(())
 }
 
-/// Sends the corners of what the rings cover to a sink, in order of `x` and then `y`. Returns how
-/// many columns were made to find them: at most two for each point of the rings. All corners are
-/// points of 64 bits. Fails only if out of memory.
+/// Sends the corners of what the rings cover, at the abscissas of a span, to a sink, in order of
+/// `x` and then `y`. Returns how many columns were made to find them: at most two for each point of
+/// the rings. All corners are points of 64 bits. Fails only if out of memory.
+pub fn send_corners_in<S: CornerSink>(
+    alloc: Global,
+    rings: &Rings,
+    span: Span,
+    sink: &mut S,
+) -> Result<u64, AllocError>
+    ensures sent { OnOk result ((corners : List GridCorner)
+        × S.takes sink.old sink.new corners
+        × All FitsCorner corners
+        × AreCornersIn (SomeCovers rings.now) span corners) }
+    ensures columns { IfOk result (λ columns. columns ≤ 2 * length (flat_map (λ ring. ring) rings.now)) }
+{
+    let mut budget = Budget::of(rings);
+    send_within(alloc, rings, span, &mut budget, sink)?;
+    Ok(budget.made)
+}
+
+/// Sends all corners of what the rings cover to a sink, as [`send_corners_in`] does.
 pub fn send_corners<S: CornerSink>(
     alloc: Global,
     rings: &Rings,
@@ -211,7 +231,5 @@ pub fn send_corners<S: CornerSink>(
         × AreCornersOf (SomeCovers rings.now) corners) }
     ensures columns { IfOk result (λ columns. columns ≤ 2 * length (flat_map (λ ring. ring) rings.now)) }
 {
-    let mut budget = Budget::of(rings);
-    send_within(alloc, rings, &mut budget, sink)?;
-    Ok(budget.made)
+    send_corners_in(alloc, rings, Span::whole(), sink)
 }

@@ -1,14 +1,16 @@
 //! The digest of a Layer.
-ghost use Rattle.std.specs.Prelude.{◌≡◌, List, IfOk, OnErr, All};
+ghost use Rattle.std.specs.Prelude.{◌≡◌, [], List, IfOk, OnOk, OnErr, All};
 ghost use Rattle.std.specs.String.{string_bytes};
 ghost use Rattle.lvl_grid.specs.Winding.{SomeCovers};
 ghost use Rattle.lvl_corners.specs.declared.corner.Corner.{Corner as GridCorner};
-ghost use Rattle.lvl_corners.specs.Corners.{AreCornersOf, FitsCorner};
+ghost use Rattle.lvl_corners.specs.Corners.{FitsCorner};
+ghost use Rattle.lvl_corners.specs.Spans.{AreCornersIn};
 ghost use Rattle.lvl_corners.specs.Bytes.{layer_head, BytesDecide};
-ghost use Rattle.lvl_corners.specs.inside.Hashing.{IsHashed};
+ghost use Rattle.lvl_corners.specs.Digests.{HasHashed, HashesOn, IsDigestFor};
 
-use crate::columns::send_corners;
+use crate::columns::send_corners_in;
 use crate::hashing::LayerHashing;
+use crate::span::Span;
 use lvl_grid::Rings;
 use lvl_names::Layer;
 use sha2::{Digest, Sha256};
@@ -19,7 +21,7 @@ use std::alloc::{AllocError, Global};
 pub struct LayerDigest {
     /// The number of corners, or `u64::MAX` if there are more.
     pub corners: u64,
-    /// The SHA-256 of the bytes of the Layer (see [`crate::MaskHash`]).
+    /// The SHA-256 of the bytes of the Layer (see [`LayerHash`]).
     pub sha256: [u8; 32],
 }
 
@@ -30,34 +32,75 @@ fn head_of(alloc: Global, layer: Layer) -> Result<String, AllocError>
     format!(in alloc; "layer {} datatype {}\n", layer.layer, layer.datatype)
 }
 
-/// Hashes what the rings cover on a Layer, by itself and as a further part of `mask`. A Layer that
-/// covers nothing has no digest and no bytes. Fails only if out of memory, and then `mask` is
-/// unchanged.
-pub(crate) fn hash_layer(
-    alloc: Global,
+/// The hash of what a Layer covers, whose corners are hashed strip by strip, from left to right.
+///
+/// The bytes of a Layer are "layer L datatype D", a line feed, and the corners in order of `x` and
+/// then `y`: for each, `x` and `y`, eight bytes each, and its change, one byte, in two's complement
+/// with the high byte first (own rule). It takes some two hundred bytes, whatever is hashed.
+#[derive(Drop)]
+pub struct LayerHash {
     layer: Layer,
-    rings: &Rings,
-    mask: &mut Sha256,
-) -> Result<Option<LayerDigest>, AllocError>
-    ensures hashed { IfOk result (λ digest. (corners : List GridCorner)
-        × All FitsCorner corners
-        × AreCornersOf (SomeCovers rings.now) corners
-        × IsHashed layer corners mask.old mask.new digest) }
-    ensures err { OnErr result (mask.new ≡ mask.old) }
-{
-    let head = head_of(alloc, layer)?;
-    let mut hashing = LayerHashing::new(alloc, head.as_bytes(), mask.clone()?)?;
-    send_corners(alloc, rings, &mut hashing)?;
-    hashing.flush();
-    let corners = hashing.count();
-    if corners == 0 {
-        return Ok(None);
+    hasher: Sha256,
+    corners: u64,
+}
+
+impl LayerHash {
+    /// The hash of a Layer without corners.
+    pub fn new(alloc: Global, layer: Layer) -> Result<LayerHash, AllocError>
+        ensures layer { IfOk result (λ hash. hash.layer ≡ layer) }
+        ensures none { IfOk result (λ hash. HasHashed hash []) }
+    {
+        let head = head_of(alloc, layer)?;
+        let mut hasher = Sha256::new();
+        hasher.update(head.as_bytes());
+        Ok(LayerHash {
+            layer,
+            hasher,
+            corners: 0,
+        })
     }
-    *mask = hashing.mask;
-    Ok(Some(LayerDigest {
-        corners,
-        sha256: hashing.layer.finalize(),
-    }))
+
+    /// The Layer.
+    pub fn layer(&self) -> Layer
+        ensures { result ≡ self.now.layer }
+    {
+        self.layer
+    }
+
+    /// Hashes the corners of what the rings cover at the abscissas of a span, as the next ones. The
+    /// rings must cover what the Layer does in the span and in the column left of it. Fails only if
+    /// out of memory, and then the hash is unchanged.
+    pub fn push(&mut self, alloc: Global, rings: &Rings, span: Span) -> Result<(), AllocError>
+        ensures hashed { OnOk result ((corners : List GridCorner)
+            × AreCornersIn (SomeCovers rings.now) span corners
+            × All FitsCorner corners
+            × HashesOn self.old self.new corners) }
+        ensures layer { self.new.layer ≡ self.old.layer }
+        ensures err { OnErr result (self.new ≡ self.old) }
+    {
+        if rings.is_empty() {
+            return Ok(());
+        }
+        let mut hashing = LayerHashing::new(alloc, self.hasher.clone()?, self.corners)?;
+        send_corners_in(alloc, rings, span, &mut hashing)?;
+        hashing.flush();
+        self.corners = hashing.count();
+        self.hasher = hashing.hasher;
+        Ok(())
+    }
+
+    /// The digest of the Layer, or None if it has no corners.
+    pub fn finish(self) -> Option<LayerDigest>
+        ensures { (corners : List GridCorner) → HasHashed self corners → IsDigestFor self.layer corners result }
+    {
+        if self.corners == 0 {
+            return None;
+        }
+        Some(LayerDigest {
+            corners: self.corners,
+            sha256: self.hasher.finalize(),
+        })
+    }
 }
 
 /// A law, for proofs: two lists of rings on the same Layer have the same bytes exactly if they

@@ -1,8 +1,7 @@
 //! Corners are hashed while they are found, many at a time.
-ghost use Rattle.std.specs.Prelude.{◌≡◌, ◌++◌, ◌-◌, ◌^◌, [], ℕ, List, min, IfOk, OnOk};
-ghost use Rattle.sha2.specs.Hashers.{Holds256};
+ghost use Rattle.std.specs.Prelude.{◌≡◌, ◌++◌, ◌-◌, ◌^◌, [], min, IfOk, OnOk};
 ghost use Rattle.lvl_corners.specs.Bytes.{corner_bytes};
-ghost use Rattle.lvl_corners.specs.inside.Hashing.{HasTaken, HoldsWith, HoldsSame};
+ghost use Rattle.lvl_corners.specs.inside.Hashing.{HasTaken, HoldsSame};
 ghost use Rattle.lvl_corners.specs.inside.Sinks.{hasher_takes_none, hasher_takes_both};
 
 use crate::corner::Corner;
@@ -13,8 +12,8 @@ use std::alloc::{AllocError, Global};
 /// About how many bytes are hashed at a time: 64 corners, in 17 blocks of the hash.
 const PENDING: usize = 1088;
 
-/// How many further bytes there is room for: the head of a Layer, or a corner.
-const ROOM: usize = 64;
+/// How many further bytes there is room for: a corner.
+const ROOM: usize = 17;
 
 /// Appends the bytes of a corner.
 fn push_corner(bytes: &mut Vec<u8>, corner: Corner) -> Result<(), AllocError>
@@ -26,31 +25,29 @@ fn push_corner(bytes: &mut Vec<u8>, corner: Corner) -> Result<(), AllocError>
     Ok(())
 }
 
-/// The hashers of a Layer and of the mask, the pending bytes that both have still to take, and the
-/// number of corners.
+/// The hasher of a Layer, the pending bytes that it has still to take, and the number of corners.
 #[derive(Drop)]
 pub struct LayerHashing {
-    pub layer: Sha256,
-    pub mask: Sha256,
+    pub hasher: Sha256,
     pub pending: Vec<u8>,
     pub corners: u64,
 }
 
 impl LayerHashing {
-    /// The hashing of a Layer with this head, in a mask whose hasher has taken the bytes before.
-    pub(crate) fn new(alloc: Global, head: &[u8], mask: Sha256) -> Result<LayerHashing, AllocError>
-        ensures layer { IfOk result (λ h. HoldsWith h.layer h.pending.items head.now) }
-        ensures mask { IfOk result (λ h. (m : List ℕ) → Holds256 mask m
-            → HoldsWith h.mask h.pending.items (m ++ head.now)) }
-        ensures corners { IfOk result (λ h. h.corners ≡ 0) }
+    /// The hashing of further corners of a Layer, by a hasher that has taken this number of them.
+    pub(crate) fn new(
+        alloc: Global,
+        hasher: Sha256,
+        corners: u64,
+    ) -> Result<LayerHashing, AllocError>
+        ensures hasher { IfOk result (λ h. h.hasher ≡ hasher) }
+        ensures none { IfOk result (λ h. h.pending.items ≡ []) }
+        ensures corners { IfOk result (λ h. h.corners ≡ corners) }
     {
-        let mut pending = Vec::with_capacity(alloc, PENDING + ROOM)?;
-        pending.extend_from_slice(head)?;
         Ok(LayerHashing {
-            layer: Sha256::new(),
-            mask,
-            pending,
-            corners: 0,
+            hasher,
+            pending: Vec::with_capacity(alloc, PENDING + ROOM)?,
+            corners,
         })
     }
 
@@ -66,8 +63,7 @@ impl LayerHashing {
         ensures same { HoldsSame self.old self.new }
         ensures none { self.new.pending.items ≡ [] }
     {
-        self.layer.update(self.pending.as_slice());
-        self.mask.update(self.pending.as_slice());
+        self.hasher.update(self.pending.as_slice());
         self.pending.clear();
     }
 

@@ -2,9 +2,9 @@
 //!
 //! A [`Corner`] is a point at which the outline of a set of squares turns. Two sets of squares are
 //! equal exactly if the lists of their corners, in order of `x` and then `y`, are. [`send_corners`]
-//! sends the corners of what rings cover to a [`CornerSink`], column by column. A [`MaskHash`]
-//! hashes them Layer by Layer: two files draw the same mask exactly if the bytes that are hashed
-//! are the same.
+//! sends the corners of what rings cover to a [`CornerSink`], column by column. A [`LayerHash`]
+//! hashes those of a Layer strip by strip, so that only what is drawn in one strip need be in
+//! memory. [`mask_sha256`] is the SHA-256 of a mask: that of the lines of its Layers.
 //!
 //! ```
 //! use lvl_corners::corners_of;
@@ -18,12 +18,13 @@
 //! ```
 #![tactic(auto)]
 
-pub use columns::send_corners;
+pub use columns::{send_corners, send_corners_in};
 pub use corner::Corner;
-pub use digest::{LayerDigest, bytes_decide};
-pub use mask::{MaskHash, mask_bytes_decide};
+pub use digest::{LayerDigest, LayerHash, bytes_decide};
+pub use mask::{DigestedLayer, layer_line, mask_sha256, masks_decide};
 pub use same::{corners_of, cover_same};
 pub use sink::CornerSink;
+pub use span::{Span, strips_append};
 
 mod bands;
 mod columns;

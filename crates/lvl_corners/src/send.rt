@@ -5,7 +5,7 @@ ghost use Rattle.lvl_grid.specs.Winding.{SomeCovers};
 ghost use Rattle.lvl_corners.specs.declared.corner.Corner.{Corner as GridCorner};
 ghost use Rattle.lvl_corners.specs.Corners.{FitsCorner};
 ghost use Rattle.lvl_corners.specs.inside.Marks.{net, change_of, AreInOrder};
-ghost use Rattle.lvl_corners.specs.inside.Spans.{AreCornersIn};
+ghost use Rattle.lvl_corners.specs.Spans.{AreCornersIn};
 ghost use Rattle.lvl_corners.specs.inside.Sums.{IsAt, Steps, AreTotals};
 
 use crate::bands::marks_of;

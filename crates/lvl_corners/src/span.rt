@@ -1,7 +1,7 @@
-//! Spans: the abscissas of a column.
+//! Spans: the abscissas of a column or a strip.
 ghost use Rattle.std.specs.Prelude.{◌≡◌, ◌<ℤ◌, negsuc, ◌-◌, ◌^◌, true, Some, IsTrue};
 ghost use Rattle.lvl_sweep.specs.Ahead.{is_from};
-ghost use Rattle.lvl_corners.specs.inside.Spans.{is_below, spanned, whole, left_part, right_part};
+ghost use Rattle.lvl_corners.specs.Spans.{is_below, spanned, whole, left_part, right_part, StripsAppend};
 
 /// The abscissas from `from` on, if it is given, and below `below`, if that is given.
 #[derive(Clone, Copy)]
@@ -30,7 +30,7 @@ fn is_below(below: Option<i64>, x: i64) -> bool
 
 impl Span {
     /// All abscissas.
-    pub(crate) fn whole() -> Span
+    pub fn whole() -> Span
         ensures { result ≡ whole }
     {
         Span {
@@ -78,3 +78,10 @@ impl Span {
         }
     }
 }
+
+/// A law, for proofs: corners of squares are found strip by strip. The corners left of an abscissa
+/// are those of the squares left of it, the others those of the squares from one column before it
+/// on, and both lists, one after the other, are the corners of all. The call does nothing.
+pub fn strips_append()
+    ensures { StripsAppend }
+{}

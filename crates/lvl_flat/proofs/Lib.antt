@@ -19,3 +19,6 @@ pub mod Cutting
 pub mod Runs
 pub mod Skipping
 pub mod Summing
+pub mod Forward
+pub mod Own
+pub mod Choosing

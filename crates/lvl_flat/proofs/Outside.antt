@@ -1,6 +1,6 @@
 -- The squares that rings and cells cover are in the boxes that have their points.
 use Rattle.std.proofs.Common.{◌≡◌, ◌<◌, ℕ, zero, suc, List, [], ◌∷◌, map, get_or, length, slice_get, Option, Some}
-use Rattle.std.proofs.Common.{All, Any, ◌⊎◌, inl, inr, ℤ, pos, neg_ℤ, ◌+ℤ◌, ◌-ℤ◌, ◌≤ℤ◌, Bool, true}
+use Rattle.std.proofs.Common.{All, Any, Contains, ◌⊎◌, inl, inr, ℤ, pos, neg_ℤ, ◌+ℤ◌, ◌-ℤ◌, ◌≤ℤ◌, Bool, true}
 use Rattle.std.proofs.Common.{false, refl, sym, ap, subst, ◌∙◌, arith}
 use Rattle.std.specs.Int.{int_min}
 use Rattle.std.proofs.lemmas.Int.{ints, clamps}
@@ -25,10 +25,10 @@ use Rattle.lvl_cells.specs.Chains.{Chain, unmoved}
 use Rattle.lvl_cells.specs.Coverage.{moved_back, ShapeCovers, PullsBack, CoversWithin, CellCovers}
 use Rattle.lvl_flat.specs.declared.bounds.Bounds.{Bounds}
 use Rattle.lvl_flat.specs.Boxes.{HoldsPoint, HoldsShape, HoldsCell, HoldsChains, AreBoxes}
-use Rattle.lvl_flat.specs.inside.Bounds.{HasSquare}
+use Rattle.lvl_flat.specs.inside.Bounds.{HasSquare, HoldsOwn}
 use Rattle.lvl_flat.specs.inside.Bounds.{IsInside, IsPlacedOutside}
 use Rattle.lvl_flat.specs.Flattened.{AllInRange}
-use Rattle.lvl_flat.specs.inside.Visits.{FitsUnder}
+use Rattle.lvl_flat.specs.inside.Visits.{FitsUnder, PickCovers}
 use Rattle.lvl_flat.proofs.Covering.{Under, some_is}
 use Rattle.lvl_flat.proofs.Holding.{fits_within}
 use Rattle.lvl_flat.proofs.Ranging.{image-unmoved, composed_at}
@@ -361,30 +361,37 @@ moving e = record { flip = false; turn = R0; at = e }
 moved_there : (e : Point) (s : Square) → image_square (moving e) (moved_back e s) ≡ s
 moved_there e s = same_square _ _ (omega (arith, ints, clamps)) (omega (arith, ints, clamps))
 
+-- a square that a shape covers is in a box that has the shape
+pub shape_square : (layer : Layer) (b : Bounds) (h : PlainShape Rings) (s : Square) → HoldsOwn b h
+    → ShapeCovers SomeCovers layer s h → HasSquare b s
+shape_square layer b h s held covers =
+    let at = covers.1 in
+    let e : Point = at.1 in
+    let by = at.4 in
+    let ring : List Point = by.1 in
+    let V : List Point → Type 0 = λ r. All (λ v. HoldsPoint b (shifted e v)) r in
+    let figure : All V h.figure =
+    All-contains (λ d. All (λ r. All (λ v. HoldsPoint b (shifted d v)) r) h.figure) h.shifts e held
+    (at.0, at.2, at.3) in
+    let points : V ring = All-contains V h.figure ring figure (by.0, by.2, by.3) in
+    let inner : Bounds = seen_from (moving e) b in
+    let seen : All (HoldsPoint inner) ring =
+    All-weaker (λ v. HoldsPoint b (shifted e v)) (HoldsPoint inner) (λ v w. (pulled_in false R0 e b v).0 w) ring
+    points in
+    let has : HasSquare inner (moved_back e s) = ring_square inner ring (moved_back e s) seen by.4 in
+    subst (HasSquare b) (moved_there e s)
+    (square_placed (moving e) inner b (moved_back e s) (λ p w. (pulled_in false R0 e b p).1 w) has)
+
 -- a square that a cell's own shapes cover
 own_square : (cells : List (PlainCell Rings)) (layer : Layer) (b : Bounds) (c : PlainCell Rings) (s : Square)
     → HoldsChains cells b c → Any (ShapeCovers SomeCovers layer s) c.shapes → HasSquare b s
 own_square cells layer b c s held a =
     let here : HoldsCell b unmoved c = held.chains 0 unmoved c (refl, refl) in
     let h : PlainShape Rings = a.1 in
-    let at = a.4.1 in
-    let e : Point = at.1 in
-    let by = at.4 in
-    let ring : List Point = by.1 in
-    let V : List Point → Type 0 = λ r. All (λ v. HoldsPoint b (image unmoved (shifted e v))) r in
     let shape : HoldsShape b unmoved h =
     All-contains (HoldsShape b unmoved) c.shapes h here.vertices (a.0, a.2, a.3) in
-    let figure : All V h.figure =
-    All-contains (λ d. All (λ r. All (λ v. HoldsPoint b (image unmoved (shifted d v))) r) h.figure) h.shifts e shape
-    (at.0, at.2, at.3) in
-    let points : V ring = All-contains V h.figure ring figure (by.0, by.2, by.3) in
-    let inner : Bounds = seen_from (moving e) b in
-    let seen : All (HoldsPoint inner) ring =
-    All-weaker (λ v. HoldsPoint b (image unmoved (shifted e v))) (HoldsPoint inner)
-    (λ v w. (pulled_in false R0 e b v).0 (subst (HoldsPoint b) (image-unmoved (shifted e v)) w)) ring points in
-    let has : HasSquare inner (moved_back e s) = ring_square inner ring (moved_back e s) seen by.4 in
-    subst (HasSquare b) (moved_there e s)
-    (square_placed (moving e) inner b (moved_back e s) (λ p w. (pulled_in false R0 e b p).1 w) has)
+    shape_square layer b h s
+    (λ j e lj k ring lk l v ll. subst (HoldsPoint b) (image-unmoved _) (shape j e lj k ring lk l v ll)) a.4
 
 -- a square that a cell covers is in a box that has all that the cell places
 pub cell_square : (cells : List (PlainCell Rings)) (layer : Layer) (n : ℕ) (b : Bounds) (c : PlainCell Rings)
@@ -416,6 +423,24 @@ outside_covers cells known i m window c boxes at out layer q shown u =
     let held : HoldsChains cells out.box c = (boxes i out.box c out.there at).1 in
     let has : HasSquare out.box u.0 = cell_square cells layer u.2.0 out.box c u.0 held u.2.1 in
     out.outside.none q (subst (HasSquare out.placed) u.1 (square_placed m out.box out.placed u.0 out.holds has)) shown
+
+-- a square that a reference's cell covers, placed at one of its shifts, is in a box that has all that is placed
+pub reference_square : (cells : List (PlainCell Rings)) (layer : Layer) (b t : Bounds) (r : PlainReference)
+    (d : PlainCell Rings) (s : Square) → cell_named cells r.cell ≡ Some d → HoldsChains cells t d
+    → ((p e : Point) → Contains r.shifts e → HoldsPoint t p → HoldsPoint b (image (map_at r e) p))
+    → Any (λ e. PickCovers cells layer s (r, e)) r.shifts → HasSquare b s
+reference_square cells layer b t r d s named chains placed a =
+    let e : Point = a.1 in
+    let found =
+    some_is (λ x. PullsBack (CellCovers SomeCovers cells layer x) r s e) (cell_named cells r.cell) a.4 in
+    let both : Some found.0 ≡ Some d = sym found.1 ∙ named in
+    let one : found.0 ≡ d = cc in
+    let back = found.2 in
+    let covers : CellCovers SomeCovers cells layer d back.0 =
+    subst (λ x. CellCovers SomeCovers cells layer x back.0) one back.2 in
+    let has : HasSquare t back.0 = cell_square cells layer covers.0 t d back.0 chains covers.1 in
+    subst (HasSquare b) back.1
+    (square_placed (map_at r e) t b back.0 (λ p w. placed p e (a.0, a.2, a.3) w) has)
 
 -- and all that it places is in range
 pub outside_fits : (cells : List (PlainCell Rings)) (known : List (Option Bounds)) (i : ℕ) (m : Map)

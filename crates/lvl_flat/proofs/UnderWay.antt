@@ -29,7 +29,8 @@ use Rattle.lvl_flat.specs.inside.Scopes.{IsOfScope}
 use Rattle.lvl_flat.specs.inside.Steps.{IsPast, IsInto}
 use Rattle.lvl_flat.specs.inside.Visits.{Pick, pending, pick_weight, visit_weight, PickCovers, VisitCovers}
 use Rattle.lvl_flat.specs.inside.Visits.{FitsUnder, PicksFit, IsVisit}
-use Rattle.lvl_flat.specs.inside.Walking.{IsWalking}
+use Rattle.lvl_flat.specs.Flattened.{AllInRange}
+use Rattle.lvl_flat.specs.inside.Walking.{AllListed, IsWalking}
 use Rattle.lvl_flat.proofs.Outside.{outside_covers, outside_fits}
 use Rattle.lvl_flat.proofs.Ranging.{fits_alike}
 use Rattle.lvl_flat.proofs.Stepping.{pending_alike}
@@ -127,16 +128,18 @@ walk_left_out s layers scope sheets front pushed v u w (inr none) =
     (left_out s layers scope sheets front (u ∷ []) v
     (subst (IsWalking s layers scope sheets) (append_assoc front (v ∷ []) (u ∷ [])) w) none.1)
 
--- a visit is replaced by one with the same picks to follow, except for some that need nothing more
-replaced : (s : Settled) (layers : List Layer) (scope : Scope) (sheets : List PlainSheet)
+-- a visit is replaced by one that covers the same, if then all is still in range
+pub replaced_by : (s : Settled) (layers : List Layer) (scope : Scope) (sheets : List PlainSheet)
     (front : List Visit) (v rest : Visit)
-    → IsWalking s layers scope sheets (front ++ v ∷ []) → rest.map ≡ v.map → rest.cell ≡ v.cell
+    → (w : IsWalking s layers scope sheets (front ++ v ∷ [])) → rest.map ≡ v.map → rest.cell ≡ v.cell
     → ((layer : Layer) (q : Square) → IsOfScope layers scope layer q → VisitCovers s.cells layer q v ↔ VisitCovers s.cells layer q rest)
-    → (PicksFit s.cells v.map (pending s.cells rest) → PicksFit s.cells v.map (pending s.cells v))
+    → (AllListed layers s.cells
+    → ((u : Visit) → Contains (front ++ rest ∷ []) u → PicksFit s.cells u.map (pending s.cells u))
+    → AllInRange s.cells w.top)
     → (scope ≡ Everything → (weight : PlainCell Rings → ℕ)
     → visit_weight weight s.cells v ≡ visit_weight weight s.cells rest)
     → IsWalking s layers scope sheets (front ++ rest ∷ [])
-replaced s layers scope sheets front v rest w map_is cell_is alike fitting weigh = record {
+replaced_by s layers scope sheets front v rest w map_is cell_is alike fitting weigh = record {
   top = w.top;
   is_top = w.is_top;
   covers = λ layer q counts.
@@ -154,16 +157,7 @@ replaced s layers scope sheets front v rest w map_is cell_is alike fitting weigh
           | inr b ↦ inr (old.1 (elim (new.0 b) [ inl c ↦ inl c | inr u ↦ inr (same.1 u) ]))
         ]),
       );
-  fits = λ whole each.
-      w.fits whole
-      (λ u has.
-      elim (Contains-push_cases front v u has) [
-        | inl there ↦ each u (contains_front front rest u there)
-        | inr same ↦
-            subst (λ (x : Visit). PicksFit s.cells x.map (pending s.cells x)) same
-            (fitting (subst (λ (n : Map). PicksFit s.cells n (pending s.cells rest)) map_is
-            (each rest (Contains-push front rest))))
-      ]);
+  fits = fitting;
   visits = λ u has.
       elim (Contains-push_cases front rest u has) [
         | inl there ↦ w.visits u (contains_front front v u there)
@@ -185,6 +179,28 @@ replaced s layers scope sheets front v rest w map_is cell_is alike fitting weigh
       let same : f v ≡ f rest = weigh all (own_rings_on each_ring layer) in
       omega (arith, w.counts all listed layer, sum_by_push f front v, sum_by_push f front rest, same);
 }
+
+-- a visit is replaced by one with the same picks to follow, except for some that need nothing more
+replaced : (s : Settled) (layers : List Layer) (scope : Scope) (sheets : List PlainSheet)
+    (front : List Visit) (v rest : Visit)
+    → IsWalking s layers scope sheets (front ++ v ∷ []) → rest.map ≡ v.map → rest.cell ≡ v.cell
+    → ((layer : Layer) (q : Square) → IsOfScope layers scope layer q → VisitCovers s.cells layer q v ↔ VisitCovers s.cells layer q rest)
+    → (PicksFit s.cells v.map (pending s.cells rest) → PicksFit s.cells v.map (pending s.cells v))
+    → (scope ≡ Everything → (weight : PlainCell Rings → ℕ)
+    → visit_weight weight s.cells v ≡ visit_weight weight s.cells rest)
+    → IsWalking s layers scope sheets (front ++ rest ∷ [])
+replaced s layers scope sheets front v rest w map_is cell_is alike fitting weigh =
+    replaced_by s layers scope sheets front v rest w map_is cell_is alike
+    (λ whole each.
+    w.fits whole
+    (λ u has.
+    elim (Contains-push_cases front v u has) [
+      | inl there ↦ each u (contains_front front rest u there)
+      | inr same ↦
+          subst (λ (x : Visit). PicksFit s.cells x.map (pending s.cells x)) same
+          (fitting (subst (λ (n : Map). PicksFit s.cells n (pending s.cells rest)) map_is
+          (each rest (Contains-push front rest))))
+    ])) weigh
 
 -- a visit is replaced by one with the same picks to follow
 pub walk_alike : (s : Settled) (layers : List Layer) (scope : Scope) (sheets : List PlainSheet)

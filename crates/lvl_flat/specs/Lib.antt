@@ -5,4 +5,5 @@ pub mod Mapped
 pub mod Placing
 pub mod Boxes
 pub mod Ends
+pub mod Candidates
 pub mod inside

@@ -6,3 +6,5 @@ pub mod Walking
 pub mod Steps
 pub mod Entering
 pub mod Passing
+pub mod Listed
+pub mod Parts

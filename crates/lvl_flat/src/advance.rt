@@ -30,7 +30,7 @@ pub(crate) const UNMOVED: Map = Map {
 
 /// Makes one step with the visit that was taken off the stack. A cell that is placed outside of the
 /// window is skipped, and with it a run of further places outside of the window.
-fn advance(
+pub(crate) fn advance(
     room: &mut Room,
     checked: &Checked,
     boxes: &Boxes,

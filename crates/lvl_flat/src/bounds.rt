@@ -16,6 +16,18 @@ pub(crate) struct Bounds {
 }
 
 impl Bounds {
+    /// A box that has no point.
+    pub(crate) const NOWHERE: Bounds = Bounds {
+        low: Point {
+            x: i64::MAX,
+            y: i64::MAX,
+        },
+        high: Point {
+            x: i64::MIN,
+            y: i64::MIN,
+        },
+    };
+
     /// The box of one point.
     pub(crate) fn around(point: Point) -> Bounds
         ensures { HoldsPoint result point }

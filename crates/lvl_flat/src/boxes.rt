@@ -53,7 +53,7 @@ fn hold_ring(bounds: Bounds, ring: &MovedRing<'_>, shifts: Bounds) -> Option<Bou
 
 /// The bounds, widened to have the shape at index `i` at all of its shifts, or None if a corner
 /// would be outside 64 bits.
-fn hold_shape(bounds: Bounds, shapes: &Shapes, i: usize) -> Option<Bounds>
+pub(crate) fn hold_shape(bounds: Bounds, shapes: &Shapes, i: usize) -> Option<Bounds>
     requires { i < length shapes.now }
     ensures wider { IfSome result (Widens bounds) }
     ensures held { IfSome result (λ held. HoldsOwn held (shape_at shapes.now i)) }

@@ -4,9 +4,11 @@ ghost use Rattle.lvl_cells.specs.Cells.{shape_at};
 ghost use Rattle.lvl_flat.specs.Flattened.{FitShapes};
 ghost use Rattle.lvl_flat.specs.Sheets.{AreSorted};
 ghost use Rattle.lvl_flat.specs.inside.Drawn.{FitsAtEach, IsRingDrawn, IsFigureDrawn, AreDrawn};
+ghost use Rattle.lvl_flat.specs.inside.Drawn.{AreDrawnAt, IsDrawnAt, IsShapeDrawn};
 
 use crate::boxes::ORIGIN;
 use crate::flat::{Sheet, place_of};
+use crate::indexes::Indexes;
 use crate::room::Room;
 use crate::scope::Scope;
 use crate::within::{bounds_of_ring, draw_place, draw_places};
@@ -90,6 +92,31 @@ fn draw_shape(
     Ok(())
 }
 
+/// Appends shape `i`, placed by the map and, within a window, clipped to it, to the sheet of its
+/// Layer. A shape whose Layer has no sheet is skipped.
+fn draw_on_sheet(
+    room: &mut Room,
+    sheets: &mut Vec<Sheet>,
+    shapes: &Shapes,
+    i: usize,
+    map: &Map,
+    scope: &Scope,
+) -> Result<(), PlaceFault>
+    requires sorted { AreSorted sheets.old.items }
+    requires shape { i < length shapes.now }
+    ensures drawn { OnOk result
+        (IsShapeDrawn map.now scope.now (shape_at shapes.now i) sheets.old.items sheets.new.items) }
+    ensures out { result ≡ Err PlaceFault.OutOfRange
+        → ¬ All (FitsAtEach map.now (shape_at shapes.now i).shifts) (shape_at shapes.now i).figure }
+{
+    let Some(place) = place_of(sheets, shapes.layer(i)) else {
+        return Ok(());
+    };
+    let sheet = &mut sheets[place];
+    draw_shape(room, &mut sheet.rings, shapes, i, map, scope)?;
+    Ok(())
+}
+
 /// Appends the shapes of a cell, placed by the map and, within a window, clipped to it, each to the
 /// sheet of its Layer. A shape whose Layer has no sheet is skipped.
 pub(crate) fn draw_shapes(
@@ -104,10 +131,45 @@ pub(crate) fn draw_shapes(
     ensures out { result ≡ Err PlaceFault.OutOfRange → ¬ FitShapes map.now shapes.now }
 {
     for i in 0..shapes.len() {
-        if let Some(place) = place_of(sheets, shapes.layer(i)) {
-            let sheet = &mut sheets[place];
-            draw_shape(room, &mut sheet.rings, shapes, i, map, scope)?;
-        }
+        draw_on_sheet(room, sheets, shapes, i, map, scope)?;
+    }
+    Ok(())
+}
+
+/// Appends shape `i` as [`draw_on_sheet`] does, if there is one.
+fn draw_at(
+    room: &mut Room,
+    sheets: &mut Vec<Sheet>,
+    shapes: &Shapes,
+    i: usize,
+    map: &Map,
+    scope: &Scope,
+) -> Result<(), PlaceFault>
+    requires { AreSorted sheets.old.items }
+    ensures { OnOk result
+        (IsDrawnAt map.now scope.now shapes.now i sheets.old.items sheets.new.items) }
+{
+    if i >= shapes.len() {
+        return Ok(());
+    }
+    draw_on_sheet(room, sheets, shapes, i, map, scope)
+}
+
+/// Appends those shapes of a cell that have the indexes of a list, as [`draw_shapes`] does.
+pub(crate) fn draw_listed(
+    room: &mut Room,
+    sheets: &mut Vec<Sheet>,
+    shapes: &Shapes,
+    list: &Indexes,
+    map: &Map,
+    scope: &Scope,
+) -> Result<(), PlaceFault>
+    requires { AreSorted sheets.old.items }
+    ensures { OnOk result
+        (AreDrawnAt map.now scope.now shapes.now list.now sheets.old.items sheets.new.items) }
+{
+    for place in 0..list.len() {
+        draw_at(room, sheets, shapes, list.at(place), map, scope)?;
     }
     Ok(())
 }

@@ -1,16 +1,23 @@
 //! Libraries whose top places nothing outside 64 bits.
 ghost use Rattle.std.specs.Prelude.{◌≡◌, AllPairs, Contains, IfOk, IfErr, IfSome};
 ghost use Rattle.lvl_grid.specs.declared.point.Square.{Square as GridSquare};
+ghost use Rattle.lvl_grid.specs.declared.point.Window.{Window as GridWindow};
 ghost use Rattle.lvl_grid.specs.Clip.{IsInWindow};
 ghost use Rattle.lvl_names.specs.declared.layer.Layer.{Layer as PlainLayer};
 ghost use Rattle.lvl_names.specs.Layers.{ComesBefore};
+ghost use Rattle.lvl_flat.specs.Candidates.{AreCandidates};
 ghost use Rattle.lvl_flat.specs.Flattened.{CoversAt, IsFlattenedWithin, IsFlatFault, IsTopInRange, TopCovers};
 ghost use Rattle.lvl_refusal.specs.Refused.{Says};
 
 use crate::boxes::Boxes;
+use crate::candidates::{Candidates, Part, narrowed};
+use crate::estimate::{Count, Estimate, Measures};
 use crate::fault::FlatFault;
 use crate::flat::Flat;
-use crate::layers::layers_of;
+use crate::indexes::Indexes;
+use crate::layers::{empty_sheets, layers_of};
+use crate::room::Room;
+use crate::selected::draw_candidates;
 use crate::windowed::{check_range, flatten_within};
 use lvl_cells::Checked;
 use lvl_grid::Window;
@@ -25,6 +32,7 @@ use std::marker::Model;
 pub struct Fitted {
     checked: Checked,
     boxes: Boxes,
+    measures: Measures,
 }
 
 impl Model for Fitted {
@@ -50,7 +58,12 @@ impl Fitted {
     {
         let boxes = Boxes::new(alloc, &checked)?;
         check_range(alloc, &checked, &boxes)?;
-        Ok(Fitted { checked, boxes })
+        let measures = Measures::new(alloc, &checked)?;
+        Ok(Fitted {
+            checked,
+            boxes,
+            measures,
+        })
     }
 
     /// The library.
@@ -110,5 +123,74 @@ impl Fitted {
             Err(Cause::OutOfMemory) => Err(AllocError),
             Err(Cause::Breach(_)) => unreachable!(),
         }
+    }
+
+    /// All own shapes and references of the top. They are candidates for any window.
+    pub fn candidates(&self) -> Candidates
+        ensures { (window : GridWindow) → AreCandidates self.now window result }
+    {
+        let top = self.checked.cell(self.checked.top());
+        Candidates {
+            shapes: Indexes::below(top.shapes.len()),
+            references: Indexes::below(top.references.len()),
+        }
+    }
+
+    /// Those of the candidates for a window that may cover squares of it, without others whose boxes
+    /// show that they don't, with an estimate of their points in the window. A list of 4 bytes for
+    /// each is made.
+    pub fn narrowed(
+        &self,
+        alloc: Global,
+        candidates: &Candidates,
+        window: &Window,
+    ) -> Result<(Candidates, Estimate), AllocError>
+        requires { AreCandidates self.now window.now candidates.now }
+        ensures { IfOk result (λ narrowed. AreCandidates self.now window.now narrowed.0) }
+    {
+        let mut count = Count::new(window);
+        let shapes = narrowed(
+            alloc,
+            &self.checked,
+            &self.boxes,
+            &self.measures,
+            Part::Shape,
+            &candidates.shapes,
+            window,
+            &mut count,
+        )?;
+        let references = narrowed(
+            alloc,
+            &self.checked,
+            &self.boxes,
+            &self.measures,
+            Part::Reference,
+            &candidates.references,
+            window,
+            &mut count,
+        )?;
+        Ok((Candidates { shapes, references }, count.estimate()))
+    }
+
+    /// What [`Fitted::within`] returns, found from candidates for the window: only these own shapes
+    /// and references of the top are looked at.
+    pub fn within_of(
+        &self,
+        alloc: Global,
+        candidates: &Candidates,
+        layers: &[Layer],
+        window: &Window,
+        most: usize,
+    ) -> Result<Flat, AllocError>
+        requires rising { AllPairs ComesBefore layers.now }
+        requires candidates { AreCandidates self.now window.now candidates.now }
+        ensures { IfOk result (IsFlattenedWithin self.now layers.now window.now) }
+    {
+        let room = Room {
+            alloc,
+            points: most,
+        };
+        let sheets = empty_sheets(alloc, layers)?;
+        draw_candidates(room, &self.checked, &self.boxes, candidates, sheets, window)
     }
 }

@@ -6,11 +6,10 @@ use Rattle.std.specs.Prelude.{String, string_bytes}
 use Rattle.std.specs.Global.{Global}
 use Rattle.std.specs.Io.KnownBytes.{Keeps}
 use Rattle.lvl_profile.specs.Ignored.{nothing, IsText}
-use Rattle.lvl_profile.specs.Limits.{standard}
+use Rattle.lvl_profile.specs.Limits.{large, standard}
 use Rattle.lvl_profile.specs.declared.ignore.Ignore.{Ignore}
 use Rattle.lvl_profile.specs.declared.limits.Limits.{Limits}
 use Rattle.lvl_profile.specs.declared.profile.Profile.{Profile}
-use Rattle.lvl_report.specs.Hints.{large}
 use Rattle.lvl.specs.declared.verdict.Comparison.{Comparison}
 use Rattle.lvl.specs.declared.verdict.Refusal.{Refusal}
 use Rattle.lvl_line.specs.declared.job.Job.{Job}

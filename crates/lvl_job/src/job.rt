@@ -265,7 +265,7 @@ fn perform<F: Files, O: Write>(
         } => {
             let profile = profile_of(alloc, &ignore, large)?;
             let top = top_of(top);
-            show(alloc, file, top.as_deref(), ignore, files, out)
+            show(alloc, file, top.as_deref(), profile, files, out)
         }
         Job::Digest {
             file,
@@ -275,14 +275,14 @@ fn perform<F: Files, O: Write>(
         } => {
             let profile = profile_of(alloc, &ignore, large)?;
             let top = top_of(top);
-            digest(alloc, file, top.as_deref(), ignore, files, out)
+            digest(alloc, file, top.as_deref(), profile, files, out)
         }
     }
 }
 
-/// Does a job: reads the texts of its view and of what is ignored, takes the limits that it asks for, opens its files by `files`, the first
-/// before the second, and writes its answer to `out`. If there is no answer, it writes one line to `err`
-/// that says why; if the answer is a refusal that something would mend, one line that says what; and if it
+/// Does a job: reads the texts of its view and of what is ignored, takes the limits that it asks for,
+/// opens its files by `files`, the first before the second, and writes its answer to `out`. If there is
+/// no answer, it writes one line to `err` that says why; if the answer is a refusal that something would mend, one line that says what; and if it
 /// is a verdict on files whose grid steps differ, one line that says so.
 ///
 /// It writes an answer that [`run_by`], [`run_view_by`], [`run_show_by`] or [`run_digest`] may write for

@@ -94,7 +94,7 @@ fn comparing<'a>(alloc: Global) -> Result<Command<'a>, AllocError>
     ensures { IfOk result (λ c. app_of c ≡ comparing_line) }
 {
     Command::new(alloc, "lvl")
-        .version("1.0.0")
+        .version("2.0.0")
         .about("Compares two chip mask layouts by the mask that they draw")
         .subcommand_required(true)
         .subcommand(compare(alloc)?)

@@ -10,7 +10,7 @@ pub struct Limits {
     /// The greatest number of cells of a file.
     pub cells: u64,
     /// The greatest number of chains of references from the top, the empty one included, of the rings that they place,
-    /// and of the places of an OASIS repetition that is a lattice.
+    /// and of the places of an OASIS repetition that is a lattice (which never has more than 2^60).
     pub placed: u64,
     /// The greatest number of places of an AREF of GDSII.
     pub array: u64,

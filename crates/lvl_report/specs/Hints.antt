@@ -4,6 +4,7 @@ use Rattle.std.specs.Prelude.{ℕ, ◌==◌, ◌&&◌, nat_lt, if◌then◌else�
 use Rattle.std.specs.Prelude.{◌≡◌, Result, Ok, Err, is_ok, option_map}
 use Rattle.lvl_cells.specs.declared.fault.CellFault.TheVariants.{ManyTops, TooManyPlacements, TooManyRings}
 use Rattle.lvl_cells.specs.declared.fault.CellFault.{CellFault}
+use Rattle.lvl_profile.specs.Limits.{large}
 use Rattle.lvl_profile.specs.declared.ignore.Ignore.{Ignore}
 use Rattle.lvl_profile.specs.declared.limits.Limits.{Limits}
 use Rattle.lvl_profile.specs.declared.profile.Profile.{Profile}
@@ -35,15 +36,6 @@ use Rattle.lvl_report.specs.declared.outcome.Outcome.{Outcome}
 use Rattle.lvl_report.specs.declared.hint.Hint.{Hint}
 use Rattle.lvl_report.specs.declared.hint.Hint.TheVariants.{IgnoreMore, LiftLimits, Unpack, WithoutBlocks, NameTop}
 use Rattle.lvl_report.specs.declared.hint.Hint.TheVariants.{NameTopOf}
-
--- the limits for whole chips
-abbrev pub large : Limits
-large = record {
-  file = 1152921504606846976;
-  cells = 16777216;
-  placed = 1152921504606846976;
-  array = 1073676289;
-}
 
 -- whether the record for which a GDSII file is refused is read under the profile
 abbrev pub reads_record : Profile → GdsKind → Bool

@@ -14,9 +14,9 @@ use Rattle.lvl.specs.declared.verdict.Comparison.{Comparison}
 use Rattle.lvl.specs.declared.verdict.Refusal.{Refusal}
 use Rattle.lvl.specs.declared.verdict.Refusal.TheVariants.{File, Cells, Flat, OutOfMemory}
 use Rattle.lvl.specs.declared.digested.Digested.{Digested}
-use Rattle.lvl.specs.declared.digested.DigestedLayer.{DigestedLayer}
 use Rattle.lvl.specs.declared.digested.MaskDigest.{MaskDigest}
 use Rattle.lvl.specs.declared.shown.Shown.{Shown}
+use Rattle.lvl_corners.specs.Masks.{mask_lines}
 use Rattle.lvl_count.specs.declared.counts.LayerRings.{LayerRings}
 use Rattle.lvl_text.specs.Faults.{spaced, cell_fault, flat_fault}
 use Rattle.lvl_text.specs.Gds.{gds_fault, gds_head_text, hex}
@@ -83,15 +83,9 @@ abbrev pub text_of_shown : Result Shown Refusal → List ℕ
 text_of_shown (Ok shown) = shown_text shown
 text_of_shown (Err refusal) = line (refusal_text refusal)
 
--- the line of a Layer that has a digest
-abbrev pub digest_line : DigestedLayer → List ℕ
-digest_line l =
-    line (codes "layer " ++ decimal l.layer.layer ++ codes " datatype " ++ decimal l.layer.datatype
-    ++ codes " corners " ++ decimal l.digest.corners ++ codes " sha256 " ++ hex l.digest.sha256)
-
--- a line for each Layer that has a digest, and one for the whole mask
+-- a line for each Layer that has a digest, and one with the SHA-256 of the mask, which is that of these lines
 abbrev pub mask_text : MaskDigest → List ℕ
-mask_text d = flat_map digest_line d.layers.items ++ line (codes "mask sha256 " ++ hex d.sha256)
+mask_text d = mask_lines d.layers.items ++ line (codes "mask sha256 " ++ hex d.sha256)
 
 abbrev pub digested_text : Digested → List ℕ
 digested_text d = front_text d.head d.top.items ++ mask_text d.mask

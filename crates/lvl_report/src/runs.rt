@@ -78,7 +78,15 @@ pub fn run_by<A: Read, B: Read, W: Write>(
     ensures errors { CountsFailure (W.write_errors out.old) (W.write_errors out.new) (is_output result) }
     ensures same { W.lent out.new ≡ W.lent out.old }
 {
-    run_view_by(alloc, first, second, tops, &View::whole(alloc), profile, out)
+    run_view_by(
+        alloc,
+        first,
+        second,
+        tops,
+        &View::whole(alloc),
+        profile,
+        out,
+    )
 }
 
 /// Compares two files under a view, with the Layers of the second mapped and only within the
@@ -200,7 +208,7 @@ pub fn run_show_by<R: Read, W: Write>(
 
 /// Writes the digest of a file: what it says about itself; the name of its top; for each Layer on which the
 /// top covers a square, in their order, the number of corners of these squares and the SHA-256 of the
-/// Layer's bytes; and the SHA-256 of the bytes of all Layers. A refusal is one line. Some records may be
+/// Layer's bytes; and the SHA-256 of the lines of these Layers. A refusal is one line. Some records may be
 /// ignored.
 ///
 /// It writes an answer that [`digest_file`](lvl::digest_file) may return for this file.

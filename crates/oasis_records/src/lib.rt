@@ -15,7 +15,7 @@
 //!
 //! let mut input = Input::new(Pieces::new(RECTANGLE, usize::MAX), Profile::STANDARD);
 //! let id = read_id(&mut input)?;
-//! let kind = RecordType::of(id.value, input.ignore())?;
+//! let kind = RecordType::of(id.value, input.profile())?;
 //! let record = read_fields(&mut input, alloc, kind, id.len, false)?;
 //! assert!(rt; matches!(record, Record::Rectangle(_)));
 //! ```

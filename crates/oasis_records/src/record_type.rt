@@ -92,7 +92,11 @@ impl RecordType {
                 RecordType::Entry(EntryType::NumberedString(Text::B)),
                 id,
             ),
-            11 | 12 => type_if(profile.ignore.names, RecordType::Entry(EntryType::LayerName), id),
+            11 | 12 => type_if(
+                profile.ignore.names,
+                RecordType::Entry(EntryType::LayerName),
+                id,
+            ),
             13 => Ok(RecordType::NumberedCell),
             14 => Ok(RecordType::NamedCell),
             15 => Ok(RecordType::XyAbsolute),
@@ -105,7 +109,11 @@ impl RecordType {
             22 => Ok(RecordType::Path),
             28 => type_if(profile.ignore.properties, RecordType::Property, id),
             29 => type_if(profile.ignore.properties, RecordType::LastProperty, id),
-            30 => type_if(profile.ignore.names, RecordType::Entry(EntryType::XName), id),
+            30 => type_if(
+                profile.ignore.names,
+                RecordType::Entry(EntryType::XName),
+                id,
+            ),
             31 => type_if(
                 profile.ignore.names,
                 RecordType::Entry(EntryType::NumberedXName),

@@ -12,7 +12,7 @@ use Rattle.lvl_io.specs.Spelling.{FirstBytesSay}
 use Rattle.lvl_io.proofs.Known.{known_parts}
 use Rattle.lvl_refusal.specs.declared.Cause.{Cause}
 use Rattle.lvl_profile.specs.declared.profile.Profile.{Profile}
-use Rattle.oasis_values.specs.Input.{bytes_left, has_failed, input_profile, input_reader, input_offset, room_left}
+use Rattle.oasis_values.specs.Input.{bytes_left, has_failed, input_profile, input_reader, input_offset}
 use Rattle.oasis_values.specs.Reads.{Answers, Reads, bytes_had}
 use Rattle.oasis_values.specs.Spelling.{Spelling}
 use Rattle.oasis_values.specs.declared.fault.ValueFault.{ValueFault}
@@ -68,12 +68,14 @@ room_seen ys had room more long read =
           ∙ take-take room had ys (omega (arith, read)),
     )
 
--- what a result says, if the input ignores this
+-- what a result says, if the input is read under this profile
 pub answers_under : {R A : Type 0} {remaining : R → Option (List ℕ)} {errors : R → ℕ} {lent : R → List GName}
     {S : Spelling A} {old new : Input R} {r : Result A (Cause ValueFault)} (profile : Profile)
     → input_profile old ≡ profile → Reads remaining errors lent S old new r → has_failed old ≡ false → (xs : List ℕ)
     → bytes_left remaining old ≡ Some xs
-    → Answers (S profile) (room_left old) (bytes_had old new) (input_offset new - input_offset old) xs r
+    → Answers (S profile) (profile.limits.file - input_offset old) (bytes_had old new)
+    (input_offset new - input_offset old) xs r
 answers_under {S = S} {old = old} {new = new} {r = r} profile under p live xs k =
-    subst (λ i. Answers (S i) (room_left old) (bytes_had old new) (input_offset new - input_offset old) xs r) under
+    let n = input_offset new - input_offset old in
+    subst (λ (i : Profile). Answers (S i) (i.limits.file - input_offset old) (bytes_had old new) n xs r) under
     (p.answers live xs k)

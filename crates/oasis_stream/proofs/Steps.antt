@@ -19,7 +19,7 @@ use Rattle.oasis_values.specs.declared.fault.ValueFault.TheVariants.{RepetitionT
 use Rattle.oasis_values.specs.declared.fault.ValueFault.TheVariants.{TooLong, Read, Failed, NoModal}
 use Rattle.oasis_values.specs.declared.input.Input.{Input}
 use Rattle.oasis_values.proofs.Reading.{front_rest}
-use Rattle.oasis_stream.specs.Items.{Item, magic, item, records, IsEnded}
+use Rattle.oasis_stream.specs.Items.{Item, magic, item, IsEnded}
 use Rattle.oasis_stream.specs.Rules.{Breaches, MayFollow}
 use Rattle.oasis_stream.specs.Front.{IsItem, oasis}
 use Rattle.oasis_stream.specs.Faults.{BreaksRule, IsWrong, oasis_faults}

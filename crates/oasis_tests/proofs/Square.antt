@@ -10,9 +10,10 @@ use Rattle.lvl_path.specs.Figure.{Figure, rings}
 use Rattle.lvl_grammar.specs.Front.{SpellsAll, FollowAll, SpellsWhole}
 use Rattle.lvl_grammar.proofs.Laws.{one_whole}
 use Rattle.lvl_cells.specs.Cells.{PlainCell}
+use Rattle.lvl_profile.specs.Limits.{standard}
 use Rattle.lvl_profile.specs.declared.ignore.Ignore.{Ignore}
+use Rattle.lvl_profile.specs.declared.profile.Profile.{Profile}
 use Rattle.oasis_values.specs.Known.{among, Known, Seen}
-use Rattle.oasis_values.specs.Input.{file_limit}
 use Rattle.oasis_values.specs.Numbers.{IsByte, IsUnsigned}
 use Rattle.oasis_values.specs.Reals.{with_sign, real_types, IsReal, IsRealOf, IsSigned}
 use Rattle.oasis_values.specs.Repetitions.{IsRepetition}
@@ -116,76 +117,76 @@ square = magic ∷ item starting ∷ item cell ∷ item drawn ∷ item ending �
 
 -- START
 
-version_said : (ignore : Ignore) → IsVersion ignore (3 ∷ one) (Ok (Ok one))
-version_said ignore =
-    alone ignore IsVersionText (UnlessRuled (λ text. Must (is_version text) text Version)) (3 ∷ one) (Ok one)
+version_said : (profile : Profile) → IsVersion profile (3 ∷ one) (Ok (Ok one))
+version_said profile =
+    alone profile IsVersionText (UnlessRuled (λ text. Must (is_version text) text Version)) (3 ∷ one) (Ok one)
     (Ok (Ok one))
-    (seen ignore Ok (IsString A 255) (3 ∷ one) one (three ignore A one refl refl (refl, (refl, (refl, tt)))))
+    (seen profile Ok (IsString A 255) (3 ∷ one) one (three profile A one refl refl (refl, (refl, (refl, tt)))))
     (refl, refl)
 
-unit_said : (ignore : Ignore) → IsUnit ignore (0 ∷ 0xE8 ∷ 7 ∷ []) (Ok (Ok (Whole 1000)))
-unit_said ignore =
-    alone ignore IsReal (λ u. Must (is_unit u) u NoUnit) (0 ∷ 0xE8 ∷ 7 ∷ []) (Whole 1000) (Ok (Ok (Whole 1000)))
-    (after ignore IsUnsigned (λ n. Then (Known (among 0 real_types n) unknown_type) IsRealOf) (0 ∷ []) (0xE8 ∷ 7 ∷ []) 0
-    (Ok (Whole 1000)) (small ignore 0 refl refl refl)
-    (after ignore (Known (Some OfWhole) unknown_type) IsRealOf [] (0xE8 ∷ 7 ∷ []) OfWhole (Ok (Whole 1000)) (refl, refl)
-    (seen ignore Whole IsUnsigned (0xE8 ∷ 7 ∷ []) 1000 (wide ignore 0xE8 7 1000 refl refl refl refl)))) (refl, refl)
+unit_said : (profile : Profile) → IsUnit profile (0 ∷ 0xE8 ∷ 7 ∷ []) (Ok (Ok (Whole 1000)))
+unit_said profile =
+    alone profile IsReal (λ u. Must (is_unit u) u NoUnit) (0 ∷ 0xE8 ∷ 7 ∷ []) (Whole 1000) (Ok (Ok (Whole 1000)))
+    (after profile IsUnsigned (λ n. Then (Known (among 0 real_types n) unknown_type) IsRealOf) (0 ∷ []) (0xE8 ∷ 7 ∷ []) 0
+    (Ok (Whole 1000)) (small profile 0 refl refl refl)
+    (after profile (Known (Some OfWhole) unknown_type) IsRealOf [] (0xE8 ∷ 7 ∷ []) OfWhole (Ok (Whole 1000)) (refl, refl)
+    (seen profile Whole IsUnsigned (0xE8 ∷ 7 ∷ []) 1000 (wide profile 0xE8 7 1000 refl refl refl refl)))) (refl, refl)
 
-flag_said : (ignore : Ignore) → IsFlag ignore (0 ∷ []) (Ok (Ok 0))
-flag_said ignore =
-    alone ignore IsUnsigned (λ f. Must (nat_lt f 2) f Info) (0 ∷ []) 0 (Ok (Ok 0)) (small ignore 0 refl refl refl)
+flag_said : (profile : Profile) → IsFlag profile (0 ∷ []) (Ok (Ok 0))
+flag_said profile =
+    alone profile IsUnsigned (λ f. Must (nat_lt f 2) f Info) (0 ∷ []) 0 (Ok (Ok 0)) (small profile 0 refl refl refl)
     (refl, refl)
 
-tables_said : (ignore : Ignore) → AreTables true ignore (zeros 12) (Ok true)
-tables_said ignore = seen ignore (λ _. true) (Chain (λ _. IsUnsigned) (λ n. n) 12 0) (zeros 12) (zeros 12)
-    (zero_integers ignore 12 0)
+tables_said : (profile : Profile) → AreTables true profile (zeros 12) (Ok true)
+tables_said profile = seen profile (λ _. true) (Chain (λ _. IsUnsigned) (λ n. n) 12 0) (zeros 12) (zeros 12)
+    (zero_integers profile 12 0)
 
-start_said : (ignore : Ignore) → IsStart ignore of_start (Ok (Ok starting))
-start_said ignore =
-    after ignore IsVersion (UnlessRuled (λ _. IsStartOf)) (3 ∷ one) ((0 ∷ 0xE8 ∷ 7 ∷ []) ++ (0 ∷ []) ++ zeros 12)
+start_said : (profile : Profile) → IsStart profile of_start (Ok (Ok starting))
+start_said profile =
+    after profile IsVersion (UnlessRuled (λ _. IsStartOf)) (3 ∷ one) ((0 ∷ 0xE8 ∷ 7 ∷ []) ++ (0 ∷ []) ++ zeros 12)
     (Ok one)
-    (Ok (Ok starting)) (version_said ignore)
-    (after ignore IsUnit (UnlessRuled (λ u. AndThen IsFlag (λ f. Seen (start u) (AreTables (is_here f)))))
-    (0 ∷ 0xE8 ∷ 7 ∷ []) ((0 ∷ []) ++ zeros 12) (Ok (Whole 1000)) (Ok (Ok starting)) (unit_said ignore)
-    (after ignore IsFlag (UnlessRuled (λ f. Seen (start (Whole 1000)) (AreTables (is_here f)))) (0 ∷ []) (zeros 12)
-    (Ok 0) (Ok (Ok starting)) (flag_said ignore)
-    (seen ignore (start (Whole 1000)) (AreTables true) (zeros 12) true (tables_said ignore))))
+    (Ok (Ok starting)) (version_said profile)
+    (after profile IsUnit (UnlessRuled (λ u. AndThen IsFlag (λ f. Seen (start u) (AreTables (is_here f)))))
+    (0 ∷ 0xE8 ∷ 7 ∷ []) ((0 ∷ []) ++ zeros 12) (Ok (Whole 1000)) (Ok (Ok starting)) (unit_said profile)
+    (after profile IsFlag (UnlessRuled (λ f. Seen (start (Whole 1000)) (AreTables (is_here f)))) (0 ∷ []) (zeros 12)
+    (Ok 0) (Ok (Ok starting)) (flag_said profile)
+    (seen profile (start (Whole 1000)) (AreTables true) (zeros 12) true (tables_said profile))))
 
 -- CELL
 
-cell_said : (ignore : Ignore) → AreFields false 1 OfCell ignore of_cell (Ok (Ok cell))
-cell_said ignore =
-    seen ignore Ok (IsCell false) of_cell cell
-    (seen ignore Cell (IsCellRef false) of_cell (Name name)
-    (seen ignore Name (IsString N 255) of_cell name (three ignore N name refl refl (refl, (refl, (refl, tt))))))
+cell_said : (profile : Profile) → AreFields false 1 OfCell profile of_cell (Ok (Ok cell))
+cell_said profile =
+    seen profile Ok (IsCell false) of_cell cell
+    (seen profile Cell (IsCellRef false) of_cell (Name name)
+    (seen profile Name (IsString N 255) of_cell name (three profile N name refl refl (refl, (refl, (refl, tt))))))
 
 -- RECTANGLE
 
-given : (ignore : Ignore) (n : ℕ) → IsUnsigned ignore (n ∷ []) (Ok n) → If true IsUnsigned ignore (n ∷ []) (Ok (Some n))
-given ignore n u = seen ignore Some IsUnsigned (n ∷ []) n u
+given : (profile : Profile) (n : ℕ) → IsUnsigned profile (n ∷ []) (Ok n) → If true IsUnsigned profile (n ∷ []) (Ok (Some n))
+given profile n u = seen profile Some IsUnsigned (n ∷ []) n u
 
-origin : (ignore : Ignore) → If true IsSigned ignore (0 ∷ []) (Ok (Some (pos 0)))
-origin ignore =
-    seen ignore Some IsSigned (0 ∷ []) (pos 0) (seen ignore with_sign IsUnsigned (0 ∷ []) 0
-    (small ignore 0 refl refl refl))
+origin : (profile : Profile) → If true IsSigned profile (0 ∷ []) (Ok (Some (pos 0)))
+origin profile =
+    seen profile Some IsSigned (0 ∷ []) (pos 0) (seen profile with_sign IsUnsigned (0 ∷ []) 0
+    (small profile 0 refl refl refl))
 
-layer_said : (ignore : Ignore) → IsOnLayer 0x7B ignore (1 ∷ 0 ∷ []) (Ok (record { layer = Some 1; datatype = Some 0 }))
-layer_said ignore =
-    after ignore (If true IsUnsigned) (λ l. Seen (on_layer l) (If true IsUnsigned)) (1 ∷ []) (0 ∷ []) (Some 1)
+layer_said : (profile : Profile) → IsOnLayer 0x7B profile (1 ∷ 0 ∷ []) (Ok (record { layer = Some 1; datatype = Some 0 }))
+layer_said profile =
+    after profile (If true IsUnsigned) (λ l. Seen (on_layer l) (If true IsUnsigned)) (1 ∷ []) (0 ∷ []) (Some 1)
     (Ok (record { layer = Some 1; datatype = Some 0 }))
-    (given ignore 1 (small ignore 1 refl refl refl))
-    (seen ignore (on_layer (Some 1)) (If true IsUnsigned) (0 ∷ []) (Some 0)
-    (given ignore 0 (small ignore 0 refl refl refl)))
+    (given profile 1 (small profile 1 refl refl refl))
+    (seen profile (on_layer (Some 1)) (If true IsUnsigned) (0 ∷ []) (Some 0)
+    (given profile 0 (small profile 0 refl refl refl)))
 
-position_said : (ignore : Ignore) → IsPosition 0x7B ignore (0 ∷ 0 ∷ [])
+position_said : (profile : Profile) → IsPosition 0x7B profile (0 ∷ 0 ∷ [])
     (Ok (record { x = Some (pos 0); y = Some (pos 0); repetition = None }))
-position_said ignore =
-    after ignore (If true IsSigned)
+position_said profile =
+    after profile (If true IsSigned)
     (λ x. Then (If true IsSigned) (λ y. Seen (position x y) (If false (IsRepetition true))))
-    (0 ∷ []) (0 ∷ []) (Some (pos 0)) (Ok (position (Some (pos 0)) (Some (pos 0)) None)) (origin ignore)
-    (after ignore (If true IsSigned) (λ y. Seen (position (Some (pos 0)) y) (If false (IsRepetition true)))
-    (0 ∷ []) [] (Some (pos 0)) (Ok (position (Some (pos 0)) (Some (pos 0)) None)) (origin ignore)
-    (seen ignore (position (Some (pos 0)) (Some (pos 0))) (If false (IsRepetition true)) [] None
+    (0 ∷ []) (0 ∷ []) (Some (pos 0)) (Ok (position (Some (pos 0)) (Some (pos 0)) None)) (origin profile)
+    (after profile (If true IsSigned) (λ y. Seen (position (Some (pos 0)) y) (If false (IsRepetition true)))
+    (0 ∷ []) [] (Some (pos 0)) (Ok (position (Some (pos 0)) (Some (pos 0)) None)) (origin profile)
+    (seen profile (position (Some (pos 0)) (Some (pos 0))) (If false (IsRepetition true)) [] None
     (refl, refl)))
 
 abbrev on : OnLayer
@@ -201,91 +202,95 @@ with_width on w = Then (If true IsUnsigned) (with_height on w)
 abbrev with_layer : OnLayer → Spelling Record
 with_layer on = Then (If true IsUnsigned) (with_width on)
 
-rectangle_said : (ignore : Ignore) → IsRectangle ignore of_rectangle (Ok (Ok drawn))
-rectangle_said ignore =
-    after ignore IsRectangleInfo (UnlessRuled (λ i. Seen Ok (IsRectangleOf i))) (0x7B ∷ [])
+rectangle_said : (profile : Profile) → IsRectangle profile of_rectangle (Ok (Ok drawn))
+rectangle_said profile =
+    after profile IsRectangleInfo (UnlessRuled (λ i. Seen Ok (IsRectangleOf i))) (0x7B ∷ [])
     (1 ∷ 0 ∷ 10 ∷ 10 ∷ 0 ∷ 0 ∷ [])
-    (Ok 0x7B) (Ok (Ok drawn)) (alone ignore IsByte (λ i. Must (is_rectangle_info i) i Info) (0x7B ∷ []) 0x7B
+    (Ok 0x7B) (Ok (Ok drawn)) (alone profile IsByte (λ i. Must (is_rectangle_info i) i Info) (0x7B ∷ []) 0x7B
     (Ok (Ok 0x7B)) refl (refl, refl))
-    (seen ignore Ok (IsRectangleOf 0x7B) (1 ∷ 0 ∷ 10 ∷ 10 ∷ 0 ∷ 0 ∷ []) drawn
-    (after ignore (IsOnLayer 0x7B) with_layer (1 ∷ 0 ∷ []) (10 ∷ 10 ∷ 0 ∷ 0 ∷ []) on (Ok drawn) (layer_said ignore)
-    (after ignore (If true IsUnsigned) (with_width on) (10 ∷ []) (10 ∷ 0 ∷ 0 ∷ []) (Some 10) (Ok drawn)
-    (given ignore 10 (small ignore 10 refl refl refl))
-    (after ignore (If true IsUnsigned) (with_height on (Some 10)) (10 ∷ []) (0 ∷ 0 ∷ []) (Some 10) (Ok drawn)
-    (given ignore 10 (small ignore 10 refl refl refl))
-    (seen ignore (rectangle false on (Some 10) (Some 10)) (IsPosition 0x7B)
-    (0 ∷ 0 ∷ []) (position (Some (pos 0)) (Some (pos 0)) None) (position_said ignore))))))
+    (seen profile Ok (IsRectangleOf 0x7B) (1 ∷ 0 ∷ 10 ∷ 10 ∷ 0 ∷ 0 ∷ []) drawn
+    (after profile (IsOnLayer 0x7B) with_layer (1 ∷ 0 ∷ []) (10 ∷ 10 ∷ 0 ∷ 0 ∷ []) on (Ok drawn) (layer_said profile)
+    (after profile (If true IsUnsigned) (with_width on) (10 ∷ []) (10 ∷ 0 ∷ 0 ∷ []) (Some 10) (Ok drawn)
+    (given profile 10 (small profile 10 refl refl refl))
+    (after profile (If true IsUnsigned) (with_height on (Some 10)) (10 ∷ []) (0 ∷ 0 ∷ []) (Some 10) (Ok drawn)
+    (given profile 10 (small profile 10 refl refl refl))
+    (seen profile (rectangle false on (Some 10) (Some 10)) (IsPosition 0x7B)
+    (0 ∷ 0 ∷ []) (position (Some (pos 0)) (Some (pos 0)) None) (position_said profile))))))
 
 -- END
 
-padding_said : (ignore : Ignore) → Sized (IsPaddingLength false) ignore (0xFC ∷ 1 ∷ [])
+padding_said : (profile : Profile) → Sized (IsPaddingLength false) profile (0xFC ∷ 1 ∷ [])
     (Ok (record { value = 252; len = 2 }))
-padding_said ignore = (
-  after ignore (AreTables false) (λ _. IsUnsigned) [] (0xFC ∷ 1 ∷ []) false (Ok 252) (refl, refl)
-      (wide ignore 0xFC 1 252 refl refl refl refl),
+padding_said profile = (
+  after profile (AreTables false) (λ _. IsUnsigned) [] (0xFC ∷ 1 ∷ []) false (Ok 252) (refl, refl)
+      (wide profile 0xFC 1 252 refl refl refl refl),
   refl,
 )
 
-scheme_said : (ignore : Ignore) → IsScheme ignore (0 ∷ []) (Ok (Ok 0))
-scheme_said ignore = alone ignore IsByte (λ s. Must (nat_lt s 3) s Scheme) (0 ∷ []) 0 (Ok (Ok 0)) refl (refl, refl)
+scheme_said : (profile : Profile) → IsScheme profile (0 ∷ []) (Ok (Ok 0))
+scheme_said profile = alone profile IsByte (λ s. Must (nat_lt s 3) s Scheme) (0 ∷ []) 0 (Ok (Ok 0)) refl (refl, refl)
 
 abbrev of_scheme : ℕ → Spelling (Result Validation RecordRule)
 of_scheme s = Seen Ok (IsSignature (s == 0) s)
 
-ending_said : (ignore : Ignore) → IsEnding 252 ignore (zeros 252 ++ (0 ∷ [])) (Ok (Ok Absent))
-ending_said ignore =
-    after ignore (ArePadding 252) (λ _. AndThen IsScheme of_scheme) (zeros 252) (0 ∷ []) 252 (Ok (Ok Absent))
-    (seen ignore (λ _. 252) (Chain (λ _. IsByte) (λ x. x) 252 0) (zeros 252) (zeros 252) (zero_bytes ignore 252 0))
-    (after ignore IsScheme (UnlessRuled of_scheme) (0 ∷ []) [] (Ok 0) (Ok (Ok Absent)) (scheme_said ignore)
-    (seen ignore Ok (IsSignature true 0) [] Absent (refl, refl)))
+ending_said : (profile : Profile) → IsEnding 252 profile (zeros 252 ++ (0 ∷ [])) (Ok (Ok Absent))
+ending_said profile =
+    after profile (ArePadding 252) (λ _. AndThen IsScheme of_scheme) (zeros 252) (0 ∷ []) 252 (Ok (Ok Absent))
+    (seen profile (λ _. 252) (Chain (λ _. IsByte) (λ x. x) 252 0) (zeros 252) (zeros 252) (zero_bytes profile 252 0))
+    (after profile IsScheme (UnlessRuled of_scheme) (0 ∷ []) [] (Ok 0) (Ok (Ok Absent)) (scheme_said profile)
+    (seen profile Ok (IsSignature true 0) [] Absent (refl, refl)))
 
-end_said : (ignore : Ignore) → IsEnd false 1 ignore of_end (Ok (Ok ending))
-end_said ignore =
-    after ignore (Sized (IsPaddingLength false)) (λ p. AndThen (Must (fits 1 p) p EndLength) (IsEndOf 1))
+end_said : (profile : Profile) → IsEnd false 1 profile of_end (Ok (Ok ending))
+end_said profile =
+    after profile (Sized (IsPaddingLength false)) (λ p. AndThen (Must (fits 1 p) p EndLength) (IsEndOf 1))
     (0xFC ∷ 1 ∷ []) (zeros 252 ++ (0 ∷ [])) (record { value = 252; len = 2 })
-    (Ok (Ok ending)) (padding_said ignore)
-    (after ignore (Must true (record { value = 252; len = 2 }) EndLength) (UnlessRuled (IsEndOf 1)) []
+    (Ok (Ok ending)) (padding_said profile)
+    (after profile (Must true (record { value = 252; len = 2 }) EndLength) (UnlessRuled (IsEndOf 1)) []
     (zeros 252 ++ (0 ∷ []))
     (Ok (record { value = 252; len = 2 })) (Ok (Ok ending)) (refl, refl)
-    (alone ignore (IsEnding 252)
+    (alone profile (IsEnding 252)
     (UnlessRuled (λ v. Must (is_whole 1 (record { value = 252; len = 2 }) v) (End v) EndLength)) (zeros 252 ++ (0 ∷ []))
-    (Ok Absent) (Ok (Ok ending)) (ending_said ignore) (refl, refl)))
+    (Ok Absent) (Ok (Ok ending)) (ending_said profile) (refl, refl)))
 
 -- each record is spelled after those before it
 
-next : (ignore : Ignore) (rs : List Record) (id : ℕ) (t : RecordType) (r : Record) (fields : List ℕ)
-    → IsUnsigned ignore (id ∷ []) (Ok id)
-    → type_after ignore rs id ≡ Ok t → AreFields (at_end rs) 1 t ignore fields (Ok (Ok r))
-    → IsNext rs ignore (id ∷ fields) (Ok (Ok (item r)))
-next ignore rs id t r fields u e f =
-    after ignore (Sized IsUnsigned) (IsTypedAfter rs) (id ∷ []) fields
+next : (profile : Profile) (rs : List Record) (id : ℕ) (t : RecordType) (r : Record) (fields : List ℕ)
+    → IsUnsigned profile (id ∷ []) (Ok id)
+    → type_after profile rs id ≡ Ok t → AreFields (at_end rs) 1 t profile fields (Ok (Ok r))
+    → IsNext rs profile (id ∷ fields) (Ok (Ok (item r)))
+next profile rs id t r fields u e f =
+    after profile (Sized IsUnsigned) (IsTypedAfter rs) (id ∷ []) fields
     (record { value = id; len = 1 }) (Ok (Ok (item r))) (u, refl)
-    (subst (λ x. IsTyped (at_end rs) 1 x ignore fields (Ok (Ok (item r)))) (sym e)
-    (seen ignore of_record (AreFields (at_end rs) 1 t) fields (Ok r) f))
+    (subst (λ x. IsTyped (at_end rs) 1 x profile fields (Ok (Ok (item r)))) (sym e)
+    (seen profile of_record (AreFields (at_end rs) 1 t) fields (Ok r) f))
 
-spelled : (ignore : Ignore) → SpellsAll (oasis ignore) [] file square
-spelled ignore = (
+-- some things ignored, within the standard limits
+abbrev ignoring : Ignore → Profile
+ignoring ignore = record { ignore = ignore; limits = standard }
+
+spelled : (ignore : Ignore) → SpellsAll (oasis (ignoring ignore)) [] file square
+spelled ignore = let profile = ignoring ignore in (
   magic_string,
   (1 ∷ of_start) ++ (14 ∷ of_cell) ++ (20 ∷ of_rectangle) ++ (2 ∷ of_end),
-  seen ignore of_magic IsMagic magic_string (Ok tt) (magic_said ignore),
+  seen profile of_magic IsMagic magic_string (Ok tt) (magic_said profile),
   (
     1 ∷ of_start,
     (14 ∷ of_cell) ++ (20 ∷ of_rectangle) ++ (2 ∷ of_end),
-    next ignore [] 1 OfStart starting of_start (small ignore 1 refl refl refl) refl (start_said ignore),
+    next profile [] 1 OfStart starting of_start (small profile 1 refl refl refl) refl (start_said profile),
     (
       14 ∷ of_cell,
       (20 ∷ of_rectangle) ++ (2 ∷ of_end),
-      next ignore (starting ∷ []) 14 OfCell cell of_cell (small ignore 14 refl refl refl) refl (cell_said ignore),
+      next profile (starting ∷ []) 14 OfCell cell of_cell (small profile 14 refl refl refl) refl (cell_said profile),
       (
         20 ∷ of_rectangle,
         2 ∷ of_end,
-        next ignore (starting ∷ cell ∷ []) 20 OfRectangle drawn of_rectangle (small ignore 20 refl refl refl) refl
-            (rectangle_said ignore),
+        next profile (starting ∷ cell ∷ []) 20 OfRectangle drawn of_rectangle (small profile 20 refl refl refl) refl
+            (rectangle_said profile),
         (
           2 ∷ of_end,
           [],
-          next ignore (starting ∷ cell ∷ drawn ∷ []) 2 OfEnd ending of_end (small ignore 2 refl refl refl) refl
-              (end_said ignore),
+          next profile (starting ∷ cell ∷ drawn ∷ []) 2 OfEnd ending of_end (small profile 2 refl refl refl) refl
+              (end_said profile),
           refl,
           sym (append-nil (2 ∷ of_end)),
         ),
@@ -377,7 +382,7 @@ none_of_rectangle Extension b = b
 none_of_rectangle Oblique b = b
 none_of_rectangle (Path f) b = b
 
-followed : (ignore : Ignore) → FollowAll (oasis ignore) [] square
+followed : (ignore : Ignore) → FollowAll (oasis (ignoring ignore)) [] square
 followed ignore = (
   unended [] refl,
   (
@@ -396,9 +401,13 @@ followed ignore = (
   ),
 )
 
-whole : (ignore : Ignore) → SpellsWhole (oasis ignore) file square
+whole : (ignore : Ignore) → SpellsWhole (oasis (ignoring ignore)) file square
 whole ignore = record {
-  front = record { spelled = spelled ignore; followed = followed ignore; within = leb-true 303 file_limit refl };
+  front = record {
+    spelled = spelled ignore;
+    followed = followed ignore;
+    within = leb-true 303 standard.file refl;
+  };
   whole = (magic ∷ item starting ∷ item cell ∷ item drawn ∷ [], Absent, refl);
 }
 
@@ -420,14 +429,14 @@ heading = record { unit = Whole 1000; scheme = 0; signature = 0 ∷ 0 ∷ 0 ∷ 
 cells_are : AreCells (names_in (records square)) (drawings (records square)) (top ∷ [])
 cells_are = (record { name = refl; shapes = refl; references = tt }, tt)
 
-square_spells : (ignore : Ignore) → SpellsLibrary ignore file (top ∷ []) heading
+square_spells : (ignore : Ignore) → SpellsLibrary (ignoring ignore) file (top ∷ []) heading
 square_spells ignore = record { items = square; whole = whole ignore; cells_are = cells_are; head_is = refl }
 
-square_only : (ignore : Ignore) (cells : List (PlainCell Figure)) (h : OasisHead) → SpellsLibrary ignore file cells h
-    → (cells ≡ top ∷ []) × (h ≡ heading)
+square_only : (ignore : Ignore) (cells : List (PlainCell Figure)) (h : OasisHead)
+    → SpellsLibrary (ignoring ignore) file cells h → (cells ≡ top ∷ []) × (h ≡ heading)
 square_only ignore cells h p =
-    let e : p.items ≡ square = one_whole (oasis ignore) (is_grammar ignore) file p.items square p.whole
-    (whole ignore) in
+    let G = oasis (ignoring ignore) in
+    let e : p.items ≡ square = one_whole G (is_grammar (ignoring ignore)) file p.items square p.whole (whole ignore) in
     let are : AreCells (names_in (records square)) (drawings (records square)) cells =
     subst (λ is. AreCells (names_in (records is)) (drawings (records is)) cells) e p.cells_are in (
       same_cells (names_in (records square)) (drawings (records square)) (top ∷ []) cells cells_are are,

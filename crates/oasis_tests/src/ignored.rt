@@ -46,7 +46,7 @@ fn padded(alloc: Global, first: &str, zeros: usize, last: &str) -> Result<Vec<u8
 
 /// What an integer of all these bytes is, with padding ignored.
 fn integer(bytes: &[u8]) -> Result<u64, ValueFault> {
-    let mut input = Input::new(Pieces::new(bytes, 3), padding());
+    let mut input = Input::new(Pieces::new(bytes, 3), under(padding()));
     let read = input.unsigned();
     if read.is_ok() && input.offset() != bytes.len() as u64 {
         return Err(ValueFault::TooLong);

@@ -125,7 +125,7 @@ fn the_modal_repetition(rt: HostRuntime) -> Result<(), Fail> {
 const LIMITS: &str = "\
 02 FE FF FF 07 01 | 16777216
 02 FF FF FF 07 01 | RepetitionSize
-04 FF FF 3F | RepetitionSize
+04 FF FF 3F | ListSize
 02 00 80 80 80 80 80 80 80 80 80 01 | OutOfRange
 00 | NoModal
 0C | RepetitionType

@@ -82,7 +82,11 @@ impl<R: Read> Input<R> {
         if self.failed {
             return Err(ValueFault::Failed);
         }
-        match find_byte(&mut self.reader, &mut self.ahead, self.profile.limits.file - self.offset) {
+        match find_byte(
+            &mut self.reader,
+            &mut self.ahead,
+            self.profile.limits.file - self.offset,
+        ) {
             Ok(found) => {
                 self.ahead.skip(found.len);
                 self.offset += found.len as u64;

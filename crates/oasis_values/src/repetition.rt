@@ -190,7 +190,10 @@ impl<R: Read> Input<R> {
         ensures reads { Reads R.remaining R.read_errors R.lent (IsLine spacing) self.old self.new result }
     {
         let number = self.unsigned()?;
-        let count = self.known(line_size(self.profile().limits, number), ValueFault::RepetitionSize)?;
+        let count = self.known(
+            line_size(self.profile().limits, number),
+            ValueFault::RepetitionSize,
+        )?;
         self.line_of(spacing, count)
     }
 

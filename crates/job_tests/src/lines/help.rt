@@ -85,7 +85,7 @@ static TEXTS: [(&str, &str); 9] = [
     ("lvl help compare", COMPARE),
     ("lvl show --help", SHOW),
     ("lvl digest --help", DIGEST),
-    ("lvl --version", "lvl 1.0.0\n"),
+    ("lvl --version", "lvl 2.0.0\n"),
     ("lvl", BARE),
 ];
 

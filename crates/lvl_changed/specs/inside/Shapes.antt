@@ -2,10 +2,12 @@
 use Rattle.std.specs.Prelude.{◌↔◌, List, Any}
 use Rattle.lvl_grid.specs.declared.point.Square.{Square}
 use Rattle.lvl_grid.specs.declared.point.Window.{Window}
-use Rattle.lvl_grid.specs.Winding.{SomeCovers}
+use Rattle.lvl_grid.specs.declared.point.Point.{Point}
+use Rattle.lvl_grid.specs.Winding.{Covers, SomeCovers}
+use Rattle.lvl_names.specs.Shifts.{IsBetween}
 use Rattle.lvl_names.specs.declared.layer.Layer.{Layer}
 use Rattle.lvl_cells.specs.Cells.{PlainShape, Rings}
-use Rattle.lvl_cells.specs.Coverage.{ShapeCovers}
+use Rattle.lvl_cells.specs.Coverage.{moved_back, ShapeCovers}
 use Rattle.lvl_flat.specs.declared.bounds.Bounds.{Bounds}
 use Rattle.lvl_flat.specs.Sheet.{PlainSheet}
 use Rattle.lvl_flat.specs.Sheets.{rings_on}
@@ -27,3 +29,7 @@ LayerAlike w a b layer = (s : Square) → (¬ Has w s) → FlatCovers a layer s 
 -- the box between the corners of a window
 abbrev pub corners : Window → Bounds
 corners w = record { low = record { x = w.x0; y = w.y0 }; high = record { x = w.x1; y = w.y1 } }
+
+-- P holds for all squares that the ring covers after a move by a displacement between the two corners
+abbrev pub HasMoved : List Point → Point → Point → (Square → Type 0) → Type 0
+HasMoved ring low high P = (e : Point) (s : Square) → IsBetween low high e → Covers ring (moved_back e s) → P s

@@ -1,5 +1,5 @@
 -- The first difference of two layouts within a part of the grid.
-use Rattle.std.specs.Prelude.{◌≡◌, ◌↔◌, ◌⊎◌, ◌<ℤ◌, ◌+ℤ◌, ℤ, pos, List, Option, Some, None, IfSome}
+use Rattle.std.specs.Prelude.{◌≡◌, ◌↔◌, ◌⊎◌, ◌<◌, ◌+◌, ◌+ℤ◌, ◌-ℤ◌, ℤ, pos, negsuc, ℕ, zero, List, Option, Some, None, IfSome}
 use Rattle.std.specs.Int.{int_min, int_max}
 use Rattle.lvl_grid.specs.declared.point.Square.{Square}
 use Rattle.lvl_grid.specs.declared.point.Window.{Window}
@@ -69,21 +69,26 @@ ShowsOf a part f = (l : Layer) (q : Square) → SomeCovers (rings_on l f) q ↔ 
 abbrev pub everywhere : (Square → Type 0) → Part
 everywhere W l q = W q
 
--- the window has the square, and it is left of the abscissa
-abbrev pub IsLeftIn : Window → ℤ → Square → Type 0
-IsLeftIn w x q = IsInWindow w q × (q.x <ℤ x)
-
--- the part of a window from an abscissa on
-abbrev pub from_on : ℤ → Window → Window
-from_on x w = record { x0 = x; y0 = w.y0; x1 = w.x1; y1 = w.y1 }
-
--- the part of a window up to an abscissa, which is excluded
-abbrev pub up_to : ℤ → Window → Window
-up_to x w = record { x0 = w.x0; y0 = w.y0; x1 = x; y1 = w.y1 }
-
 -- the rows of a window up to this one
 abbrev pub rows_to : ℤ → Window → Window
 rows_to y w = record { x0 = w.x0; y0 = w.y0; x1 = w.x1; y1 = int_min w.y1 (y +ℤ pos 1) }
+
+-- a number that isn't below zero, as a natural number
+abbrev pub up : ℤ → ℕ
+up (pos n) = n
+up (negsuc n) = zero
+
+-- the number of columns and of rows of a window
+abbrev pub girth : Window → ℕ
+girth w = up (w.x1 -ℤ w.x0) + up (w.y1 -ℤ w.y0)
+
+-- two windows that have each square of a window, and no others, and each of which has fewer columns or rows than it
+pub record AreHalves (w a b : Window) : Type 0 where
+  pub first : (q : Square) → IsInWindow a q → IsInWindow w q
+  pub second : (q : Square) → IsInWindow b q → IsInWindow w q
+  pub all : (q : Square) → IsInWindow w q → IsInWindow a q ⊎ IsInWindow b q
+  pub first_less : girth a < girth w
+  pub second_less : girth b < girth w
 
 -- the intersection of a window with an optional one
 abbrev pub seen_of : Option Window → Window → Window

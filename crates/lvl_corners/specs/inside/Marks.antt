@@ -9,7 +9,7 @@ use Rattle.lvl_sweep.specs.Slab.{Slab}
 use Rattle.lvl_corners.specs.declared.mark.Mark.{Mark}
 use Rattle.lvl_corners.specs.declared.span.Span.{Span}
 use Rattle.lvl_corners.specs.Corners.{bit, change_at, IsBounded}
-use Rattle.lvl_corners.specs.inside.Spans.{spanned}
+use Rattle.lvl_corners.specs.Spans.{spanned}
 
 -- the mark is at the point
 abbrev pub is_at : ℤ → ℤ → Mark → Bool

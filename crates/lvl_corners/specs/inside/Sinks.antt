@@ -14,17 +14,11 @@ pub vec_takes_both : (as' bs cs ks ls : List Corner) → bs ≡ as' ++ ks → cs
 vec_takes_both as' bs cs ks ls h k = k ∙ (ap (λ (xs : List Corner). xs ++ ls) h ∙ append_assoc as' ks ls)
 
 more_none : (h : LayerHashing) → HoldsMore h h []
-more_none h = record {
-  layer = λ m held. subst (HoldsWith h.layer h.pending.items) (sym (append-nil m)) held;
-  mask = λ m held. subst (HoldsWith h.mask h.pending.items) (sym (append-nil m)) held;
-}
+more_none h = λ m held. subst (HoldsWith h.hasher h.pending.items) (sym (append-nil m)) held
 
 more_both : (a b c : LayerHashing) (bs cs : List ℕ) → HoldsMore a b bs → HoldsMore b c cs → HoldsMore a c (bs ++ cs)
-more_both a b c bs cs h k = record {
-  layer = λ m held. subst (HoldsWith c.layer c.pending.items) (append_assoc m bs cs) (k.layer (m ++ bs) (h.layer m
-      held));
-  mask = λ m held. subst (HoldsWith c.mask c.pending.items) (append_assoc m bs cs) (k.mask (m ++ bs) (h.mask m held));
-}
+more_both a b c bs cs h k = λ m held.
+    subst (HoldsWith c.hasher c.pending.items) (append_assoc m bs cs) (k (m ++ bs) (h m held))
 
 pub hasher_takes_none : (h : LayerHashing) → HasTaken h h []
 hasher_takes_none h = record { bytes = more_none h; count = omega arith }

@@ -1,5 +1,6 @@
 -- A cell's own shapes, placed by a map and drawn.
 use Rattle.std.specs.Prelude.{◌≡◌, ◌↔◌, ◌⊎◌, ◌+◌, ◌*◌, ℕ, List, length, map, sum_by, All, Any, Contains, if◌then◌else◌}
+use Rattle.std.specs.Prelude.{IsSomeAnd, slice_get}
 use Rattle.lvl_grid.specs.declared.point.Point.{Point}
 use Rattle.lvl_grid.specs.declared.point.Square.{Square}
 use Rattle.lvl_grid.specs.declared.map.Map.{Map}
@@ -60,4 +61,35 @@ pub record AreDrawn (m : Map) (scope : Scope) (shapes : List (PlainShape Rings))
       shapes
   pub count : scope ≡ Everything → HaveSheets old shapes → (layer : Layer)
       → length (rings_on layer new) ≡ length (rings_on layer old) + rings_of layer shapes
+  pub layers : map (λ s. s.layer) new ≡ map (λ s. s.layer) old
+
+-- that holds for one shape, if its Layer has a sheet
+pub record IsShapeDrawn (m : Map) (scope : Scope) (h : PlainShape Rings) (old new : List PlainSheet) : Type 0 where
+  pub covers : (layer : Layer) (q : Square) → SomeCovers (rings_on layer new) q
+      ↔ (SomeCovers (rings_on layer old) q
+      ⊎ (IsOfScope (map (λ s. s.layer) old) scope layer q × ((h.layer ≡ layer) × ShapePlacesCover m q h)))
+  pub fits : Contains (map (λ s. s.layer) old) h.layer → All (λ e. All (FitsRing m e) h.figure) h.shifts
+  pub count : scope ≡ Everything → Contains (map (λ s. s.layer) old) h.layer → (layer : Layer)
+      → length (rings_on layer new)
+      ≡ length (rings_on layer old) + (if same_layer h.layer layer then length h.figure * length h.shifts else 0)
+  pub layers : map (λ s. s.layer) new ≡ map (λ s. s.layer) old
+
+-- there is a shape with index i, it is on the Layer, and placed it covers the square
+abbrev pub PlacesAt : Layer → Map → Square → List (PlainShape Rings) → ℕ → Type 0
+PlacesAt layer m q shapes i = IsSomeAnd (slice_get shapes i) (λ h. (h.layer ≡ layer) × ShapePlacesCover m q h)
+
+-- the shape with index i is drawn, if there is one and its Layer has a sheet
+pub record IsDrawnAt (m : Map) (scope : Scope) (shapes : List (PlainShape Rings)) (i : ℕ) (old new : List PlainSheet)
+    : Type 0 where
+  pub covers : (layer : Layer) (q : Square) → SomeCovers (rings_on layer new) q
+      ↔ (SomeCovers (rings_on layer old) q
+      ⊎ (IsOfScope (map (λ s. s.layer) old) scope layer q × PlacesAt layer m q shapes i))
+  pub layers : map (λ s. s.layer) new ≡ map (λ s. s.layer) old
+
+-- that holds for each index of a list
+pub record AreDrawnAt (m : Map) (scope : Scope) (shapes : List (PlainShape Rings)) (list : List ℕ)
+    (old new : List PlainSheet) : Type 0 where
+  pub covers : (layer : Layer) (q : Square) → SomeCovers (rings_on layer new) q
+      ↔ (SomeCovers (rings_on layer old) q
+      ⊎ (IsOfScope (map (λ s. s.layer) old) scope layer q × Any (PlacesAt layer m q shapes) list))
   pub layers : map (λ s. s.layer) new ≡ map (λ s. s.layer) old

@@ -1,14 +1,16 @@
 -- Runs of places that a walk within a window skips.
-use Rattle.std.specs.Prelude.{◌≡◌, ◌≤◌, ◌<◌, ◌+◌, ◌-◌, ◌*◌, ◌/◌, ◌%◌, ◌^◌, ℕ, List, slice_get, Option, Some}
+use Rattle.std.specs.Prelude.{◌≡◌, ◌≤◌, ◌<◌, ◌+◌, ◌-◌, ◌*◌, ◌/◌, ◌%◌, ◌^◌, ◌⊎◌, ℕ, List, slice_get, Option, Some}
 use Rattle.lvl_grid.specs.declared.point.Point.{Point}
 use Rattle.lvl_grid.specs.declared.point.Window.{Window}
 use Rattle.lvl_grid.specs.declared.map.Map.{Map}
 use Rattle.lvl_grid.specs.Turn.{image, shifted}
 use Rattle.lvl_cells.specs.Cells.{PlainCell, PlainReference, Rings}
+use Rattle.lvl_cells.specs.Chains.{unmoved}
 use Rattle.lvl_flat.specs.declared.bounds.Bounds.{Bounds}
 use Rattle.lvl_flat.specs.declared.visit.Visit.{Visit}
 use Rattle.lvl_flat.specs.Boxes.{HoldsPoint, FitsBounds}
 use Rattle.lvl_flat.specs.inside.Bounds.{IsOutside, IsPlacedOutside}
+use Rattle.lvl_flat.specs.inside.Listed.{IsNext}
 use Rattle.lvl_flat.specs.inside.Steps.{IsInto}
 
 -- how the reference places its cell before it is moved by a shift
@@ -84,3 +86,18 @@ pub record IsPassedBy (cells : List (PlainCell Rings)) (known : List (Option Bou
   pub reference_is : further.reference ≡ v.reference
   pub on : v.place ≤ further.place
   pub missed : (k : ℕ) → v.place ≤ k → k < further.place → IsMissedAt cells known w further k
+
+-- the visit, at the beginning of the reference j
+abbrev pub at_reference : Visit → ℕ → Visit
+at_reference v j = record { cell = v.cell; map = v.map; reference = j; place = v.place; row = v.row }
+
+-- a visit of the top, unmoved, that begins a reference goes on with the next reference of the list, or it stays
+pub record IsForward (top : ℕ) (list : List ℕ) (v further : Visit) : Type 0 where
+  pub cell_is : v.cell ≡ top
+  pub map_is : v.map ≡ unmoved
+  pub begins : v.place ≡ 0
+  pub further_is : further ≡ at_reference v further.reference
+  pub next : IsNext list v.reference further.reference
+
+abbrev pub IsForwarded : ℕ → List ℕ → Visit → Visit → Type 0
+IsForwarded top list v further = (further ≡ v) ⊎ IsForward top list v further

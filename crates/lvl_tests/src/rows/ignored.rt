@@ -45,7 +45,7 @@ all | oasis 22 00 00 00 | oasis 24 Unsupported 34 at 39
 
 /// The last line of the digest of the square; the sum was computed by another program.
 const MASK: &[u8] =
-    b"\nmask sha256 c5483bbfa6d27cf601d87a9d6e74b9350c2dcde72a70bab5f8615769e8fc5728\n";
+    b"\nmask sha256 cfc0bc7fd8a84f10bc2892f2c74e75073d5463f896d47d97244a7b12a9635572\n";
 
 /// The standard profile, with this ignored.
 fn under(ignore: Ignore) -> Profile {
@@ -71,19 +71,38 @@ fn compared(
 ) -> Result<Answer, AllocError> {
     let mut out = sink(alloc, 100)?;
     let (mut first, mut second) = (Pieces::new(first, 7), Pieces::new(second, 50));
-    let ran = run_by(alloc, &mut first, &mut second, &no_tops(), under(ignore), &mut out);
+    let ran = run_by(
+        alloc,
+        &mut first,
+        &mut second,
+        &no_tops(),
+        under(ignore),
+        &mut out,
+    );
     Ok((out.taken, status_of(ran)))
 }
 
 fn shown(alloc: Global, file: &[u8], ignore: Ignore) -> Result<Answer, AllocError> {
     let mut out = sink(alloc, 100)?;
-    let ran = run_show_by(alloc, &mut Pieces::new(file, 7), None, under(ignore), &mut out);
+    let ran = run_show_by(
+        alloc,
+        &mut Pieces::new(file, 7),
+        None,
+        under(ignore),
+        &mut out,
+    );
     Ok((out.taken, status_of(ran)))
 }
 
 fn digested(alloc: Global, file: &[u8], ignore: Ignore) -> Result<Answer, AllocError> {
     let mut out = sink(alloc, 100)?;
-    let ran = run_digest(alloc, &mut Pieces::new(file, 7), None, under(ignore), &mut out);
+    let ran = run_digest(
+        alloc,
+        &mut Pieces::new(file, 7),
+        None,
+        under(ignore),
+        &mut out,
+    );
     Ok((out.taken, status_of(ran)))
 }
 

@@ -73,9 +73,15 @@ fn check_row(rt: &impl Abort, alloc: Global, row: &str) -> Result<(), Fail> {
     } else {
         Some(Hint::LiftLimits)
     };
-    assert!(rt; is_refused(alloc, &bytes, Limits::STANDARD, line.as_str(), hint)?, "{name}");
+    assert!(rt;
+        is_refused(alloc, &bytes, Limits::STANDARD, line.as_str(), hint)?,
+        "{name}"
+    );
     if end == "refused" {
-        assert!(rt; is_refused(alloc, &bytes, Limits::LARGE, line.as_str(), None)?, "{name}, large");
+        assert!(rt;
+            is_refused(alloc, &bytes, Limits::LARGE, line.as_str(), None)?,
+            "{name}, large"
+        );
     } else {
         assert!(rt; ends_with(alloc, &bytes, end)?, "{name}, large");
     }

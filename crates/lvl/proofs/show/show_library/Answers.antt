@@ -13,7 +13,7 @@ pub returns-clause-shown : goal.returns-clause-shown
 returns-clause-shown c =
     let s : Settled = c.in_ok-fitted.fitted in
     let same : s ≡ c.in_ok-checked.checked = c.in_ok-fitted.ensures.same in
-    let in_range : IsInRangeAs (kept_named c.args.library (option_copied c.args.top)) s =
+    let in_range : IsInRangeAs (kept_named c.args.limits c.args.library (option_copied c.args.top)) s =
     in_range_as _ c.in_ok-checked.checked s c.in_ok-checked.ensures.checked same c.in_ok-fitted.ensures.in_range in
     let seen : c.checked-checked.result.now ≡ s = c.checked-checked.ensures.library in
     let layers : List LayerRings = c.in-Ok-rings_by_layer.layers.items in

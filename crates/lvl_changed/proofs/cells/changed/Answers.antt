@@ -63,8 +63,8 @@ loop-i-preserved c =
     let low : k < length ours = place_within ours order i k ordered hi in
     let there : slice_get known k ≡ Some (get_or known k None) =
     slice_get-get_or known k None (omega (arith, low, c.loop-i.invariant.long, c.loop-i.known.ok.0)) in
-    let mine : AreFound pairs ours theirs c.deref.result.now =
-    subst (λ xs. AreFound pairs ours theirs xs) (sym c.deref.ensures.value) c.loop-i.invariant.known in
+    let mine : AreFound pairs ours theirs c.deref-in-loop-i.result.now =
+    subst (λ xs. AreFound pairs ours theirs xs) (sym c.deref-in-loop-i.ensures.value) c.loop-i.invariant.known in
     let found : IsFound pairs ours theirs k f = c.in_ok-found.ensures.found mine in
     record {
       long = c.keep.ensures.long ∙ c.loop-i.invariant.long;

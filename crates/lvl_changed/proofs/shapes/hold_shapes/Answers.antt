@@ -1,25 +1,40 @@
-use Rattle.std.proofs.lemmas.Result.{on_ok_weaker}
-use Rattle.lvl_changed.proofs.Own.{shapes_alike}
+use Rattle.std.proofs.Common.{List, ap, subst}
+use Rattle.lvl_grid.specs.declared.point.Square.{Square}
+use Rattle.lvl_names.specs.declared.layer.Layer.{Layer}
+use Rattle.lvl_cells.specs.Cells.{PlainCell, PlainShape, Rings}
+use Rattle.lvl_changed.specs.declared.windows.Windows.{Windows}
+use Rattle.lvl_changed.specs.inside.Shapes.{ShapesCover}
+use Rattle.lvl_changed.specs.inside.Windows.{Has}
+use Rattle.lvl_changed.proofs.Leaving.{left_alike, none_alike}
+use Rattle.lvl_changed.proofs.Widening.{widens_further}
 use Rattle.lvl_changed.proofs.shapes.hold_shapes.Goals as goal
 
-pub returns-in_default-clause-held : goal.returns-in_default-clause-held
-returns-in_default-clause-held c = λ l s out. absurd (out (c.hold_anywhere.ensures s))
+-- the shapes cover nothing outside of the windows
+abbrev Misses : Windows → List (PlainShape Rings) → Type 0
+Misses w hs = (l : Layer) (s : Square) → (¬ Has w s) → ¬ ShapesCover hs l s
 
-pub returns-in_default-clause-kept : goal.returns-in_default-clause-kept
-returns-in_default-clause-kept c = record { has = λ s h. c.hold_anywhere.ensures s }
-
-pub returns-in_default-2-clause-held : goal.returns-in_default-2-clause-held
-returns-in_default-2-clause-held c = λ l s out. absurd (out (c.hold_anywhere-in_default-2.ensures s))
-
-pub returns-in_default-2-clause-kept : goal.returns-in_default-2-clause-kept
-returns-in_default-2-clause-kept c = record { has = λ s h. c.hold_anywhere-in_default-2.ensures s }
+pub returns-then-saturating_add-le-MOST_FLATTENED-clause-held : goal.returns-then-saturating_add-le-MOST_FLATTENED-clause-held
+returns-then-saturating_add-le-MOST_FLATTENED-clause-held c =
+    left_alike c.whole-whole.result.pairs c.args.view.now.pairs c.args.ours.now.shapes c.args.theirs.now.shapes
+    c.in_ok-left.left.shapes c.in_ok-their_left.their_left.shapes c.hold_flattened.new.windows
+    c.whole-whole.ensures.no_pairs c.in_ok-left.ensures c.in_ok-their_left.ensures c.in_ok-hold_flattened.ensures.held
 
 pub returns-clause-held : goal.returns-clause-held
 returns-clause-held c =
-    let ours = rw c.in-Some.is at c.in_ok-ours.ensures in
-    let theirs = rw c.in-Some-2.is at c.in_ok-theirs.ensures in
-    on_ok_weaker c.hold_flats.result
-    (λ same.
-    shapes_alike c.in-Some.ours c.in-Some-2.theirs c.in_ok-mapped.mapped c.args.ours.now.shapes c.args.theirs.now.shapes
-    c.args.view.now.pairs c.hold_flats.new.windows ours theirs c.in_ok-mapped.ensures.covers same)
-    c.hold_flats.ensures.held
+    let old : Windows = c.hold_extents.new.windows in
+    let new : Windows = c.hold_extents-2.new.windows in
+    let left : List (PlainShape Rings) = c.in_ok-left.left.shapes in
+    let other : List (PlainShape Rings) = c.in_ok-their_left.their_left.shapes in
+    let first : Misses old left =
+    subst (Misses old) (ap (λ (b : PlainCell Rings). b.shapes) c.left.view_is) c.in_ok-hold_extents.ensures.held in
+    let second : Misses new other =
+    subst (Misses new) (ap (λ (b : PlainCell Rings). b.shapes) c.their_left.view_is)
+    c.in_ok-hold_extents-2.ensures.held in
+    left_alike c.whole-whole.result.pairs c.args.view.now.pairs c.args.ours.now.shapes c.args.theirs.now.shapes left
+    other new c.whole-whole.ensures.no_pairs c.in_ok-left.ensures c.in_ok-their_left.ensures
+    (none_alike c.args.view.now.pairs left other old new c.in_ok-hold_extents-2.ensures.kept first second)
+
+pub returns-clause-kept : goal.returns-clause-kept
+returns-clause-kept c =
+    widens_further c.args.windows.now c.hold_extents.new.windows c.hold_extents-2.new.windows
+    c.in_ok-hold_extents.ensures.kept c.in_ok-hold_extents-2.ensures.kept

@@ -17,6 +17,9 @@ loop-window-init c =
     none_seen (TopCovers c.args.first.now) (IsMoved c.args.view.now.pairs (TopCovers c.args.second.now))
     c.args.group.now.span c.args.view.now.window None
 
+pub difference_within-requires-clause-lists : goal.difference_within-requires-clause-lists
+difference_within-requires-clause-lists c = c.whole-lists.ensures c.shared-part.result
+
 pub loop-window-preserved : goal.loop-window-preserved
 loop-window-preserved c =
     let a : Draws = TopCovers c.args.first.now in
@@ -29,10 +32,10 @@ loop-window-preserved c =
     let w : Window = get_or ws i none in
     let is : c.shared-part.result ≡ seen_of v w =
     subst (λ (o : Option Window). c.shared-part.result ≡ seen_of o w) c.window.ensures c.shared-part.ensures in
-    subst (λ us. IsImproved a b (on span (IsSeenIn v us)) None c.in_ok-found.found)
+    subst (λ us. IsImproved a b (on span (IsSeenIn v us)) None c.in_ok-end.end.found)
     (sym (take_more ws i none c.loop-window-test.true))
-    (window_more a b span v (take i ws) w c.shared-part.result None c.loop-window.found c.in_ok-found.found is
-    c.loop-window.invariant c.in_ok-found.ensures)
+    (window_more a b span v (take i ws) w c.shared-part.result None c.loop-window.found c.in_ok-end.end.found is
+    c.loop-window.invariant c.in_ok-end.ensures.found)
 
 pub returns : goal.returns
 returns c =

@@ -9,7 +9,7 @@ use Rattle.lvl_corners.specs.declared.mark.Mark.{Mark}
 use Rattle.lvl_corners.specs.Corners.{change_at}
 use Rattle.lvl_corners.specs.inside.Marks.{bands_net, net}
 use Rattle.lvl_corners.specs.inside.Rows.{ended_net}
-use Rattle.lvl_corners.specs.inside.Spans.{spanned}
+use Rattle.lvl_corners.specs.Spans.{spanned}
 use Rattle.lvl_corners.proofs.Changes.{bands_change, bands_bounded}
 use Rattle.lvl_corners.proofs.Nets.{net_permutation, net_filter}
 use Rattle.lvl_corners.proofs.Orders.{in_order}

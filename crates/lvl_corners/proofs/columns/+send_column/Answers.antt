@@ -5,7 +5,7 @@ use Rattle.std.proofs.lemmas.List.Elements.{All-append}
 use Rattle.lvl_grid.specs.declared.point.Square.{Square}
 use Rattle.lvl_grid.specs.Winding.{SomeCovers}
 use Rattle.lvl_corners.specs.Corners.{FitsCorner}
-use Rattle.lvl_corners.specs.inside.Spans.{AreCornersIn, left_part, right_part}
+use Rattle.lvl_corners.specs.Spans.{AreCornersIn, left_part, right_part}
 use Rattle.lvl_corners.proofs.Spans.{corners_of_halves}
 use Rattle.lvl_corners.proofs.columns.+send_column.Goals as goal
 

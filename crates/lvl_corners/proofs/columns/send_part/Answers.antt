@@ -7,7 +7,7 @@ use Rattle.lvl_grid.specs.declared.point.Square.{Square}
 use Rattle.lvl_grid.specs.Winding.{SomeCovers}
 use Rattle.lvl_grid.specs.Clip.{IsIn}
 use Rattle.lvl_corners.specs.Corners.{FitsCorner}
-use Rattle.lvl_corners.specs.inside.Spans.{AreCornersIn, left_part, right_part}
+use Rattle.lvl_corners.specs.Spans.{AreCornersIn, left_part, right_part}
 use Rattle.lvl_corners.proofs.Spans.{corners_of_halves, corners_same, half_of}
 use Rattle.lvl_corners.proofs.columns.send_part.Goals as goal
 

@@ -1,7 +1,7 @@
 use Rattle.std.proofs.Common.{subst, sym, FitsSigned, ◌∙◌, ap, ℤ, Bool, pos, ◌-ℤ◌}
 use Rattle.std.specs.Int.{w8}
 use Rattle.lvl_corners.specs.inside.Marks.{net}
-use Rattle.lvl_corners.specs.inside.Spans.{spanned}
+use Rattle.lvl_corners.specs.Spans.{spanned}
 use Rattle.lvl_corners.proofs.Totals.{corner_by_totals, spanned_fits}
 use Rattle.lvl_corners.proofs.send.send_swept.Goals as goal
 

@@ -9,7 +9,7 @@ pub returns-in-Ok-type_of : goal.returns-in-Ok-type_of
 returns-in-Ok-type_of g c =
     record {
       reads = λ rs h. next_typed rs c.in-Ok.id c.in-Ok-type_of.kind c.has_offsets_at_end.result
-          (rw c.ignore-ignore.ensures at (sym (c.in-Ok-type_of.ensures rs h)))
+          (rw c.profile-profile.ensures at (sym (c.in-Ok-type_of.ensures rs h)))
           (c.has_offsets_at_end.ensures rs h) c.in-Ok.ensures.reads
           c.read_typed.ensures.reads;
     }
@@ -18,6 +18,6 @@ pub returns-in-Err-type_of : goal.returns-in-Err-type_of
 returns-in-Err-type_of g c =
     record {
       reads = λ rs h. next_refused rs c.in-Ok.id c.in-Err-type_of.kind
-          (rw c.ignore-ignore.ensures at (sym (c.in-Err-type_of.ensures rs h)))
+          (rw c.profile-profile.ensures at (sym (c.in-Err-type_of.ensures rs h)))
           c.in-Ok.ensures.reads;
     }

@@ -21,15 +21,9 @@ returns c =
     let count = c.saturating_add-self.ensures in
     let same = c.flush_many.ensures.count in
     record {
-      bytes = record {
-        layer = λ m held. subst (λ (bs : List ℕ). HoldsWith new.layer new.pending.items (m ++ bs))
-            (sym (append-nil bytes))
-            (c.flush_many.ensures.layer (m ++ bytes) (pushed old.layer old.pending.items c.push_corner.new.bytes.items
-            bytes m c.in_ok-push_corner.ensures held));
-        mask = λ m held. subst (λ (bs : List ℕ). HoldsWith new.mask new.pending.items (m ++ bs))
-            (sym (append-nil bytes))
-            (c.flush_many.ensures.mask (m ++ bytes) (pushed old.mask old.pending.items c.push_corner.new.bytes.items
-            bytes m c.in_ok-push_corner.ensures held));
-      };
+      bytes = λ m held. subst (λ (bs : List ℕ). HoldsWith new.hasher new.pending.items (m ++ bs))
+          (sym (append-nil bytes))
+          (c.flush_many.ensures.message (m ++ bytes) (pushed old.hasher old.pending.items c.push_corner.new.bytes.items
+          bytes m c.in_ok-push_corner.ensures held));
       count = omega (arith, count, same);
     }

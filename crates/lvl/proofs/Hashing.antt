@@ -1,0 +1,190 @@
+-- The hashes of Layers, strip by strip.
+use Rattle.std.proofs.Common.{◌≡◌, ◌↔◌, ℕ, suc, ◌<◌, ◌^◌, ◌-◌, true, false, List, [], ◌∷◌, ◌++◌}
+use Rattle.std.proofs.Common.{ℤ, pos, negsuc, ◌-ℤ◌, ◌<ℤ◌, ◌≤ℤ◌, int_lt, length, take, drop, map, get_or}
+use Rattle.std.proofs.Common.{Contains, IsSomeAnd, Option, None, Some, refl, sym, ◌∙◌, ap, subst}
+use Rattle.std.proofs.Common.{arith}
+use Rattle.std.specs.Int.{saturate_signed, w64}
+use Rattle.std.proofs.Math.ListN.{length-map}
+use Rattle.std.proofs.lemmas.Int.{ints, by_lt_z}
+use Rattle.std.proofs.lemmas.List.{append-nil, get_or-map, length-drop, nil_from_length, take_all}
+use Rattle.std.proofs.lemmas.List.Elements.{All-append, Contains-get_or}
+use Rattle.lvl_grid.specs.declared.point.Square.{Square}
+use Rattle.lvl_grid.specs.declared.point.Window.{Window}
+use Rattle.lvl_grid.specs.Clip.{IsInWindow}
+use Rattle.lvl_grid.specs.Winding.{SomeCovers}
+use Rattle.lvl_names.specs.declared.layer.Layer.{Layer}
+use Rattle.lvl_cells.specs.Cells.{PlainCell, Rings}
+use Rattle.lvl_cells.specs.Checks.{Settled}
+use Rattle.lvl_cells.specs.Coverage.{CellCovers}
+use Rattle.lvl_flat.specs.Flattened.{IsFlattenedWithin, IsOfPart, TopCovers}
+use Rattle.lvl_flat.specs.Sheet.{PlainSheet}
+use Rattle.lvl_flat.specs.Sheets.{rings_on}
+use Rattle.lvl_corners.specs.declared.digest.LayerHash.{LayerHash}
+use Rattle.lvl_corners.specs.Corners.{AreCornersOf, FitsCorner}
+use Rattle.lvl_corners.specs.Digests.{HasHashed}
+use Rattle.lvl_corners.specs.Spans.{AreCornersIn, is_below}
+use Rattle.lvl_corners.proofs.Spans.{AreHalves, corners_in_all, corners_of_halves, corners_same, no_corners_in}
+use Rattle.lvl.specs.Hashes.{around, below_at, up_to, IsLeft, IsHashedTo, IsPushed}
+
+lt_test : (a b : ℤ) → a <ℤ b → int_lt a b ≡ true
+lt_test a b h = grind (arith, ints)
+
+lt_of : (a b : ℤ) → int_lt a b ≡ true → a <ℤ b
+lt_of a b h = grind (arith, ints)
+
+ge_test : (a b : ℤ) → b ≤ℤ a → int_lt a b ≡ false
+ge_test a b h = grind (arith, ints)
+
+pub below_some : (end last : ℤ) → end <ℤ last → below_at end last ≡ Some end
+below_some end last lt = rw (lt_test end last lt) refl
+
+below_none : (end last : ℤ) → last ≤ℤ end → below_at end last ≡ None
+below_none end last ge = rw (ge_test end last ge) refl
+
+-- what is left of the end of a strip
+below_left : (end last z : ℤ) → z <ℤ end → is_below (below_at end last) z ≡ true
+below_left end last z lt =
+    by_lt_z end last
+    (λ more. subst (λ o. is_below o z ≡ true) (sym (below_some end last more)) (lt_test z end lt))
+    (λ all. subst (λ o. is_below o z ≡ true) (sym (below_none end last all)) refl)
+
+left_below : (end last z : ℤ) → z <ℤ last → is_below (below_at end last) z ≡ true → z <ℤ end
+left_below end last z lt h =
+    by_lt_z end last
+    (λ more. lt_of z end (subst (λ o. is_below o z ≡ true) (below_some end last more) h))
+    (λ all. omega (arith, ints, lt, all))
+
+saturated_from : (z : ℤ) → z ≤ℤ pos (2 ^ 63 - 1) → z ≤ℤ saturate_signed w64 z
+saturated_from (pos n) h = omega (arith, ints, h)
+saturated_from (negsuc n) h = omega (arith, ints, h)
+
+saturated_to : (z v : ℤ) → z ≤ℤ v → negsuc (2 ^ 63 - 1) ≤ℤ v → saturate_signed w64 z ≤ℤ v
+saturated_to (pos n) v h low = omega (arith, ints, h, low)
+saturated_to (negsuc n) v h low = omega (arith, ints, h, low)
+
+-- the window has all that the top covers
+abbrev pub HasAll : Settled → Window → Type 0
+HasAll s w = (layer : Layer) (q : Square) → TopCovers s layer q → IsInWindow w q
+
+-- the rings of a Layer that was flattened cover what the top covers there in the window
+covers_within : (s : Settled) (layers : List Layer) (w : Window) (f : List PlainSheet) → IsFlattenedWithin s layers w f
+    → (layer : Layer) (q : Square)
+    → SomeCovers (rings_on layer f) q ↔ (IsOfPart layers w layer q × TopCovers s layer q)
+covers_within s layers w f flat layer q =
+    let P : PlainCell Rings → Type 0 = λ top. CellCovers SomeCovers s.cells layer top q in
+    let both = flat.covers layer q in (
+      λ a. let c = both.0 a in (c.0, subst (λ o. IsSomeAnd o P) (sym flat.is_top) c.1),
+      λ b. both.1 (b.0, subst (λ o. IsSomeAnd o P) flat.is_top b.1),
+    )
+
+-- nothing is left of a window, and nothing is in it if it has no columns
+pub hashed_none : (s : Settled) (w : Window) (h : LayerHash) → HasAll s w → HasHashed h []
+    → IsHashedTo s (below_at w.x0 w.x1) h
+hashed_none s w h all hashed = record {
+  corners = [];
+  are = no_corners_in (IsLeft (below_at w.x0 w.x1) (TopCovers s h.layer)) (up_to (below_at w.x0 w.x1)) (λ q left.
+      let there = all h.layer q left.1 in
+      let low = there.x_from in
+      let lt = left_below w.x0 w.x1 q.x there.x_below left.0 in
+      absurd (omega (arith, ints, low, lt)));
+  fits = λ i d lt. absurd (omega (arith, lt));
+  hashed = hashed;
+}
+
+-- the parts of what a Layer covers that a strip adds to
+strip_halves : (s : Settled) (layers : List Layer) (w : Window) (f : List PlainSheet) (layer : Layer)
+    → (from end : ℤ) → HasAll s w → negsuc (2 ^ 63 - 1) ≤ℤ w.x0 → from ≤ℤ pos (2 ^ 63 - 1) → Contains layers layer
+    → from <ℤ end → end ≤ℤ w.x1 → IsFlattenedWithin s layers (around w from end) f
+    → AreHalves (IsLeft (below_at end w.x1) (TopCovers s layer)) (IsLeft (Some from) (TopCovers s layer))
+    (SomeCovers (rings_on layer f)) from
+strip_halves s layers w f layer from end all low high listed further inside flat =
+    let covers = covers_within s layers (around w from end) f flat layer in
+    record {
+      left = λ q. (
+        λ l.
+            let lt = lt_of q.x from l.0 in
+            (lt, (below_left end w.x1 q.x (omega (arith, ints, lt, further)), l.1)),
+        λ both. (lt_test q.x from both.0, both.1.1),
+      );
+      right = λ q. (
+        λ r.
+            let c = (covers q).0 r in
+            let x_from = c.0.1.x_from in
+            let least = saturated_from (from -ℤ pos 1) (omega (arith, ints, high)) in
+            (omega (arith, ints, x_from, least), (below_left end w.x1 q.x c.0.1.x_below, c.1)),
+        λ both.
+            let there = all layer q both.1.1 in
+            let x_from = there.x_from in
+            let ge = both.0 in
+            let x_low : negsuc (2 ^ 63 - 1) ≤ℤ q.x = omega (arith, ints, low, x_from) in
+            let columns : IsInWindow (around w from end) q = record {
+              x_from = saturated_to (from -ℤ pos 1) q.x ge x_low;
+              x_below = left_below end w.x1 q.x there.x_below both.1.0;
+              y_from = there.y_from;
+              y_below = there.y_below;
+            } in
+            (covers q).1 ((listed, columns), both.1.1),
+      );
+    }
+
+-- the hash has taken one more strip
+pub hashed_strip : (s : Settled) (layers : List Layer) (w : Window) (f : List PlainSheet) (old new : LayerHash)
+    → (from end : ℤ) → HasAll s w → negsuc (2 ^ 63 - 1) ≤ℤ w.x0 → from ≤ℤ pos (2 ^ 63 - 1)
+    → Contains layers old.layer → from <ℤ end → end ≤ℤ w.x1 → IsFlattenedWithin s layers (around w from end) f
+    → IsHashedTo s (Some from) old → IsPushed f (record { from = Some from; below = below_at end w.x1 }) old new
+    → IsHashedTo s (below_at end w.x1) new
+hashed_strip s layers w f old new from end all low high listed further inside flat h p =
+    let o : Option ℤ = below_at end w.x1 in
+    let C : Layer → Square → Type 0 = λ layer. IsLeft o (TopCovers s layer) in
+    record {
+      corners = h.corners ++ p.corners;
+      are =
+          subst (λ (layer : Layer). AreCornersIn (C layer) (up_to o) (h.corners ++ p.corners)) (sym p.layer)
+          (corners_of_halves (C old.layer) (IsLeft (Some from) (TopCovers s old.layer))
+          (SomeCovers (rings_on old.layer f)) (up_to o) from h.corners p.corners
+          (strip_halves s layers w f old.layer from end all low high listed further inside flat)
+          (below_left end w.x1 from further) h.are p.are);
+      fits = All-append FitsCorner h.corners p.corners h.fits p.fits;
+      hashed = p.hashes h.corners h.hashed;
+    }
+
+-- the Layer of a hash at an index is listed
+pub listed_at : (layers : List Layer) (hashes : List LayerHash) (k : ℕ) (h : LayerHash)
+    → map (λ (h : LayerHash). h.layer) hashes ≡ layers → k < length hashes
+    → Contains layers (get_or hashes k h).layer
+listed_at layers hashes k h are lt =
+    let f : LayerHash → Layer = λ (h : LayerHash). h.layer in
+    let far : k < length (map f hashes) = omega (arith, lt, length-map {A = LayerHash} {B = Layer}) in
+    subst (λ (ls : List Layer). Contains ls (get_or hashes k h).layer) are
+    (subst (Contains (map f hashes)) (get_or-map f hashes k h h.layer lt) (Contains-get_or (map f hashes) k h.layer
+    far))
+
+-- a list that was written in place
+pub written : {A : Type 0} (n : ℕ) (new old : List A) → length new ≡ length old → n ≡ length old
+    → take n (new ++ drop (length new) old) ≡ new
+written {A} n new old same is =
+    let gone : drop (length new) old ≡ [] = nil_from_length (drop (length new) old) (omega (
+      arith,
+      length-drop (length new) old,
+      same,
+    )) in
+    ap (λ (rest : List A). take n (new ++ rest)) gone
+    ∙ (ap (take n) (append-nil new) ∙ take_all n new (omega (arith, same, is)))
+
+pub same_layers : (old new : List LayerHash) → length new ≡ length old
+    → ((k : ℕ) (h : LayerHash) → k < length old → (get_or new k h).layer ≡ (get_or old k h).layer)
+    → map (λ (h : LayerHash). h.layer) new ≡ map (λ (h : LayerHash). h.layer) old
+same_layers [] [] same each = refl
+same_layers [] (n ∷ new) same each = absurd (omega (arith, same))
+same_layers (o ∷ old) [] same each = absurd (omega (arith, same))
+same_layers (o ∷ old) (n ∷ new) same each =
+    let first : n.layer ≡ o.layer = each 0 o (omega arith) in
+    let rest = same_layers old new (omega (arith, same)) (λ k h lt. each (suc k) h (omega (arith, lt))) in
+    rw (first, rest) refl
+
+-- when no columns are left, the hash has taken all corners
+pub hashed_all : (s : Settled) (h : LayerHash) (to : IsHashedTo s None h) → AreCornersOf (TopCovers s h.layer) to.corners
+hashed_all s h to =
+    let P : Square → Type 0 = TopCovers s h.layer in
+    corners_in_all P to.corners (corners_same (IsLeft None P) P (up_to None) to.corners (λ q. (λ l. l.1, λ p. (refl, p)))
+    to.are)

@@ -1,0 +1,275 @@
+-- Shapes that are left over, and what their rings cover.
+use Rattle.std.proofs.Common.{◌≡◌, ◌↔◌, ◌⊎◌, ◌<◌, ◌≤◌, ◌+◌, ◌++◌, ◌∷◌, [], ℕ, List, Any, All, take, length, get_or, inl, inr}
+use Rattle.std.proofs.Common.{refl, sym, ap, ◌∙◌, subst, arith, ◌+ℤ◌}
+use Rattle.std.proofs.lemmas.Int.{ints}
+use Rattle.std.proofs.lemmas.List.{take_more, take_all, get_or_default}
+use Rattle.lvl_grid.specs.declared.point.Point.{Point}
+use Rattle.lvl_grid.specs.declared.point.Square.{Square}
+use Rattle.lvl_grid.specs.declared.point.Window.{Window}
+use Rattle.lvl_grid.specs.Clip.{IsInWindow}
+use Rattle.lvl_grid.specs.Winding.{Covers, SomeCovers}
+use Rattle.lvl_grid.proofs.Anyone.{some_contained, Any-nil, Any-push, Any-uncons, Any-head}
+use Rattle.lvl_names.specs.declared.layer.Layer.{Layer}
+use Rattle.lvl_names.specs.Shifts.{IsBetween}
+use Rattle.lvl_cells.specs.Cells.{PlainShape, Rings, shape_at}
+use Rattle.lvl_cells.specs.Coverage.{moved_back, ShapeCovers}
+use Rattle.lvl_flat.specs.Boxes.{HoldsPoint}
+use Rattle.lvl_flat.proofs.Outside.{ring_square, square_window}
+use Rattle.lvl_view.specs.declared.map.LayerPair.{LayerPair}
+use Rattle.lvl_view.specs.Moved.{IsMoved}
+use Rattle.lvl_view.specs.Views.{target_of}
+use Rattle.lvl_changed.specs.declared.windows.Windows.{Windows}
+use Rattle.lvl_changed.specs.inside.Figures.{AreAlike, AreLeft, HasAlike}
+use Rattle.lvl_changed.specs.inside.Shapes.{corners, HasMoved, ShapesCover}
+use Rattle.lvl_changed.specs.inside.Windows.{AlikeOutside, Has, Widens}
+use Rattle.lvl_changed.proofs.Unchanged.{moved_none}
+
+-- the shape with these rings covers the square
+abbrev pub RingsCover : PlainShape Rings → Rings → Layer → Square → Type 0
+RingsCover h rings layer s =
+    ShapeCovers SomeCovers layer s (record { layer = h.layer; figure = rings; shifts = h.shifts })
+
+pub no_rings : (h : PlainShape Rings) (l : Layer) (s : Square) → RingsCover h [] l s → ⊥
+no_rings h l s c =
+    let at = c.1 in
+    Any-nil (λ (r : List Point). Covers r (moved_back at.1 s)) at.4
+
+pub rings_more : (h : PlainShape Rings) (rings : Rings) (j : ℕ) (r : List Point) (l : Layer) (s : Square)
+    → j < length rings → r ≡ get_or rings j []
+    → RingsCover h (take (j + 1) rings) l s ↔ (RingsCover h (take j rings) l s ⊎ RingsCover h (r ∷ []) l s)
+rings_more h rings j r l s low is =
+    let one : List Point = get_or rings j [] in
+    let more : take (j + 1) rings ≡ take j rings ++ one ∷ [] = take_more rings j [] low in
+    let P : Square → List Point → Type 0 = λ q ring. Covers ring q in
+    let wide : RingsCover h (take j rings ++ one ∷ []) l s
+    ↔ (RingsCover h (take j rings) l s ⊎ RingsCover h (one ∷ []) l s) = (
+      λ c.
+          let at = c.1 in
+          elim ((Any-push (P (moved_back at.1 s)) (take j rings) one).0 at.4) [
+            | inl b ↦ inl (c.0, (at.0, at.1, at.2, at.3, b))
+            | inr b ↦ inr (c.0, (at.0, at.1, at.2, at.3, Any-head (P (moved_back at.1 s)) one [] b))
+          ],
+      λ e. elim e [
+        | inl c ↦
+            let at = c.1 in (
+              c.0,
+              (at.0, at.1, at.2, at.3, (Any-push (P (moved_back at.1 s)) (take j rings) one).1 (inl at.4)),
+            )
+        | inr c ↦
+            let at = c.1 in
+            let b : Covers one (moved_back at.1 s) =
+            elim (Any-uncons (P (moved_back at.1 s)) one [] at.4)
+            [ inl d ↦ d | inr d ↦ absurd (Any-nil (P (moved_back at.1 s)) d) ] in (
+              c.0,
+              (at.0, at.1, at.2, at.3, (Any-push (P (moved_back at.1 s)) (take j rings) one).1 (inr b)),
+            )
+      ],
+    ) in
+    subst (λ rs. RingsCover h rs l s ↔ (RingsCover h (take j rings) l s ⊎ RingsCover h (r ∷ []) l s)) (sym more)
+    (subst
+    (λ (ring : List Point). RingsCover h (take j rings ++ one ∷ []) l s
+    ↔ (RingsCover h (take j rings) l s ⊎ RingsCover h (ring ∷ []) l s)) (sym is) wide)
+
+-- a ring is added as a shape of its own
+pub ring_pushed : (first old new : List (PlainShape Rings)) (h : PlainShape Rings) (rings : Rings) (j : ℕ)
+    (r : List Point) (l : Layer) (s : Square) → j < length rings → r ≡ get_or rings j []
+    → new ≡ old ++ record { layer = h.layer; figure = r ∷ []; shifts = h.shifts } ∷ []
+    → ShapesCover old l s ↔ (ShapesCover first l s ⊎ RingsCover h (take j rings) l s)
+    → ShapesCover new l s ↔ (ShapesCover first l s ⊎ RingsCover h (take (j + 1) rings) l s)
+ring_pushed first old new h rings j r l s low is pushed before =
+    let P : PlainShape Rings → Type 0 = ShapeCovers SomeCovers l s in
+    let one : PlainShape Rings = record { layer = h.layer; figure = r ∷ []; shifts = h.shifts } in
+    let more = rings_more h rings j r l s low is in
+    let push = Any-push P old one in
+    subst
+    (λ hs. ShapesCover hs l s ↔ (ShapesCover first l s ⊎ RingsCover h (take (j + 1) rings) l s)) (sym pushed) (
+      λ c. elim (push.0 c) [
+        | inl b ↦ elim (before.0 b) [ inl d ↦ inl d | inr d ↦ inr (more.1 (inl d)) ]
+        | inr b ↦ inr (more.1 (inr b))
+      ],
+      λ e. push.1 (elim e [
+        | inl b ↦ inl (before.1 (inl b))
+        | inr b ↦ elim (more.0 b) [ inl d ↦ inl (before.1 (inr d)) | inr d ↦ inr d ]
+      ]),
+    )
+
+-- the shapes up to an index, with one more
+pub shapes_more : (hs : List (PlainShape Rings)) (i : ℕ) (l : Layer) (s : Square) → i < length hs
+    → ShapesCover (take (i + 1) hs) l s
+    ↔ (ShapesCover (take i hs) l s ⊎ ShapeCovers SomeCovers l s (shape_at hs i))
+shapes_more hs i l s low =
+    let P : PlainShape Rings → Type 0 = ShapeCovers SomeCovers l s in
+    let none : PlainShape Rings = record { layer = record { layer = 0; datatype = 0 }; figure = []; shifts = [] } in
+    subst (λ xs. Any P xs ↔ (ShapesCover (take i hs) l s ⊎ P (shape_at hs i))) (sym (take_more hs i none low))
+    (Any-push P (take i hs) (shape_at hs i))
+
+-- a shape that others have covers under the map what they do
+alike_covers : (pairs others : List LayerPair) (xs ys : List (PlainShape Rings)) (i j : ℕ) (l : Layer) (s : Square)
+    → AreAlike pairs xs i others ys j → IsMoved pairs (λ k q. ShapeCovers SomeCovers k q (shape_at xs i)) l s
+    → IsMoved others (ShapesCover ys) l s
+alike_covers pairs others xs ys i j l s same m =
+    let h : PlainShape Rings = shape_at xs i in
+    let g : PlainShape Rings = shape_at ys j in
+    let layer : h.layer ≡ m.source = m.covers.0 in
+    let target : target_of others g.layer ≡ l =
+    sym same.layer ∙ (ap (target_of pairs) layer ∙ m.is_target) in
+    let figure : Any (λ e. SomeCovers g.figure (moved_back e s)) h.shifts =
+    subst (λ (f : Rings). Any (λ e. SomeCovers f (moved_back e s)) h.shifts) same.figure m.covers.1 in
+    let shifts : Any (λ e. SomeCovers g.figure (moved_back e s)) g.shifts =
+    subst (λ (es : List Point). Any (λ e. SomeCovers g.figure (moved_back e s)) es) same.shifts figure in
+    record {
+      source = g.layer;
+      is_target = target;
+      covers =
+          some_contained (ShapeCovers SomeCovers g.layer s) ys g (
+            j,
+            same.within,
+            get_or_default ys j g (record {
+              layer = record { layer = 0; datatype = 0 };
+              figure = [];
+              shifts = [];
+            }) same.within,
+          ) (refl, shifts);
+    }
+
+-- no shapes are left of none
+pub left_none : (pairs others : List LayerPair) (ys : List (PlainShape Rings)) → AreLeft pairs [] others ys []
+left_none pairs others ys = record {
+  inside = λ l s c. c;
+  held = λ l s m. inl m;
+}
+
+-- one more shape that others have
+pub left_among : (pairs others : List LayerPair) (xs ys left : List (PlainShape Rings)) (i : ℕ) → i < length xs
+    → HasAlike pairs xs i others ys → AreLeft pairs (take i xs) others ys left
+    → AreLeft pairs (take (i + 1) xs) others ys left
+left_among pairs others xs ys left i low has before = record {
+  inside = λ l s c. (shapes_more xs i l s low).1 (inl (before.inside l s c));
+  held = λ l s m. elim ((shapes_more xs i m.source s low).0 m.covers) [
+    | inl c ↦ before.held l s (record { source = m.source; is_target = m.is_target; covers = c })
+    | inr c ↦
+        inr (alike_covers pairs others xs ys i has.0 l s has.1
+        (record { source = m.source; is_target = m.is_target; covers = c }))
+  ];
+}
+
+-- one more shape that is left
+pub left_more : (pairs others : List LayerPair) (xs ys old new : List (PlainShape Rings)) (i : ℕ) → i < length xs
+    → ((l : Layer) (s : Square) → ShapesCover new l s
+    ↔ (ShapesCover old l s ⊎ ShapeCovers SomeCovers l s (shape_at xs i)))
+    → AreLeft pairs (take i xs) others ys old → AreLeft pairs (take (i + 1) xs) others ys new
+left_more pairs others xs ys old new i low adds before = record {
+  inside = λ l s c.
+      (shapes_more xs i l s low).1
+      (elim ((adds l s).0 c) [ inl b ↦ inl (before.inside l s b) | inr b ↦ inr b ]);
+  held = λ l s m. elim ((shapes_more xs i m.source s low).0 m.covers) [
+    | inl c ↦
+        elim (before.held l s (record { source = m.source; is_target = m.is_target; covers = c })) [
+          | inl n ↦
+              inl
+              (record { source = n.source; is_target = n.is_target; covers = (adds n.source s).1 (inl n.covers) })
+          | inr n ↦ inr n
+        ]
+    | inr c ↦
+        inl (record { source = m.source; is_target = m.is_target; covers = (adds m.source s).1 (inr c) })
+  ];
+}
+
+-- if what is left covers the same outside of windows, the shapes do
+pub left_alike : (none pairs : List LayerPair) (xs ys left other : List (PlainShape Rings)) (w : Windows) → none ≡ []
+    → AreLeft none xs pairs ys left → AreLeft pairs ys none xs other
+    → AlikeOutside w (ShapesCover left) (IsMoved pairs (ShapesCover other))
+    → AlikeOutside w (ShapesCover xs) (IsMoved pairs (ShapesCover ys))
+left_alike none pairs xs ys left other w is first second same l s out = (
+  λ c.
+      elim (first.held l s ((moved_none none is (ShapesCover xs) l s).1 c)) [
+        | inl m ↦
+            let n = (same l s out).0 ((moved_none none is (ShapesCover left) l s).0 m) in
+            record { source = n.source; is_target = n.is_target; covers = second.inside n.source s n.covers }
+        | inr m ↦ m
+      ],
+  λ m.
+      elim (second.held l s m) [
+        | inl n ↦ first.inside l s ((same l s out).1 n)
+        | inr n ↦ (moved_none none is (ShapesCover xs) l s).0 n
+      ],
+)
+
+-- if neither covers anything outside of windows
+pub none_alike : (pairs : List LayerPair) (xs ys : List (PlainShape Rings)) (old w : Windows) → Widens old w
+    → ((l : Layer) (s : Square) → (¬ Has old s) → ¬ ShapesCover xs l s)
+    → ((l : Layer) (s : Square) → (¬ Has w s) → ¬ ShapesCover ys l s)
+    → AlikeOutside w (ShapesCover xs) (IsMoved pairs (ShapesCover ys))
+none_alike pairs xs ys old w wide first second l s out = (
+  λ c. absurd (first l s (λ h. out (wide.has s h)) c),
+  λ m. absurd (second m.source s out m.covers),
+)
+
+-- a ring between two corners is in their window, and moved in the window moved by the shifts' reach
+pub ring_moved : (ring : List Point) (least greatest low high a b : Point) → All (IsBetween least greatest) ring
+    → a ≡ record { x = least.x +ℤ low.x; y = least.y +ℤ low.y }
+    → b ≡ record { x = greatest.x +ℤ high.x; y = greatest.y +ℤ high.y }
+    → HasMoved ring low high (IsInWindow (record { x0 = a.x; y0 = a.y; x1 = b.x; y1 = b.y }))
+ring_moved ring least greatest low high a b all is_a is_b e s between covers =
+    let w : Window = record { x0 = least.x; y0 = least.y; x1 = greatest.x; y1 = greatest.y } in
+    let held : All (HoldsPoint (corners w)) ring =
+    λ i d lt.
+    let p = all i d lt in
+    record { left = p.left; right = p.right; below = p.below; above = p.above } in
+    let h : IsInWindow w (moved_back e s) =
+    square_window (corners w) (moved_back e s) (ring_square (corners w) ring (moved_back e s) held covers) in
+    subst
+    (λ (p : Point). IsInWindow (record { x0 = p.x; y0 = p.y; x1 = b.x; y1 = b.y }) s) (sym is_a)
+    (subst
+    (λ (q : Point). IsInWindow
+    (record { x0 = least.x +ℤ low.x; y0 = least.y +ℤ low.y; x1 = q.x; y1 = q.y }) s) (sym is_b)
+    (record {
+      x_from = omega (arith, ints, h.x_from, between.left);
+      x_below = omega (arith, ints, h.x_below, between.right);
+      y_from = omega (arith, ints, h.y_from, between.below);
+      y_below = omega (arith, ints, h.y_below, between.above);
+    }))
+
+-- windows that have a ring at all shifts of its shape
+pub ring_outside : (h : PlainShape Rings) (r : List Point) (low high : Point) (w : Windows)
+    → All (IsBetween low high) h.shifts → HasMoved r low high (Has w) → (l : Layer) (s : Square) → (¬ Has w s)
+    → RingsCover h (r ∷ []) l s → ⊥
+ring_outside h r low high w all has l s out c =
+    let at = c.1 in
+    let covers : Covers r (moved_back at.1 s) =
+    elim (Any-uncons (λ (q : List Point). Covers q (moved_back at.1 s)) r [] at.4)
+    [ inl d ↦ d | inr d ↦ absurd (Any-nil (λ (q : List Point). Covers q (moved_back at.1 s)) d) ] in
+    out (has at.1 s (subst (IsBetween low high) at.3 (all at.0 at.1 at.2)) covers)
+
+-- without rings
+pub rings_none : (hs : List (PlainShape Rings)) (h : PlainShape Rings) (l : Layer) (s : Square)
+    → ShapesCover hs l s ↔ (ShapesCover hs l s ⊎ RingsCover h [] l s)
+rings_none hs h l s = (λ c. inl c, λ e. elim e [ inl c ↦ c | inr c ↦ absurd (no_rings h l s c) ])
+
+-- and with all of them
+pub all_rings : (first new : List (PlainShape Rings)) (h : PlainShape Rings) (j : ℕ) (l : Layer) (s : Square)
+    → length h.figure ≤ j → ShapesCover new l s ↔ (ShapesCover first l s ⊎ RingsCover h (take j h.figure) l s)
+    → ShapesCover new l s ↔ (ShapesCover first l s ⊎ ShapeCovers SomeCovers l s h)
+all_rings first new h j l s long is =
+    subst (λ (rs : Rings). ShapesCover new l s ↔ (ShapesCover first l s ⊎ RingsCover h rs l s))
+    (take_all j h.figure long) is
+
+-- windows that have a shape's rings up to an index, with one more
+pub ring_held : (h : PlainShape Rings) (rings : Rings) (j : ℕ) (r : List Point) (low high : Point) (old new : Windows)
+    → j < length rings → r ≡ get_or rings j [] → All (IsBetween low high) h.shifts → Widens old new
+    → HasMoved r low high (Has new)
+    → ((l : Layer) (s : Square) → (¬ Has old s) → ¬ RingsCover h (take j rings) l s) → (l : Layer) (s : Square)
+    → (¬ Has new s) → RingsCover h (take (j + 1) rings) l s → ⊥
+ring_held h rings j r low high old new inside is all wide has before l s out c =
+    elim ((rings_more h rings j r l s inside is).0 c) [
+      | inl b ↦ before l s (λ x. out (wide.has s x)) b
+      | inr b ↦ ring_outside h r low high new all has l s out b
+    ]
+
+-- and the shapes up to an index
+pub shape_held : (hs : List (PlainShape Rings)) (i : ℕ) (old new : Windows) → i < length hs → Widens old new
+    → ((l : Layer) (s : Square) → (¬ Has new s) → ¬ ShapeCovers SomeCovers l s (shape_at hs i))
+    → ((l : Layer) (s : Square) → (¬ Has old s) → ¬ ShapesCover (take i hs) l s) → (l : Layer) (s : Square)
+    → (¬ Has new s) → ShapesCover (take (i + 1) hs) l s → ⊥
+shape_held hs i old new low wide here before l s out c =
+    elim ((shapes_more hs i l s low).0 c) [ inl b ↦ before l s (λ x. out (wide.has s x)) b | inr b ↦ here l s out b ]

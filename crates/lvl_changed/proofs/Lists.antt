@@ -1,0 +1,48 @@
+-- Lists, one element further.
+use Rattle.std.proofs.Common.{◌≡◌, ◌+◌, ◌++◌, ◌∷◌, [], ℕ, List, Option, Some, None, take, slice_get, sym, ap, ◌∙◌, subst}
+use Rattle.std.proofs.Common.{◌≢◌, ◌<◌, ◌⊎◌, inl, inr, Contains, get_or, set, length, refl, arith}
+use Rattle.std.proofs.lemmas.Bool.{cases_lt}
+use Rattle.std.proofs.lemmas.List.{length-set, get_or-set_same, get_or-set_other}
+use Rattle.std.specs.Prelude.{IfSome}
+use Rattle.std.proofs.lemmas.List.{take_more}
+use Rattle.std.proofs.lemmas.Option.{slice_get_within, get_or_from_slice_get}
+
+pub take_next : {X : Type 0} (xs : List X) (k : ℕ) (x : X) → slice_get xs k ≡ Some x
+    → take (k + 1) xs ≡ take k xs ++ x ∷ []
+take_next {X} xs k x at =
+    take_more xs k x (slice_get_within xs k x at)
+    ∙ ap (λ (y : X). take k xs ++ y ∷ []) (get_or_from_slice_get xs k x x at)
+
+-- what holds of one value holds of the value of an option, if it is this one
+pub if_same : {X : Type 0} (P : X → Type 0) (o : Option X) (x : X) → P x → IfSome o (λ y. y ≡ x) → IfSome o P
+if_same P None x p is = tt
+if_same P (Some y) x p is = subst P (sym is) p
+
+-- a list of one element
+pub one_element : {X : Type 0} (xs : List X) → length xs ≡ 1 → (x : X) × (xs ≡ x ∷ [])
+one_element [] h = absurd (omega (arith, h))
+one_element (x ∷ []) h = (x, refl)
+one_element (x ∷ y ∷ zs) h = absurd (omega (arith, h))
+
+-- a list with one element changed has the new one
+pub set_has : {X : Type 0} (xs : List X) (i : ℕ) (y : X) → i < length xs → Contains (set xs i y) y
+set_has xs i y low = (i, omega (arith, low, length-set xs i y), get_or-set_same xs i y y low)
+
+set_other : {X : Type 0} (xs : List X) (i : ℕ) (y x : X) (c : Contains xs x) → c.0 ≢ i → Contains (set xs i y) x
+set_other xs i y x c apart =
+    (c.0, omega (arith, c.1, length-set xs i y), get_or-set_other xs i c.0 y x apart ∙ c.2)
+
+-- and all others
+pub set_keeps : {X : Type 0} (xs : List X) (i : ℕ) (y x : X) → Contains xs x
+    → (x ≡ get_or xs i x) ⊎ Contains (set xs i y) x
+set_keeps xs i y x c =
+    elim (cases_lt c.0 i) [
+      | inl lt ↦ inr (set_other xs i y x c (omega (arith, lt)))
+      | inr ge ↦
+          elim (cases_lt i c.0) [
+            | inl gt ↦ inr (set_other xs i y x c (omega (arith, gt)))
+            | inr le ↦
+                let one : c.0 ≡ i = omega (arith, ge, le) in
+                inl (subst (λ j. x ≡ get_or xs j x) one (sym c.2))
+          ]
+    ]

@@ -1,0 +1,180 @@
+//! Arrays: cells that are placed, each at all of a list of shifts.
+ghost use Rattle.std.specs.Prelude.{◌≡◌, ◌<◌, ◌↔◌, length, Contains, IsTrue, IfOk, IfSome};
+ghost use Rattle.lvl_cells.specs.Checks.{HasReference};
+ghost use Rattle.lvl_flat.specs.Placing.{IsPlacing};
+ghost use Rattle.lvl_changed.specs.declared.arrays.Array.{Array as PlainArray};
+ghost use Rattle.lvl_changed.specs.inside.Arrays.{as_reference, CoversSame, IsArrayOf, IsReordered, IsThrough, IsWrapper};
+
+use crate::lattices::{reordered, sums};
+use crate::shifts::{are_same, moved};
+use crate::spots::{AtSpot, Spot};
+use lvl_cells::{Checked, KeptReference};
+use lvl_grid::Map;
+use lvl_names::Offsets;
+use std::alloc::AllocError;
+
+/// The greatest number of wrappers within one another that are seen through.
+const MOST_WRAPPERS: u64 = 64;
+
+/// A cell, by its index, and a map that places it, moved by each of the shifts.
+#[derive(Drop)]
+pub(crate) struct Array {
+    pub cell: usize,
+    pub by: Map,
+    pub shifts: Offsets,
+}
+
+/// The cell at the index `cell`, placed as the reference places its cell.
+fn placing(reference: &KeptReference<'_>, cell: usize) -> Result<Array, AllocError>
+    ensures { IfOk result (λ array. array ≡ record {
+      cell = cell;
+      by = record { flip = reference.now.flip; turn = reference.now.turn; at = reference.now.at };
+      shifts = reference.now.shifts;
+    }) }
+{
+    let by = Map {
+        flip: reference.flip(),
+        turn: reference.turn(),
+        at: reference.at(),
+    };
+    let shifts = reference.shifts().clone()?;
+    Ok(Array { cell, by, shifts })
+}
+
+/// What reference `j` of a cell places, without looking into the cell that it places.
+fn reference_at(checked: &Checked, cell: usize, j: usize) -> Result<Array, AllocError>
+    requires cell { cell < length checked.now.cells }
+    requires reference { HasReference checked.now.cells cell j }
+    ensures { IfOk result (IsArrayOf checked.now.cells cell j) }
+{
+    let target = checked.target_of(cell, j);
+    let parent = &checked.cells()[cell];
+    placing(&parent.references.reference(j), target)
+}
+
+/// Whether a cell has no shapes and one reference.
+fn is_wrapper(checked: &Checked, cell: usize) -> bool
+    ensures { IsTrue result → IsWrapper checked.now.cells cell }
+{
+    let Some(found) = checked.cells().get(cell) else {
+        return false;
+    };
+    if !found.shapes.is_empty() {
+        return false;
+    }
+    found.references.len() == 1
+}
+
+/// What the array of a wrapper places through it, or None if it can't be kept as one array.
+fn inner_of(array: &Array, inner: &Array) -> Result<Option<Array>, AllocError>
+    ensures { IfOk result (λ found. IfSome found (IsThrough array.now inner.now)) }
+{
+    let Some(by) = array.by.then(&inner.by) else {
+        return Ok(None);
+    };
+    let found = sums(&array.shifts, &inner.shifts, &array.by)?;
+    let Some(shifts) = found else {
+        return Ok(None);
+    };
+    let cell = inner.cell;
+    Ok(Some(Array { cell, by, shifts }))
+}
+
+/// What an array places through its cell, if that is a wrapper, or None if it isn't, or if this
+/// can't be kept as one array.
+fn through(checked: &Checked, array: &Array) -> Result<Option<Array>, AllocError>
+    ensures { IfOk result (λ found. IfSome found (CoversSame checked.now.cells array.now)) }
+{
+    if !is_wrapper(checked, array.cell) {
+        return Ok(None);
+    }
+    let inner = reference_at(checked, array.cell, 0)?;
+    inner_of(array, &inner)
+}
+
+/// The array with the steps of its lattice in their order.
+fn in_order(array: Array) -> Array
+    ensures { IsReordered array result }
+{
+    let Some(shifts) = reordered(&array.shifts) else {
+        return array;
+    };
+    let Array { cell, by, .. } = array;
+    Array { cell, by, shifts }
+}
+
+/// What reference `j` of a cell places. A cell that has no shapes and one reference, as a row of
+/// cells, is seen through: what it places is taken as placed by the reference. The steps of a lattice are in an
+/// order of their own.
+pub(crate) fn array_of(checked: &Checked, cell: usize, j: usize) -> Result<Array, AllocError>
+    requires cell { cell < length checked.now.cells }
+    requires reference { HasReference checked.now.cells cell j }
+    ensures { IfOk result (IsArrayOf checked.now.cells cell j) }
+{
+    let mut array = reference_at(checked, cell, j)?;
+    for _ in 0..MOST_WRAPPERS {
+        match through(checked, &array)? {
+            Some(inner) => array = inner,
+            None => return Ok(in_order(array)),
+        }
+    }
+    Ok(in_order(array))
+}
+
+impl Array {
+    /// The map by which the cell is placed at the shift of this index, or None if there is none, or
+    /// if its place is outside 64 signed bits.
+    pub(crate) fn place(&self, k: u64) -> Option<Map>
+        ensures { IfSome result (IsPlacing (as_reference self.now) k) }
+    {
+        let Map { flip, turn, at } = self.by;
+        let at = moved(self.shifts.at(k)?, at)?;
+        Some(Map { flip, turn, at })
+    }
+
+    /// What arrays are sorted by. Different arrays can have the same key.
+    fn key(&self) -> (usize, Spot) {
+        (self.cell, self.spot())
+    }
+
+    /// Whether both place the same cell by the same map at the same shifts.
+    fn is_same(&self, other: &Array) -> bool
+        ensures { IsTrue result → self.now ≡ other.now }
+    {
+        if self.cell != other.cell {
+            return false;
+        }
+        if self.by == other.by {
+            return are_same(&self.shifts, &other.shifts);
+        }
+        false
+    }
+}
+
+/// Sorts arrays by their keys.
+pub(crate) fn sort_arrays(arrays: &mut Vec<Array>)
+    ensures { (array : PlainArray) → Contains arrays.old.items array ↔ Contains arrays.new.items array }
+{
+    arrays.sort_unstable_by_key(|array| array.key());
+}
+
+/// The index of the first array, from index `from` on, whose key isn't less than that of `array`.
+pub(crate) fn skip(arrays: &[Array], from: usize, array: &Array) -> usize {
+    let key = array.key();
+    for at in from..arrays.len() {
+        if arrays[at].key() >= key {
+            return at;
+        }
+    }
+    arrays.len()
+}
+
+/// Whether the array at this index is `array`.
+pub(crate) fn is_at(arrays: &[Array], at: usize, array: &Array) -> bool
+    ensures { IsTrue result → Contains arrays.now array.now }
+{
+    match arrays.get(at) {
+        Some(found) => found.is_same(array),
+        None => false,
+    }
+}

@@ -1,0 +1,138 @@
+//! Lattices of shifts: their steps and counts, their sums, and the form in which they are compared.
+ghost use Rattle.std.specs.Prelude.{◌≡◌, IfOk, IfSome};
+ghost use Rattle.lvl_changed.specs.inside.Shifts.{AreSame, AreSums, IsLatticeOf, turned_by};
+
+use crate::shifts::{are_same, shift_at};
+use lvl_grid::{Map, Point};
+use lvl_names::Offsets;
+use std::alloc::AllocError;
+
+/// The shift that moves nothing.
+const ORIGIN: Point = Point { x: 0, y: 0 };
+
+/// The shifts `i * across + j * up` with `i < columns` and `j < rows`.
+#[derive(Clone, Copy)]
+pub(crate) struct Lattice {
+    across: Point,
+    columns: u64,
+    up: Point,
+    rows: u64,
+}
+
+/// The product, or None if it is outside 64 bits.
+fn times(step: Point, count: u64) -> Option<Point> {
+    let count = i64::try_from(count).ok()?;
+    Some(Point {
+        x: step.x.checked_mul(count)?,
+        y: step.y.checked_mul(count)?,
+    })
+}
+
+/// The number of shifts at the beginning that are equal steps from zero, if no later shift is such
+/// a step; else some other index. A binary search.
+fn first_turn(shifts: &Offsets) -> u64 {
+    let Some(step) = shifts.at(1) else {
+        return 1;
+    };
+    let mut low = 1;
+    let mut high = shifts.len();
+    while high - low > 1 {
+        let middle = low + (high - low) / 2;
+        if shifts.at(middle) == times(step, middle) {
+            low = middle;
+        } else {
+            high = middle;
+        }
+    }
+    high
+}
+
+/// The lattice that the shifts are, if they are found to be one.
+fn lattice_of(shifts: &Offsets) -> Option<Lattice>
+    ensures { IfSome result (IsLatticeOf shifts.now) }
+{
+    let columns = first_turn(shifts);
+    let rows = shifts.len().checked_div(columns)?;
+    let across = shift_at(shifts, 1);
+    let up = if rows == 1 {
+        ORIGIN
+    } else {
+        shift_at(shifts, columns)
+    };
+    let listed = Offsets::lattice(across, columns, up, rows)?;
+    if !are_same(shifts, &listed) {
+        return None;
+    }
+    Some(Lattice {
+        across,
+        columns,
+        up,
+        rows,
+    })
+}
+
+/// The displacement as the map turns it, or None if it is outside 64 bits.
+fn turned(by: &Map, step: Point) -> Option<Point>
+    ensures { IfSome result (λ turned. turned ≡ turned_by by.now step) }
+{
+    let Map { flip, turn, .. } = *by;
+    let turns = Map {
+        flip,
+        turn,
+        at: ORIGIN,
+    };
+    turns.place(step)
+}
+
+/// Whether a step comes before another one in a lattice: first is the one that goes up or down less.
+fn comes_first(step: Point, other: Point) -> bool {
+    let (up, across) = (step.y.unsigned_abs(), step.x.unsigned_abs());
+    (up, across) < (other.y.unsigned_abs(), other.x.unsigned_abs())
+}
+
+/// The sums of a shift of the first and a shift of the second as the map turns it, or None if they
+/// can't be kept as they are, or as one lattice.
+pub(crate) fn sums(
+    outer: &Offsets,
+    inner: &Offsets,
+    by: &Map,
+) -> Result<Option<Offsets>, AllocError>
+    ensures { IfOk result (λ found. IfSome found (AreSums by.now outer.now inner.now)) }
+{
+    if inner.is_single() {
+        return Ok(Some(outer.clone()?));
+    }
+    Ok(lattice_of_sums(outer, inner, by))
+}
+
+/// The same as one lattice.
+fn lattice_of_sums(outer: &Offsets, inner: &Offsets, by: &Map) -> Option<Offsets>
+    ensures { IfSome result (AreSums by.now outer.now inner.now) }
+{
+    let line = lattice_of(inner)?;
+    let across = turned(by, line.across)?;
+    if outer.is_single() {
+        let up = turned(by, line.up)?;
+        return Offsets::lattice(across, line.columns, up, line.rows);
+    }
+    let steps = lattice_of(outer)?;
+    if line.rows != 1 || steps.rows != 1 {
+        return None;
+    }
+    if comes_first(across, steps.across) {
+        return Offsets::lattice(across, line.columns, steps.across, steps.columns);
+    }
+    Offsets::lattice(steps.across, steps.columns, across, line.columns)
+}
+
+/// The same shifts as a lattice whose steps are in their order, or None if they are in it already,
+/// or aren't found to be a lattice.
+pub(crate) fn reordered(shifts: &Offsets) -> Option<Offsets>
+    ensures { IfSome result (AreSame shifts.now) }
+{
+    let found = lattice_of(shifts)?;
+    if found.rows == 1 || !comes_first(found.up, found.across) {
+        return None;
+    }
+    Offsets::lattice(found.up, found.rows, found.across, found.columns)
+}

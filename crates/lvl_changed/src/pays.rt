@@ -1,0 +1,45 @@
+//! Whether a comparison cell by cell is likely to pay.
+use lvl_cells::{Cell, Checked};
+
+/// The number of rings that a cell itself draws, at most `u64::MAX`: each counts once for each
+/// shift of its shape.
+pub(crate) fn rings_of(cell: &Cell) -> u64 {
+    let shapes = &cell.shapes;
+    let mut sum = 0u64;
+    for i in 0..shapes.len() {
+        let drawn = (shapes.ring_count(i) as u64).saturating_mul(shapes.shift_count(i));
+        sum = sum.saturating_add(drawn);
+    }
+    sum
+}
+
+/// The number of shifts of the shapes and references of a cell, at most `u64::MAX`.
+fn shifts_of(cell: &Cell) -> u64 {
+    let mut sum = 0u64;
+    for i in 0..cell.shapes.len() {
+        sum = sum.saturating_add(cell.shapes.shift_count(i));
+    }
+    for j in 0..cell.references.len() {
+        sum = sum.saturating_add(cell.references.reference(j).shifts().len());
+    }
+    sum
+}
+
+/// Whether a comparison cell by cell is likely to cost less than one of flat layouts. It is if the
+/// cells that are placed have at most a quarter as many own rings as are placed in all, and if all
+/// cells together have at most about twice as many shifts as there are placed rings, since each
+/// shift is looked at. The answer is one of cost only.
+pub fn pays_by_cells(checked: &Checked) -> bool {
+    let mut own = 0u64;
+    let mut placed = 0u64;
+    let mut shifts = 0u64;
+    for (cell, times) in checked.cells().iter().zip(checked.times()) {
+        shifts = shifts.saturating_add(shifts_of(cell));
+        if *times > 0 {
+            let rings = rings_of(cell);
+            own = own.saturating_add(rings);
+            placed = placed.saturating_add(rings.saturating_mul(*times));
+        }
+    }
+    placed / 4 >= own && shifts / 2 <= placed
+}

@@ -1,0 +1,85 @@
+//! What of two tops may cover squares of a window.
+ghost use Rattle.std.specs.Prelude.{◌≡◌, IfOk, IfSome, None};
+ghost use Rattle.lvl_grid.specs.declared.point.Window.{Window as PlainWindow};
+ghost use Rattle.lvl_compare.specs.inside.Lists.{AreBoth};
+
+use crate::sizes::Sizes;
+use lvl_flat::{Candidates, Fitted};
+use lvl_grid::Window;
+use std::alloc::{AllocError, Global};
+
+/// The own shapes and references of two tops that may cover squares of a window.
+#[derive(Drop)]
+pub(crate) struct Lists {
+    pub ours: Candidates,
+    pub theirs: Candidates,
+}
+
+impl Lists {
+    /// All own shapes and references of both tops.
+    pub(crate) fn whole(first: &Fitted, second: &Fitted) -> Lists
+        ensures { (window : PlainWindow) → AreBoth first.now second.now window result }
+    {
+        Lists {
+            ours: first.candidates(),
+            theirs: second.candidates(),
+        }
+    }
+
+    /// The number of shapes and references.
+    fn len(&self) -> usize {
+        self.ours.len().saturating_add(self.theirs.len())
+    }
+
+    /// Those that may cover squares of the window, and estimates of what they draw there.
+    fn narrowed(
+        &self,
+        alloc: Global,
+        first: &Fitted,
+        second: &Fitted,
+        window: &Window,
+    ) -> Result<(Lists, Sizes), AllocError>
+        requires { AreBoth first.now second.now window.now self.now }
+        ensures { IfOk result (λ narrowed. AreBoth first.now second.now window.now narrowed.0) }
+    {
+        let (ours, our_size) = first.narrowed(alloc, &self.ours, window)?;
+        let (theirs, their_size) = second.narrowed(alloc, &self.theirs, window)?;
+        let sizes = Sizes {
+            ours: our_size,
+            theirs: their_size,
+        };
+        Ok((Lists { ours, theirs }, sizes))
+    }
+
+    /// Lists for the window that are at least a quarter shorter, or None, and estimates of what is
+    /// drawn in the window. So the lists of windows within windows take at most four times what the
+    /// first ones take.
+    pub(crate) fn shortened(
+        &self,
+        alloc: Global,
+        first: &Fitted,
+        second: &Fitted,
+        window: &Window,
+    ) -> Result<(Option<Lists>, Sizes), AllocError>
+        requires { AreBoth first.now second.now window.now self.now }
+        ensures { IfOk result (λ shortened. IfSome shortened.0 (AreBoth first.now second.now window.now)) }
+    {
+        let (lists, sizes) = self.narrowed(alloc, first, second, window)?;
+        let len = self.len();
+        if lists.len() > len - len / 4 {
+            return Ok((None, sizes));
+        }
+        Ok((Some(lists), sizes))
+    }
+}
+
+/// The shorter lists if there are any, else the longer ones.
+pub(crate) fn shorter<'a>(short: &'a Option<Lists>, long: &'a Lists) -> &'a Lists
+    ensures some { IfSome short.now (λ lists. result.now ≡ lists) }
+    ensures none { short.now ≡ None → result.now ≡ long.now }
+{
+    match short {
+        Some(lists) => lists,
+        None => long,
+    }
+}

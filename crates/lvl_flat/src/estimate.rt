@@ -1,0 +1,326 @@
+//! Estimates of how many points are drawn in a window.
+use crate::bounds::Bounds;
+use crate::candidates::Part;
+use lvl_cells::{Checked, Shapes};
+use lvl_grid::{Point, Window};
+use std::alloc::{AllocError, Global};
+
+/// About how many points are drawn in a window, and how many in each of its halves. Points that lie
+/// in both halves count in both.
+#[derive(Clone, Copy, Debug)]
+pub struct Estimate {
+    /// In the window.
+    pub all: u64,
+    /// Left of its middle.
+    pub left: u64,
+    /// Right of its middle.
+    pub right: u64,
+    /// Below its middle.
+    pub low: u64,
+    /// Above its middle.
+    pub high: u64,
+}
+
+/// A part of the top: the number of its points, and how far its places reach from each other along
+/// both axes.
+#[derive(Clone, Copy)]
+pub(crate) struct Size {
+    points: u64,
+    across: u64,
+    up: u64,
+}
+
+/// Sizes of what cells place.
+#[derive(Debug, Drop)]
+pub(crate) struct Measures {
+    /// For each cell, by index, the number of points that it places through all references.
+    points: Vec<u64>,
+}
+
+/// A stretch of one axis.
+#[derive(Clone, Copy)]
+struct Stretch {
+    from: i64,
+    to: i64,
+}
+
+impl Stretch {
+    fn len(self) -> u64 {
+        if self.from < self.to {
+            return self.from.abs_diff(self.to);
+        }
+        0
+    }
+
+    /// What both have.
+    fn shared(self, other: Stretch) -> Stretch {
+        Stretch {
+            from: self.from.max(other.from),
+            to: self.to.min(other.to),
+        }
+    }
+
+    /// Its two halves.
+    fn halves(self) -> (Stretch, Stretch) {
+        let middle = self.from.saturating_add_unsigned(self.len() / 2);
+        let first = Stretch {
+            from: self.from,
+            to: middle,
+        };
+        let second = Stretch {
+            from: middle,
+            to: self.to,
+        };
+        (first, second)
+    }
+}
+
+/// The share of the points of things that are spread evenly over the stretch `whole`, each
+/// `each` long, of which those count that meet `part`.
+fn share(points: u64, whole: Stretch, each: u64, part: Stretch) -> u64 {
+    let shared = whole.shared(part).len();
+    if shared == 0 {
+        return 0;
+    }
+    let met = shared.saturating_add(each);
+    let length = whole.len();
+    if met >= length {
+        return points;
+    }
+    scaled(points, met, length)
+}
+
+/// The fraction `part / whole` of a number, or more if the product is outside 64 bits.
+fn scaled(number: u64, part: u64, whole: u64) -> u64 {
+    match number.checked_mul(part) {
+        Some(product) => product.checked_div(whole).unwrap_or(number),
+        None => (number / (whole / part.max(1)).max(1)).saturating_add(1),
+    }
+}
+
+/// The number of points of a shape at one place.
+fn points_of_figure(shapes: &Shapes, i: usize) -> u64 {
+    if i >= shapes.len() {
+        return 0;
+    }
+    let mut points: u64 = 0;
+    for j in 0..shapes.ring_count(i) {
+        points = points.saturating_add(shapes.ring(i, j).len() as u64);
+    }
+    points
+}
+
+/// How far places reach from each other.
+fn size_of(points: u64, count: u64, reach: (Point, Point)) -> Size {
+    let (low, high) = reach;
+    Size {
+        points: points.saturating_mul(count),
+        across: low.x.abs_diff(high.x),
+        up: low.y.abs_diff(high.y),
+    }
+}
+
+/// The number of points that a cell places, given those of the cells that it refers to.
+fn points_of_cell(checked: &Checked, cell: usize, known: &[u64]) -> u64 {
+    let Some(place) = checked.cells().get(cell) else {
+        return 0;
+    };
+    let mut points = points_of_shapes(&place.shapes);
+    for j in 0..place.references.len() {
+        let Some(target) = checked.target(cell, j) else {
+            return points;
+        };
+        let inner = known.get(target).copied().unwrap_or(0);
+        let count = place.references.reference(j).shifts().len();
+        points = points.saturating_add(inner.saturating_mul(count));
+    }
+    points
+}
+
+/// The number of points of the shapes at all their shifts.
+fn points_of_shapes(shapes: &Shapes) -> u64 {
+    let mut points: u64 = 0;
+    for i in 0..shapes.len() {
+        let figure = points_of_figure(shapes, i);
+        points = points.saturating_add(figure.saturating_mul(shapes.shift_count(i)));
+    }
+    points
+}
+
+impl Measures {
+    /// The sizes of what the cells of a library place.
+    pub(crate) fn new(alloc: Global, checked: &Checked) -> Result<Measures, AllocError> {
+        let mut points: Vec<u64> = vec![in alloc; 0; checked.cells().len()]?;
+        for i in (0..checked.order().len()).rev() {
+            let cell = checked.order()[i];
+            let placed = points_of_cell(checked, cell, &points);
+            if let Some(known) = points.get_mut(cell) {
+                *known = placed;
+            }
+        }
+        Ok(Measures { points })
+    }
+
+    /// The size of an own shape or of a reference of the top.
+    pub(crate) fn of(&self, checked: &Checked, part: Part, index: usize) -> Size {
+        match part {
+            Part::Shape => size_of_shape(&checked.cell(checked.top()).shapes, index),
+            Part::Reference => self.of_reference(checked, index),
+        }
+    }
+
+    /// The size of a reference of the top: what it places is taken to be spread over all of its box.
+    fn of_reference(&self, checked: &Checked, j: usize) -> Size {
+        let top = checked.top();
+        let target = checked.target(top, j).unwrap_or(usize::MAX);
+        let inner = self.points.get(target).copied().unwrap_or(0);
+        let places = match checked.cell(top).references.get(j) {
+            Some(reference) => reference.shifts().len(),
+            None => 0,
+        };
+        Size {
+            points: inner.saturating_mul(places),
+            across: u64::MAX,
+            up: u64::MAX,
+        }
+    }
+}
+
+/// The size of the shape at index `i`.
+fn size_of_shape(shapes: &Shapes, i: usize) -> Size {
+    let origin = Point { x: 0, y: 0 };
+    if i >= shapes.len() {
+        return size_of(0, 0, (origin, origin));
+    }
+    let points = points_of_figure(shapes, i);
+    match shapes.shifts(i) {
+        Some(shifts) => size_of(points, shifts.len(), shifts.reach()),
+        None => size_of(points, 1, (origin, origin)),
+    }
+}
+
+/// A window, its halves, and an estimate that grows.
+#[derive(Clone, Copy)]
+pub(crate) struct Count {
+    columns: Stretch,
+    rows: Stretch,
+    left: Stretch,
+    right: Stretch,
+    low: Stretch,
+    high: Stretch,
+    so_far: Estimate,
+}
+
+impl Count {
+    /// No points in the window.
+    pub(crate) fn new(window: &Window) -> Count {
+        let columns = Stretch {
+            from: window.x0,
+            to: window.x1,
+        };
+        let rows = Stretch {
+            from: window.y0,
+            to: window.y1,
+        };
+        let (left, right) = columns.halves();
+        let (low, high) = rows.halves();
+        Count {
+            columns,
+            rows,
+            left,
+            right,
+            low,
+            high,
+            so_far: Estimate::none(),
+        }
+    }
+
+    /// The estimate.
+    pub(crate) fn estimate(&self) -> Estimate {
+        self.so_far
+    }
+
+    /// Adds what is so large that its box isn't known.
+    pub(crate) fn add_unknown(&mut self) {
+        self.so_far.add(1, 1, 1, 1, 1);
+    }
+
+    /// Adds a part of this size, which is spread over its box and meets the window.
+    pub(crate) fn add(&mut self, size: Size, bounds: Bounds) {
+        if size.across == 0 && size.up == 0 {
+            self.add_single(size.points, bounds);
+        } else {
+            self.add_spread(size, bounds);
+        }
+    }
+
+    /// Adds a part that has one place.
+    fn add_single(&mut self, points: u64, bounds: Bounds) {
+        let left = if bounds.low.x < self.left.to {
+            points
+        } else {
+            0
+        };
+        let right = if bounds.high.x > self.left.to {
+            points
+        } else {
+            0
+        };
+        let low = if bounds.low.y < self.low.to {
+            points
+        } else {
+            0
+        };
+        let high = if bounds.high.y > self.low.to {
+            points
+        } else {
+            0
+        };
+        self.so_far.add(points, left, right, low, high);
+    }
+
+    /// Adds a part that has several.
+    fn add_spread(&mut self, size: Size, bounds: Bounds) {
+        let across = Stretch {
+            from: bounds.low.x,
+            to: bounds.high.x,
+        };
+        let up = Stretch {
+            from: bounds.low.y,
+            to: bounds.high.y,
+        };
+        let width = across.len().saturating_sub(size.across);
+        let height = up.len().saturating_sub(size.up);
+        let in_columns = share(size.points, across, width, self.columns);
+        let in_rows = share(size.points, up, height, self.rows);
+        self.so_far.add(
+            share(in_columns, up, height, self.rows),
+            share(in_rows, across, width, self.left),
+            share(in_rows, across, width, self.right),
+            share(in_columns, up, height, self.low),
+            share(in_columns, up, height, self.high),
+        );
+    }
+}
+
+impl Estimate {
+    /// No points.
+    fn none() -> Estimate {
+        Estimate {
+            all: 0,
+            left: 0,
+            right: 0,
+            low: 0,
+            high: 0,
+        }
+    }
+
+    /// Adds these numbers.
+    fn add(&mut self, all: u64, left: u64, right: u64, low: u64, high: u64) {
+        self.all = self.all.saturating_add(all);
+        self.left = self.left.saturating_add(left);
+        self.right = self.right.saturating_add(right);
+        self.low = self.low.saturating_add(low);
+        self.high = self.high.saturating_add(high);
+    }
+}
