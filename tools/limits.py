@@ -263,7 +263,7 @@ def lifted_cells():
             yield refused("gds cells + 1, lifted", gds, "gds 27 TooManyCells at %d" % (len(GDS_HEAD) + MOST_CELLS * 44),
                           LARGE)
             yield refused("oasis cells + 1, lifted", oas, "oasis 39 TooManyCells at %d"
-                          % (len(OAS_HEAD) + MOST_CELLS * 11), LARGE)
+                          % (len(OAS_HEAD) + MOST_CELLS * 10), LARGE)
         else:
             yield shown("gds cells, lifted", gds, "00000005", MOST_CELLS, [], ["--top", "00000005", *LARGE])
             yield shown("oasis cells, lifted", oas, "00000005", MOST_CELLS, [], ["--top", "00000005", *LARGE])
