@@ -163,17 +163,21 @@ fn targets_of_references(rt: HostRuntime) -> Result<(), Fail> {
 /// Whether a library with the cell `top` as its top places its cells this often.
 fn are_placed(rooted: &Option<Checked>, top: usize, times: &[u64]) -> bool {
     match rooted {
-        Some(rooted) => rooted.top() == top && rooted.times() == times && rooted.order() == [1, 2, 0].as_slice(),
+        Some(rooted) => rooted.top() == top
+            && rooted.times() == times
+            && rooted.order() == [1, 2, 0].as_slice(),
         None => false,
     }
 }
 
 /// Whether the three cells have any of them as their top, and no fourth.
 fn are_rooted(alloc: Global, checked: &Checked) -> Result<bool, AllocError> {
-    Ok(are_placed(&checked.rooted(alloc, 0)?, 0, &[1, 0, 0])
-        && are_placed(&checked.rooted(alloc, 1)?, 1, &[2, 1, 1])
-        && are_placed(&checked.rooted(alloc, 2)?, 2, &[1, 0, 1])
-        && checked.rooted(alloc, 3)?.is_none())
+    Ok(
+        are_placed(&checked.rooted(alloc, 0)?, 0, &[1, 0, 0])
+            && are_placed(&checked.rooted(alloc, 1)?, 1, &[2, 1, 1])
+            && are_placed(&checked.rooted(alloc, 2)?, 2, &[1, 0, 1])
+            && checked.rooted(alloc, 3)?.is_none(),
+    )
 }
 
 /// Run with each allocation refused in turn as well.
