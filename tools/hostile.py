@@ -4,7 +4,7 @@
 Each case makes its files and runs `lvl compare` on two of them or `lvl show` on one. Its row has the size of
 the files in bytes, the placed rings, seconds of processor time, peak memory in MB, that peak in percent of the
 bound that it should keep, and the last line of the answer (`shown` for a file that was shown). The bound is
-64 MB and 12 bytes for each byte of the files.
+64 MB and 12 bytes for each byte of the files. With `--digest` the last file of each case is hashed instead.
 """
 import os
 import random
@@ -16,7 +16,7 @@ from collections import namedtuple
 import crafted
 import options
 from assembler import aref, boundary, box, cell_by_name, counted_name, lattice, line, numbered_name, oas_path, placement
-from assembler import polygon, rectangle, row, signed, sref, unsigned
+from assembler import column, g_delta, polygon, rectangle, row, signed, sref, unsigned
 from crafted import gds_cell, gds_file, oas_cell, oas_file
 from oasis import axis_delta, steps_of
 
@@ -202,6 +202,83 @@ def polygons_against_themselves(what, rings):
     random.Random(1).shuffle(other)
     file = lambda rings: gds_file(gds_cell("TOP", (boundary(ring) for ring in rings)))
     return case(what, 2 * len(rings) + 1, file(rings), file(other))
+
+
+def listed(shifts):
+    """A repetition of places at these successive steps."""
+    return b"\x0A" + unsigned(len(shifts) - 1) + b"".join(g_delta(x, y) for x, y in shifts)
+
+
+def long_bars():
+    """Bars from one border to the other, against the same a step shorter and their last steps."""
+    for n in (200_000, 1_000_000):
+        def file(*widths):
+            return one(*(rectangle(x, 0, w, 1, 1, column(n, 2)) for x, w in widths))
+        yield case("%d bars across, against the same in two parts" % n, 3 * n, file((0, 2**40)),
+                   file((0, 2**40 - 9), (2**40 - 9, 9)))
+
+
+def many_places():
+    """Few bytes that place millions of rings, or a few large ones over one another."""
+    many = lattice(4096, 4095, 4, 4)
+    def leaf(width):
+        return oas_file(oas_cell("A", rectangle(0, 0, width, 1)), oas_cell("TOP", placement("A", 0, 0, many)))
+    yield case("a leaf at 16.7 million places, changed", 2 * 4096 * 4095, leaf(1), leaf(2))
+    squares = lattice(1448, 1448, 4, 4)
+    def four(*shapes):
+        places = (placement("A", 0, at * 10_000, b"") for at in range(4))
+        return oas_file(oas_cell("A", *shapes), oas_cell("TOP", *places))
+    halves = [rectangle(0, 0, 1, 2, 1, squares), rectangle(1, 0, 1, 2, 1, squares)]
+    yield case("2.1 million squares placed four times, in two halves", 12 * 1448**2,
+               four(rectangle(0, 0, 2, 2, 1, squares)), four(*halves))
+    for n in (50, 100, 200, 1_000):
+        def file(parts):
+            each = n // parts
+            rings = (polygon(comb(16_383), 1, at=(7 * each * at, 3 * each * at)) for at in range(parts))
+            return one(*(ring.replace(b"\x15\x3B", b"\x15\x3F", 1) + line(each, 7, 3) for ring in rings))
+        yield case("a polygon of 65,534 corners at %d places over one another, in two halves" % n, 2 * n, file(1), file(2))
+    first, again = polygon(comb(16_383), 1), b"\x15\x18"
+    order = [again + signed(7 * at) + signed(0) for at in range(1_000)]
+    yield case("1,000 polygons of 65,534 corners, 7 apart, the other way round", 2_000, one(first, *order),
+               one(first, *order[::-1]))
+    bent = polygon(comb(8) + [signed(2), signed(1)], 1).replace(b"\x15\x3B", b"\x15\x3F", 1)
+    def five(step):
+        return one(*(bent.replace(b"\x3F\1\0", b"\x3F\1" + bytes([at]), 1) + line(16_384, 0, step) for at in range(5)))
+    yield case("five polygons at 16,384 places on one spot", 10 * 16_384, five(0), five(1))
+
+
+def layers_and_lists():
+    """Many Layers, and many lists of places."""
+    for n in (6_000, 20_000, 60_000):
+        def file(width):
+            return one(*(rectangle(0, 3 * at, width, 1, layer, row(120, 4)) for at, layer in enumerate(range(n))))
+        yield case("%d layers of 120 rectangles" % n, 240 * n, file(1), file(2))
+    for n in (1_000_000, 2_000_000, 4_000_000):
+        yield case("%d layers of one square" % n, 2 * n, *(
+            one(*(rectangle(0, 0, 1, 1, at) for at in order)) for order in (range(n), range(n - 1, -1, -1))))
+    rng = random.Random(1)
+    for n in (1, 2, 4):
+        places = [[(rng.randrange(-2**20, 2**20), rng.randrange(-2**20, 2**20)) for _ in range(999_999)]
+                  for _ in range(n)]
+        yield case("%d lists of a million places in no order" % n, 2_000_000 * n, *(
+            one(*(rectangle(0, 0, width, 1, 1, listed(steps)) for steps in places)) for width in (1, 2)))
+    n = 3_000_000
+    own = [rectangle(4 * (at % 2000), 4 * (at // 2000), 1, 1, 1, listed([(2 + at % 3, 1)])) for at in range(n)]
+    yield case("3,000,000 rectangles with two places each", 2 * n, one(*own))
+    yield case("the same, the other way round", 4 * n, one(*own), one(*own[::-1]))
+    two = oas_cell("A", rectangle(0, 0, 1, 1)), oas_cell("B", rectangle(0, 0, 1, 1))
+    turn = lambda n, *more: (placement("AB"[at % 2], 3 * (at % 2000), 3 * (at // 2000), *more) for at in range(n))
+    yield case("5,000,000 placements of two cells in turn", 5_000_000, oas_file(*two, oas_cell("TOP", *turn(5_000_000))))
+    yield case("3,000,000 such placements with two places each", 6_000_000,
+               oas_file(*two, oas_cell("TOP", *turn(3_000_000, listed([(1, 1)])))))
+    n = 4_000_000
+    sizes = [rectangle(at, 0, 1 + at % 126, 1 + at // 126 % 126) for at in range(n)]
+    yield case("4,000,000 rectangles of 16,000 sizes", n, one(*sizes))
+    yield case("the same, the other way round", 2 * n, one(*sizes), one(*sizes[::-1]))
+    few = [rectangle(0, 0, 1, 1, at) for at in range(200_000)]
+    array = lattice(2098, 2098, 4, 4)
+    yield case("200,000 layers beside an array of 4.4 million places", 8_800_000, *(
+        one(*few, rectangle(0, 0, width, 1, 1, array)) for width in (2, 3)))
 
 
 def corner(at, n):
@@ -438,7 +515,7 @@ def deceptive():
 GROUPS = [
     deep_chains, hierarchies, cells_that_double, arrays_of_arrays, paths, polygons, small_cells, records, repetitions,
     tables, layers, wires, overlaps, scattered, views, far_combs, far_spirals, far_stairs, far_rounds, far_bars,
-    far_lines, deceptive,
+    far_lines, deceptive, long_bars, many_places, layers_and_lists,
 ]
 
 
@@ -450,11 +527,22 @@ def answer_of(run):
     return "shown" if run.output.startswith("file: ") else last[:90]
 
 
-def measure(program, each, folder, most):
+def line_of(names, words, digested):
+    """The command line of a case, and which of its files are read."""
+    if digested:
+        top = [each for option, name in zip(words, words[1:]) if option in ("--top", "--top-b") for each in ("--top", name)]
+        return ["digest", names[-1], *top], names[-1:]
+    return ["show" if len(names) == 1 else "compare", *names, *words], names
+
+
+def measure(program, each, folder, most, digested):
     """Runs a case and prints its row."""
     names = [os.path.join(folder, "f%d" % at) for at in range(len(each.files))]
-    size = sum(crafted.write(name, file) for name, file in zip(names, each.files))
-    done = crafted.run(program, ["show" if len(names) == 1 else "compare", *names, *each.words], most)
+    for name, file in zip(names, each.files):
+        crafted.write(name, file)
+    line, used = line_of(names, each.words, digested)
+    size = sum(os.path.getsize(name) for name in used)
+    done = crafted.run(program, line, most)
     what = re.sub(r"\d{4,}", lambda digits: f"{int(digits[0]):,}", each.what)
     cells = [what, f"{size:,}", f"{each.rings:,}", f"{done.seconds:.1f}", f"{done.megabytes:,.0f}"]
     share = done.megabytes / (64 + 12 * size / 2**20)
@@ -466,13 +554,14 @@ def main():
     parser.add_argument("--only", metavar="TEXT", default="", help="only the groups whose name contains TEXT")
     parser.add_argument("--most", metavar="SECONDS", type=float, default=120,
                         help="the elapsed seconds after which a run is stopped (default: 120)")
+    parser.add_argument("--digest", action="store_true", help="hash the last file of each case instead")
     asked = options.parsed(parser)
     print("| What | Bytes | Placed rings | Seconds | Peak MB | Of the bound | Answer |")
     print("|---|---|---|---|---|---|---|")
     with tempfile.TemporaryDirectory(prefix="lvl-hostile-") as folder:
         for group in GROUPS:
             for each in group() if asked.only in group.__name__ else ():
-                measure(asked.program, each, folder, asked.most)
+                measure(asked.program, each, folder, asked.most, asked.digest)
 
 
 if __name__ == "__main__":

@@ -1,0 +1,2 @@
+pub mod Whys
+pub mod inside
