@@ -9,3 +9,5 @@ pub mod Covering
 pub mod Going
 pub mod Searching
 pub mod Witnessing
+pub mod Multiples
+pub mod InRows

@@ -3,3 +3,5 @@ pub mod Areas
 pub mod Rings
 pub mod Moves
 pub mod Searching
+pub mod Stretches
+pub mod Lattices

@@ -3,13 +3,13 @@ ghost use Rattle.std.specs.Prelude.{◌≡◌, ◌↔◌, ◌≤ℤ◌, IsTrue, 
 ghost use Rattle.lvl_grid.specs.declared.point.Point.{Point as GridPoint};
 ghost use Rattle.lvl_grid.specs.declared.point.Square.{Square as GridSquare};
 ghost use Rattle.lvl_grid.specs.Placed.{moved_square};
-ghost use Rattle.lvl_grid.specs.Turn.{image_square};
+ghost use Rattle.lvl_grid.specs.Turn.{image_square, shifted};
 ghost use Rattle.lvl_grid.specs.Winding.{Covers};
 ghost use Rattle.lvl_names.specs.declared.layer.Layer.{Layer as PlainLayer};
 ghost use Rattle.lvl_cells.specs.Cells.{map_at};
 ghost use Rattle.lvl_flat.specs.Flattened.{CoversAt};
 ghost use Rattle.lvl_flat.specs.inside.Bounds.{HasSquare};
-ghost use Rattle.lvl_witness.specs.inside.Areas.{IsInArea, moved_box};
+ghost use Rattle.lvl_witness.specs.inside.Areas.{IsInArea, IsOnWay, IsSmallArea, moved_box};
 ghost use Rattle.lvl_witness.specs.inside.Spots.{as_point, as_square, IsSmall};
 
 use crate::spot::{Spot, placed};
@@ -37,7 +37,8 @@ impl Area {
         requires square { IsSmall 66 square }
         requires low { IsSmall 66 low }
         requires high { IsSmall 66 high }
-        ensures { (e : GridPoint)
+        ensures small { IsSmallArea 70 result }
+        ensures has { (e : GridPoint)
             → IsInArea result e ↔ HasSquare (moved_box (as_point low) (as_point high) e) (as_square square) }
     {
         Area {
@@ -48,6 +49,28 @@ impl Area {
             high: Spot {
                 x: square.x - low.x,
                 y: square.y - low.y,
+            },
+        }
+    }
+
+    /// The displacements after which the area has a point between the origin and `end`, in both
+    /// directions.
+    pub(crate) fn widened(&self, end: Point) -> Area
+        requires { IsSmallArea 70 self.now }
+        ensures small { IsSmallArea 72 result }
+        ensures has { (p e : GridPoint) → IsOnWay p.x end.x → IsOnWay p.y end.y → IsInArea self.now (shifted e p)
+            → IsInArea result e }
+    {
+        let x = i128::from(end.x);
+        let y = i128::from(end.y);
+        Area {
+            low: Spot {
+                x: self.low.x - x.max(0),
+                y: self.low.y - y.max(0),
+            },
+            high: Spot {
+                x: self.high.x - x.min(0),
+                y: self.high.y - y.min(0),
             },
         }
     }
@@ -85,7 +108,8 @@ fn upper_right(window: Window) -> Point
 /// one isn't known.
 pub(crate) fn area_of_ring(ring: &MovedRing<'_>, square: Spot) -> Option<Area>
     requires { IsSmall 66 square }
-    ensures { IfSome result (λ area. (s : GridSquare) (e : GridPoint) → Covers ring.now s
+    ensures small { IfSome result (IsSmallArea 70) }
+    ensures has { IfSome result (λ area. (s : GridSquare) (e : GridPoint) → Covers ring.now s
         → moved_square e s ≡ as_square square → IsInArea area e) }
 {
     let (low, high) = ring.reach()?;
@@ -101,7 +125,8 @@ pub(crate) fn area_of_reference(
     square: Spot,
 ) -> Option<Area>
     requires { IsSmall 66 square }
-    ensures { IfSome result (λ area. (layer : PlainLayer) (s : GridSquare) (e : GridPoint)
+    ensures small { IfSome result (IsSmallArea 70) }
+    ensures has { IfSome result (λ area. (layer : PlainLayer) (s : GridSquare) (e : GridPoint)
         → CoversAt fitted.now.cells target layer s → image_square (map_at reference.now e) s ≡ as_square square
         → IsInArea area e) }
 {

@@ -21,8 +21,10 @@ pub use witness::{PlacedRing, Step, Witness};
 
 mod areas;
 mod frame;
+mod lattice;
 mod places;
 mod rings;
 mod search;
 mod spot;
+mod stretch;
 mod witness;

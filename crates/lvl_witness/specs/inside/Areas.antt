@@ -1,8 +1,10 @@
 -- Areas: which displacements move a box to where it has a square.
-use Rattle.std.specs.Prelude.{◌≤ℤ◌, ◌≤◌, ◌<◌, ◌≡◌, ℕ, List, Option, Some, None, slice_get}
+use Rattle.std.specs.Prelude.{◌≤ℤ◌, ◌≤◌, ◌<◌, ◌≡◌, ℤ, pos, ℕ, List, Option, Some, None, slice_get}
+use Rattle.std.specs.Int.{int_min, int_max}
 use Rattle.lvl_grid.specs.declared.point.Point.{Point}
 use Rattle.lvl_grid.specs.Turn.{shifted}
 use Rattle.lvl_flat.specs.declared.bounds.Bounds.{Bounds}
+use Rattle.lvl_witness.specs.inside.Spots.{IsSmall}
 use Rattle.lvl_witness.specs.declared.areas.Area.{Area}
 
 -- the displacement is in the area, borders included
@@ -25,3 +27,13 @@ moved_box low high e = record { low = shifted e low; high = shifted e high }
 abbrev pub AreApart : List Point → ℕ → ℕ → Option Area → Type 0
 AreApart shifts from to area =
     (k : ℕ) (e : Point) → from ≤ k → k < to → slice_get shifts k ≡ Some e → ¬ IsInAny area e
+
+-- the absolute value of each coordinate of both corners is at most 2 to the power of `bits`
+pub record IsSmallArea (bits : ℕ) (a : Area) : Type 0 where
+  pub low : IsSmall bits a.low
+  pub high : IsSmall bits a.high
+
+-- the number w is between zero and z
+pub record IsOnWay (w z : ℤ) : Type 0 where
+  pub low : int_min (pos 0) z ≤ℤ w
+  pub high : w ≤ℤ int_max (pos 0) z

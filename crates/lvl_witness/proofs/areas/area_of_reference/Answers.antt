@@ -12,8 +12,8 @@ use Rattle.lvl_witness.specs.inside.Spots.{as_point, as_square, lesser_of, great
 use Rattle.lvl_witness.proofs.Reaching.{box_of, placed_has}
 use Rattle.lvl_witness.proofs.areas.area_of_reference.Goals as goal
 
-pub returns : goal.returns
-returns c =
+pub returns-clause-has : goal.returns-clause-has
+returns-clause-has c =
     let r : PlainReference = c.args.reference.now in
     let window : Window = c.in_ok-window.window in
     let b : Bounds = box_of window in
@@ -38,6 +38,6 @@ returns c =
     let has : HasSquare (moved_box (lesser_of first last) (greater_of first last) e) q =
     subst (HasSquare (moved_box (lesser_of first last) (greater_of first last) e)) same
     (placed_has window r e s (c.in_ok-window.ensures layer s covers)) in
-    (c.around.ensures e).1
+    (c.around.ensures.has e).1
     (subst (λ (l : Point). HasSquare (moved_box l (as_point c.greater.result) e) q) (sym low)
     (subst (λ (h : Point). HasSquare (moved_box (lesser_of first last) h e) q) (sym high) has))

@@ -12,8 +12,8 @@ use Rattle.lvl_witness.specs.inside.Spots.{as_point, as_square}
 use Rattle.lvl_witness.proofs.Reaching.{moved_has}
 use Rattle.lvl_witness.proofs.areas.area_of_ring.Goals as goal
 
-pub returns : goal.returns
-returns c =
+pub returns-clause-has : goal.returns-clause-has
+returns-clause-has c =
     let low : Point = c.in_ok-low.low in
     let high : Point = c.in_ok-low.high in
     let q : Square = as_square c.args.square in
@@ -26,7 +26,7 @@ returns c =
     let has : HasSquare b s = ring_square b c.args.ring.now s held covers in
     let moved : HasSquare (moved_box low high e) q =
     subst (HasSquare (moved_box low high e)) same (moved_has low high e s has) in
-    (c.around.ensures e).1
+    (c.around.ensures.has e).1
     (subst (λ (l : Point). HasSquare (moved_box l (as_point c.from_point-2.result) e) q)
     (sym c.from_point.ensures.same)
     (subst (λ (h : Point). HasSquare (moved_box low h e) q) (sym c.from_point-2.ensures.same) moved))

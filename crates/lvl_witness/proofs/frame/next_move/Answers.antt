@@ -54,7 +54,7 @@ returns-in_default c =
     places_skipped s.cells c.args.square f cell r to at there c.next_place-place.ensures.on
     (λ layer t k e placed from below shift covers.
     apart_uncovered s.cells c.target_of-cell.result r target.next (as_square c.pulled.result) f.place to area target.named
-    target.there c.area_of_reference-area.ensures apart layer k e from below shift
+    target.there c.area_of_reference-area.ensures.has apart layer k e from below shift
     (subst (λ u. PickCovers s.cells layer u (r, e)) ((c.pulled.ensures.square t).0 placed) covers)) in
     goes_past s.cells c.args.square f cell r to at there (past_end r.shifts to c.in_default.ensures.none) skipped
 
@@ -104,7 +104,7 @@ returns c =
     places_skipped s.cells c.args.square f cell r to at there c.next_place-place.ensures.on
     (λ layer t k e placed from below shift covers.
     apart_uncovered s.cells c.target_of-cell.result r target.next (as_square c.pulled.result) f.place to area target.named
-    target.there c.area_of_reference-area.ensures apart layer k e from below shift
+    target.there c.area_of_reference-area.ensures.has apart layer k e from below shift
     (subst (λ u. PickCovers s.cells layer u (r, e)) ((c.pulled.ensures.square t).0 placed) covers)) in
     let place : IsPlacing r to c.in-Some.by = c.in-Some.ensures.some in
     record {

@@ -14,7 +14,7 @@ use Rattle.lvl_witness.proofs.rings.place_of.Goals as goal
 pub loop-place-init : goal.loop-place-init
 loop-place-init c = λ k e below at.
     apart_uncovered c.args.map.now c.args.square (as_square c.pulled.result) c.args.ring.now c.args.shifts.now 0
-    c.next_place-place.result c.area_of_ring-area.result c.pulled.ensures.square c.area_of_ring-area.ensures
+    c.next_place-place.result c.area_of_ring-area.result c.pulled.ensures.square c.area_of_ring-area.ensures.has
     c.next_place-place.ensures.apart k e (omega arith) below at
 
 pub unreachable-requires : goal.unreachable-requires
@@ -44,7 +44,7 @@ loop-place-preserved c =
     none_more m q shifts ring place next c.in-Some.shift c.loop-place.invariant at
     (λ covers. let yes = c.in_ok-covers_at.ensures.1 covers in let no = c.if-branch.false in cc)
     (apart_uncovered m q (as_square c.pulled.result) ring shifts (place + 1) next c.area_of_ring-area.result
-    c.pulled.ensures.square c.area_of_ring-area.ensures c.next_place-place-in-loop-place.ensures.apart)
+    c.pulled.ensures.square c.area_of_ring-area.ensures.has c.next_place-place-in-loop-place.ensures.apart)
 
 pub returns-clause-none : goal.returns-clause-none
 returns-clause-none c =

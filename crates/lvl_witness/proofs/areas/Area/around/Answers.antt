@@ -2,8 +2,8 @@ use Rattle.std.proofs.Common.{arith}
 use Rattle.std.proofs.lemmas.Int.{ints}
 use Rattle.lvl_witness.proofs.areas.Area.around.Goals as goal
 
-pub returns : goal.returns
-returns c = λ e. (
+pub returns-clause-has : goal.returns-clause-has
+returns-clause-has c = λ e. (
   λ i. record {
     low = record {
       left = omega (arith, ints, i.right);
@@ -25,3 +25,9 @@ returns c = λ e. (
     above = omega (arith, ints, h.low.below);
   },
 )
+
+pub returns-clause-small : goal.returns-clause-small
+returns-clause-small c = record {
+  low = record { x_small = omega (arith, ints); y_small = omega (arith, ints) };
+  high = record { x_small = omega (arith, ints); y_small = omega (arith, ints) };
+}
