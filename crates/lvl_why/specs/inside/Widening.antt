@@ -1,6 +1,7 @@
 -- Borders, point by point; steps and rings within a library.
-use Rattle.std.specs.Prelude.{◌≡◌, ◌<◌, ℕ, List, [], ◌∷◌, length, map, slice_get, Some, IsSomeAnd}
+use Rattle.std.specs.Prelude.{◌≡◌, ◌<◌, ◌-◌, ℕ, List, length, map, slice_get, Some}
 use Rattle.std.specs.Int.{int_min, int_max}
+use Rattle.std.specs.Option.{option_map_or}
 use Rattle.lvl_grid.specs.declared.point.Point.{Point}
 use Rattle.lvl_grid.specs.Turn.{shifted}
 use Rattle.lvl_cells.specs.Cells.{PlainCell, PlainShape, Rings}
@@ -42,5 +43,4 @@ AreBordersOf shapes p b =
 
 -- the index of the cell that the last step places; that of the top if there is no step
 abbrev pub last_index : ℕ → List Step → ℕ
-last_index top [] = top
-last_index top (step ∷ steps) = last_index step.cell steps
+last_index top steps = option_map_or (λ step. step.cell) (slice_get steps (length steps - 1)) top

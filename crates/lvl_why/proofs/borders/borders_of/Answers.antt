@@ -1,4 +1,4 @@
-use Rattle.std.proofs.Common.{◌≡◌, ◌∙◌, List, length, get_or, map, take, Option, Some, ap, subst, sym, arith}
+use Rattle.std.proofs.Common.{◌≡◌, ◌∙◌, ◌+◌, suc, List, length, get_or, map, take, ap, subst, sym, arith}
 use Rattle.std.proofs.lemmas.Option.{slice_get-get_or}
 use Rattle.std.proofs.Math.ListN.{length-map}
 use Rattle.std.proofs.Math.Seq.{take-length}
@@ -24,9 +24,21 @@ unreachable-requires-in_default-get c =
 pub loop-k-preserved : goal.loop-k-preserved
 loop-k-preserved c =
     let is = c.joined-borders.ensures ∙ ap (joined c.loop-k.borders) c.at.ensures in
-    rw is
+    let one_more : c.loop-k.k + 1 ≡ suc c.loop-k.k = omega arith in
+    rw (one_more, is)
     (next_borders c.args.by c.args.ring.now c.loop-k.k c.in-Some-get.point c.loop-k.borders
     (sym c.get-in-loop-k.ensures ∙ c.in-Some-get.is) c.loop-k.invariant)
 
 pub returns : goal.returns
-returns c = ?
+returns c =
+    let moved : List Point = map (shifted c.args.by) c.args.ring.now in
+    let all : c.loop-k.k ≡ length moved = omega (
+      arith,
+      c.loop-k-test.false,
+      c.loop-k.auto.k,
+      c.loop-k.auto.k-end,
+      c.len-k-end.ensures,
+      c.requires.enough,
+      length-map c.args.ring.now (shifted c.args.by),
+    ) in
+    subst (λ ps. HasBorders ps c.loop-k.borders) (ap (λ k. take k moved) all ∙ take-length moved) c.loop-k.invariant
