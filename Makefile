@@ -5,7 +5,7 @@ NEEDS_RT = command -v rt >/dev/null 2>&1 || { echo "make: rt (the Rattle toolcha
 
 SOURCES := crates.txt $(shell find crates -path '*/out' -prune -o -type f \( -name '*.rt' -o -name '*.antt' \) -print)
 
-.PHONY: all check growths klayout install clean
+.PHONY: all check growths klayout dist install clean
 
 # Proves and builds the program, and leaves it as bin/lvl.
 all: bin/lvl
@@ -31,6 +31,12 @@ klayout:
 	@test -x bin/lvl || { echo "make klayout: bin/lvl is missing: run make first" >&2; exit 2; }
 	@contrib/klayout/try
 
+# An archive and a Debian package of what make built, for machines without the toolchain.
+dist:
+	@command -v dpkg-deb >/dev/null 2>&1 || { echo "make dist: dpkg-deb is not on the PATH" >&2; exit 2; }
+	@test -x bin/lvl || { echo "make dist: bin/lvl is missing: run make first" >&2; exit 2; }
+	@contrib/dist
+
 install:
 	@test -x bin/lvl || { echo "make install: bin/lvl is missing: run make first" >&2; exit 2; }
 	install -D -m 755 bin/lvl $(DESTDIR)$(PREFIX)/bin/lvl
@@ -40,4 +46,4 @@ install:
 	install -D -m 644 contrib/completions/lvl.fish $(DESTDIR)$(PREFIX)/share/fish/vendor_completions.d/lvl.fish
 
 clean:
-	rm -rf bin crates/*/out
+	rm -rf bin dist crates/*/out

@@ -225,8 +225,8 @@ def replaced(items, at, *others):
 
 
 def mutated(rng, cells):
-    """Two hierarchies that differ by one mutation. Now and then the first top has a shape besides that hides all
-    of it, so that both draw the same."""
+    """Two hierarchies that differ by one mutation, the second often in other words too. Now and then the first top
+    has a shape besides that hides all of it, so that both draw the same."""
     at = rng.randrange(len(cells))
     kind = rng.choice(["more", "fewer", "renamed", "moved", "turned", "shorter", "layer", "reordered"])
     cell, other = cells[at], None
@@ -253,7 +253,145 @@ def mutated(rng, cells):
     second = replaced(cells, at, other or cell)
     if kind == "renamed" and cell.name != "TOP":
         second = renamed(cells, cell.name, "OTHER")
+    if rng.random() < 0.6:
+        second = in_other_words(rng, second)
     return (hidden(cells), hidden(second)) if rng.random() < 0.2 else (cells, second)
+
+
+def in_other_words(rng, cells):
+    """Cells whose top draws the same, by one to three changes of how it is said."""
+    for _ in range(rng.randint(1, 3)):
+        cells = rng.choice([renamed_all, exchanged, dissolved, dissolved_everywhere, cut, split, wrapped])(rng, cells)
+    return cells
+
+
+def fresh(rng, cells):
+    """A name that no cell has."""
+    names = {cell.name for cell in cells}
+    return next(name for name in iter(lambda: "X%d" % rng.randint(0, 99), None) if name not in names)
+
+
+def renamed_all(rng, cells):
+    """All cells but the top under names of the others, or under new ones."""
+    names = [cell.name for cell in cells if cell.name != "TOP"]
+    others = rng.sample(names, len(names)) if rng.random() < 0.5 else [name + "$1" for name in names]
+    return called(cells, dict(zip(names, others)))
+
+
+def exchanged(rng, cells):
+    """Two cells that have exchanged their names."""
+    names = [cell.name for cell in cells if cell.name != "TOP"]
+    if len(names) < 2:
+        return cells
+    one, other = rng.sample(names, 2)
+    return called(cells, {one: other, other: one})
+
+
+def called(cells, names):
+    """The cells under other names, wherever they are placed."""
+    return [
+        Cell(names.get(cell.name, cell.name), cell.shapes,
+             [r._replace(cell=names.get(r.cell, r.cell)) for r in cell.references])
+        for cell in cells
+    ]
+
+
+def turned(point, flip, quarters):
+    """The image of a point by a reflection about the X axis, if `flip` is set, and then quarter turns."""
+    x, y = (point[0], -point[1]) if flip else point
+    for _ in range(quarters):
+        x, y = -y, x
+    return x, y
+
+
+def sums(some, others):
+    return [(x + dx, y + dy) for x, y in some for dx, dy in others]
+
+
+def placed_shape(shape, reference):
+    """The shape as the reference places it, at all its places."""
+    points = [turned(point, reference.flip, reference.quarters) for point in shape.points]
+    shifts = [turned(shift, reference.flip, reference.quarters) for shift in shape.shifts]
+    return shape._replace(points=sums(points, [reference.at]), shifts=sums(reference.shifts, shifts))
+
+
+def is_leaf(cells, name):
+    return not next(cell for cell in cells if cell.name == name).references
+
+
+def dissolved_in(cells, cell, which):
+    """The cell with these of its references replaced by the shapes of the leaves that they place."""
+    shapes, kept = list(cell.shapes), []
+    for at, reference in enumerate(cell.references):
+        if at in which and is_leaf(cells, reference.cell):
+            leaf = next(c for c in cells if c.name == reference.cell)
+            shapes += [placed_shape(shape, reference) for shape in leaf.shapes]
+        else:
+            kept.append(reference)
+    return cell._replace(shapes=shapes, references=kept)
+
+
+def dissolved(rng, cells):
+    """One reference replaced by the shapes of the leaf that it places."""
+    at = rng.randrange(len(cells))
+    cell = cells[at]
+    if not cell.references:
+        return cells
+    return replaced(cells, at, dissolved_in(cells, cell, {rng.randrange(len(cell.references))}))
+
+
+def dissolved_everywhere(rng, cells):
+    """All references to one leaf replaced by its shapes."""
+    leaf = rng.choice([cell.name for cell in cells if is_leaf(cells, cell.name)])
+    return [
+        dissolved_in(cells, cell, {at for at, r in enumerate(cell.references) if r.cell == leaf}) for cell in cells
+    ]
+
+
+def cut(rng, cells):
+    """A cell in two: some of what it has is in a new cell that it places."""
+    at, name = rng.randrange(len(cells)), fresh(rng, cells)
+    cell = cells[at]
+    shapes, references = rng.randint(0, len(cell.shapes)), rng.randint(0, len(cell.references))
+    part = Cell(name, cell.shapes[:shapes], cell.references[:references])
+    rest = Reference(name, False, 0, (0, 0), NONE)
+    whole = cell._replace(shapes=cell.shapes[shapes:], references=cell.references[references:] + [rest])
+    return replaced(cells, at, whole, part)
+
+
+def split(rng, cells):
+    """Each reference of a cell with several places as several references."""
+    at = rng.randrange(len(cells))
+    references = []
+    for reference in cells[at].references:
+        size = rng.randint(1, len(reference.shifts))
+        for first in range(0, len(reference.shifts), size):
+            part = reference.shifts[first:first + size]
+            dx, dy = part[0]
+            shifts = [(x - dx, y - dy) for x, y in part]
+            references.append(reference._replace(at=(reference.at[0] + dx, reference.at[1] + dy), shifts=shifts))
+    rng.shuffle(references)
+    return replaced(cells, at, cells[at]._replace(references=references))
+
+
+def wrapped(rng, cells):
+    """A reference through a new cell that has nothing else; what turns is in either of both."""
+    at, name = rng.randrange(len(cells)), fresh(rng, cells)
+    cell = cells[at]
+    if not cell.references:
+        return cells
+    which = rng.randrange(len(cell.references))
+    reference = cell.references[which]
+    x, y = rng.randint(-5, 5), rng.randint(-5, 5)
+    if rng.random() < 0.5:
+        inner = reference._replace(at=(x, y), shifts=NONE)
+        outer = Reference(name, False, 0, (reference.at[0] - x, reference.at[1] - y), reference.shifts)
+    else:
+        inner = Reference(reference.cell, False, 0, (x, y), NONE)
+        dx, dy = turned((x, y), reference.flip, reference.quarters)
+        outer = reference._replace(cell=name, at=(reference.at[0] - dx, reference.at[1] - dy))
+    return replaced(cells, at, cell._replace(references=replaced(cell.references, which, outer)),
+                    Cell(name, [], [inner]))
 
 
 def renamed(cells, old, new):

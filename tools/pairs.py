@@ -10,8 +10,9 @@ that the files need, is that of the raster, which knows nothing of such records.
 the words that are needed, a file is refused, as the second reading of the rules refuses it.
 
 With `--mutate` the pairs are hierarchies that place cells many times, and differ by one mutation: a shape more or less,
-or on another layer, a cell renamed, a placement moved or turned, an array with one place less, another order. Of one
-pair in five the top hides most of it.
+or on another layer, a cell renamed, a placement moved or turned, an array with one place less, another order. More than
+half of the second layouts are said in other words: cells renamed or with exchanged names, references dissolved, cells
+cut in two, arrays split, wrappers put in. Of one pair in five the top hides most of it.
 
 With `--far` the coordinates are anywhere in 64 bits, and the right answer is that of `exact.py`. Then the script
 goes on after a wrong or late answer, keeps the files of each in the folder that it prints, and ends with status

@@ -160,6 +160,35 @@ fn targets_of_references(rt: HostRuntime) -> Result<(), Fail> {
     Ok(())
 }
 
+/// Whether a library with the cell `top` as its top places its cells this often.
+fn are_placed(rooted: &Option<Checked>, top: usize, times: &[u64]) -> bool {
+    match rooted {
+        Some(rooted) => rooted.top() == top
+            && rooted.times() == times
+            && rooted.order() == [1, 2, 0].as_slice(),
+        None => false,
+    }
+}
+
+/// Whether the three cells have any of them as their top, and no fourth.
+fn are_rooted(alloc: Global, checked: &Checked) -> Result<bool, AllocError> {
+    Ok(
+        are_placed(&checked.rooted(alloc, 0)?, 0, &[1, 0, 0])
+            && are_placed(&checked.rooted(alloc, 1)?, 1, &[2, 1, 1])
+            && are_placed(&checked.rooted(alloc, 2)?, 2, &[1, 0, 1])
+            && checked.rooted(alloc, 3)?.is_none(),
+    )
+}
+
+/// Run with each allocation refused in turn as well.
+#[test]
+fn another_top_growths(rt: HostRuntime) -> Result<(), Fail> {
+    let alloc = rt.alloc();
+    let checked = three_cells(alloc)?;
+    assert!(rt; are_rooted(alloc, &checked)?);
+    Ok(())
+}
+
 /// The cells of a library, and what the check says.
 const GROWING: &str = "\
 A B B; B | top A

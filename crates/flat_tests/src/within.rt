@@ -101,6 +101,24 @@ fn check_windows(rt: &impl Abort, alloc: Global, fitted: &Fitted) -> Result<(), 
     Ok(())
 }
 
+/// Whether A, which is the first of both cells, can be the top, and a third cell can't.
+fn is_rooted(alloc: Global, fitted: &Fitted) -> Result<bool, Fail> {
+    let Some(rooted) = fitted.rooted(alloc, 0)? else {
+        return Ok(false);
+    };
+    let counted = counts(alloc, &rooted, &window(-5, -5, 60, 20))?;
+    Ok(counted == (8, 1) && fitted.rooted(alloc, 2)?.is_none())
+}
+
+/// Run with each allocation refused in turn as well.
+#[test]
+fn another_top_growths(rt: HostRuntime) -> Result<(), Fail> {
+    let alloc = rt.alloc();
+    let fitted = arrayed(alloc)?;
+    assert!(rt; is_rooted(alloc, &fitted)?);
+    Ok(())
+}
+
 #[test]
 fn windows(rt: HostRuntime) -> Result<(), Fail> {
     let fitted = arrayed(rt.alloc())?;

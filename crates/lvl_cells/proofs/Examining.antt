@@ -11,12 +11,13 @@ use Rattle.lvl_names.proofs.Elements.{contains_at}
 use Rattle.std.proofs.lemmas.Slice.Eq.{bytes_eq-Decides}
 use Rattle.std.proofs.Math.ListN.{length-map}
 use Rattle.lvl_cells.specs.Cells.{PlainCell, PlainReference, Rings, each_ring, names}
+use Rattle.lvl_profile.specs.Limits.{large}
 use Rattle.lvl_profile.specs.declared.limits.Limits.{Limits}
 use Rattle.lvl_cells.specs.Chains.{over_chains, own_rings}
 use Rattle.lvl_cells.specs.Soundness.{links, AreLinked, IsRanked, IsTop, IsOrder}
 use Rattle.lvl_cells.specs.Faults.{IsFaultOf}
 use Rattle.lvl_cells.specs.inside.Steps.{AreAllTargets, IsCycleFault, IsTopFault}
-use Rattle.lvl_cells.specs.Checks.{Settled, IsSettled, PlacesFew}
+use Rattle.lvl_cells.specs.Checks.{Settled, IsSettled, IsChecked, PlacesFew}
 use Rattle.lvl_cells.specs.inside.Times.{HasFew, IsCountFault}
 use Rattle.lvl_cells.specs.declared.fault.CellFault.{CellFault}
 use Rattle.lvl_cells.specs.declared.fault.CellFault.TheVariants.{Cycle, TopMissing}
@@ -205,4 +206,20 @@ settled_by limits cells given order k l o t h few =
       is = at.1;
       few_chains = counts.few_chains;
       few_rings = counts.few_rings;
+    }
+
+-- a checked library is one with any cell as its top that places few enough, by that cell's name
+pub rooted_checked : (s : Settled) (k : ℕ) → IsChecked s → k < length s.cells
+    → IfSome (slice_get s.cells k) (PlacesFew large s.cells)
+    → IsChecked (record { cells = s.cells; top = k; order = s.order })
+rooted_checked s k checked within few =
+    let name_of : PlainCell Rings → List ℕ = λ x. x.name in
+    let at = item_there s.cells k within in
+    record {
+      limits = large;
+      given = Some at.0.name;
+      settled =
+          settled_by large s.cells (Some at.0.name) s.order k checked.settled.sound.linked checked.settled.sorted
+          (slice_get-map name_of s.cells k ∙ ap (option_map name_of) at.1) within few;
+      narrow = omega arith;
     }

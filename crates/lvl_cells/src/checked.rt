@@ -25,17 +25,25 @@ use crate::times::times_of;
 use crate::top::top_of;
 use lvl_profile::Limits;
 use lvl_refusal::Cause;
-use std::alloc::Global;
+use std::alloc::{AllocError, Global};
 use std::marker::Model;
+use std::rc::Rc;
 
-/// A library that is sound for its top and within the limits on what the top places. Only [`check`]
-/// makes one.
+/// The cells of a library, an order in which each comes before those that it refers to, and the
+/// targets of all references.
 #[derive(Drop)]
-pub struct Checked {
+struct Resolved {
     cells: Vec<Cell>,
-    top: usize,
     order: Vec<usize>,
     targets: Targets,
+}
+
+/// A library that is sound for its top and within the limits on what the top places. Only [`check`]
+/// makes one, or [`Checked::rooted`] of another.
+#[derive(Drop)]
+pub struct Checked {
+    resolved: Rc<Resolved>,
+    top: usize,
     times: Vec<u64>,
 }
 
@@ -171,13 +179,19 @@ pub fn check_with(
         targets,
         times,
     } = examine(alloc, &cells, top, limits)?;
-    Ok(Checked {
+    let resolved = Resolved {
         cells,
-        top,
         order,
         targets,
-        times,
-    })
+    };
+    match Rc::new(alloc, resolved) {
+        Ok(resolved) => Ok(Checked {
+            resolved,
+            top,
+            times,
+        }),
+        Err(_) => Err(Cause::OutOfMemory),
+    }
 }
 
 /// Checks a library as [`check_with`] does, within the standard limits: the top may place at most 16,777,216 cells,
@@ -210,7 +224,7 @@ impl Checked {
         ensures value { result.now ≡ self.now.cells }
         ensures checked { IsChecked self.now }
     {
-        &self.cells
+        &self.resolved.cells
     }
 
     /// The indexes of the cells, each once and before those of the cells that it refers to.
@@ -218,7 +232,7 @@ impl Checked {
         ensures value { result.now ≡ self.now.order }
         ensures sorted { IsOrder self.now.cells self.now.order }
     {
-        &self.order
+        &self.resolved.order
     }
 
     /// The cell at an index.
@@ -226,7 +240,7 @@ impl Checked {
         requires { index < length self.now.cells }
         ensures { slice_get self.now.cells index ≡ Some result.now }
     {
-        &self.cells[index]
+        &self.resolved.cells[index]
     }
 
     /// How often the top places each cell, by the index of the cell: the number of chains from the top that end in it.
@@ -240,10 +254,46 @@ impl Checked {
         ensures { result ≡ self.now }
     {
         Linked {
-            cells: &self.cells,
-            targets: &self.targets,
-            order: &self.order,
+            cells: &self.resolved.cells,
+            targets: &self.resolved.targets,
+            order: &self.resolved.order,
             top: self.top,
+        }
+    }
+
+    // The library with the cell at this index in place of the top.
+    fn linked_at(&self, top: usize) -> Linked<'_>
+        requires { top < length self.now.cells }
+        ensures { result ≡ record { cells = self.now.cells; top = top; order = self.now.order } }
+    {
+        Linked {
+            cells: &self.resolved.cells,
+            targets: &self.resolved.targets,
+            order: &self.resolved.order,
+            top,
+        }
+    }
+
+    /// The same library with the cell at an index as its top. The cells aren't copied. None if there is no such cell, or
+    /// if it places more than the limits for whole chips allow.
+    pub fn rooted(&self, alloc: Global, top: usize) -> Result<Option<Checked>, AllocError>
+        ensures { IfOk result (λ found. IfSome found (λ rooted.
+            rooted ≡ record { cells = self.now.cells; top = top; order = self.now.order })) }
+    {
+        if top >= self.cells().len() {
+            return Ok(None);
+        }
+        match check_counts(alloc, &self.linked_at(top), Limits::LARGE) {
+            Ok(times) => {
+                let resolved = self.resolved.clone()?;
+                Ok(Some(Checked {
+                    resolved,
+                    top,
+                    times,
+                }))
+            }
+            Err(Cause::Breach(_)) => Ok(None),
+            Err(Cause::OutOfMemory) => Err(AllocError),
         }
     }
 

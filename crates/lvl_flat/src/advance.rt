@@ -124,7 +124,7 @@ pub fn flatten(alloc: Global, checked: &Checked) -> Result<Flat, Cause<FlatFault
     ensures err { IfErr result (λ refusal. Says refusal (IsFlatFault checked.now)) }
 {
     let sheets = sheets_of(alloc, checked.cells())?;
-    let boxes = Boxes::unknown(alloc);
+    let boxes = Boxes::unknown(alloc)?;
     draw_all(
         Room::unbounded(alloc),
         checked,

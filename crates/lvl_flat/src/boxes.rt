@@ -19,6 +19,7 @@ use lvl_grid::{Map, Point, Window};
 use lvl_names::Offsets;
 use std::alloc::{AllocError, Global};
 use std::marker::Model;
+use std::rc::Rc;
 
 /// The origin of a cell, where chains from it begin: every box has it.
 pub(crate) const ORIGIN: Point = Point { x: 0, y: 0 };
@@ -148,7 +149,7 @@ fn bounds_of_cell(checked: &Checked, cell: usize, known: &[Option<Bounds>]) -> O
 /// all references, or None if the box would leave 64 signed bits.
 #[derive(Debug, Drop)]
 pub(crate) struct Boxes {
-    known: Vec<Option<Bounds>>,
+    known: Rc<Vec<Option<Bounds>>>,
 }
 
 impl Model for Boxes {
@@ -157,17 +158,32 @@ impl Model for Boxes {
 
     ghost Value = { List (Option Bounds) };
 
-    ghost view = { λ b. b.known.items };
+    ghost view = { λ b. b.known.value.items };
 }
 
 impl Boxes {
     /// No boxes: that of no cell is known.
-    pub(crate) fn unknown(alloc: Global) -> Boxes
-        ensures { (cells : List (PlainCell Rings)) → AreBoxes cells result }
+    pub(crate) fn unknown(alloc: Global) -> Result<Boxes, AllocError>
+        ensures { IfOk result (λ boxes. (cells : List (PlainCell Rings)) → AreBoxes cells boxes) }
     {
-        Boxes {
-            known: Vec::new(alloc),
+        Boxes::of(alloc, Vec::new(alloc))
+    }
+
+    fn of(alloc: Global, known: Vec<Option<Bounds>>) -> Result<Boxes, AllocError>
+        ensures { IfOk result (λ boxes. boxes ≡ known.items) }
+    {
+        match Rc::new(alloc, known) {
+            Ok(known) => Ok(Boxes { known }),
+            Err(_) => Err(AllocError),
         }
+    }
+
+    /// The same boxes, which aren't copied.
+    pub(crate) fn shared(&self) -> Result<Boxes, AllocError>
+        ensures { IfOk result (λ boxes. boxes ≡ self.now) }
+    {
+        let known = self.known.clone()?;
+        Ok(Boxes { known })
     }
 
     /// The boxes of the cells of a library. That of each cell is made from its own shapes and from
@@ -180,7 +196,7 @@ impl Boxes {
             let cell = checked.order()[i];
             known[cell] = bounds_of_cell(checked, cell, &known);
         }
-        Ok(Boxes { known })
+        Boxes::of(alloc, known)
     }
 
     /// The box of the cell at this index, if it is known.

@@ -4,6 +4,7 @@ use crate::candidates::Part;
 use lvl_cells::{Checked, Shapes};
 use lvl_grid::{Point, Window};
 use std::alloc::{AllocError, Global};
+use std::rc::Rc;
 
 /// About how many points are drawn in a window, and how many in each of its halves. Points that lie
 /// in both halves count in both.
@@ -34,7 +35,7 @@ pub(crate) struct Size {
 #[derive(Debug, Drop)]
 pub(crate) struct Measures {
     /// For each cell, by index, the number of points that it places through all references.
-    points: Vec<u64>,
+    points: Rc<Vec<u64>>,
 }
 
 /// A stretch of one axis.
@@ -158,6 +159,15 @@ impl Measures {
                 *known = placed;
             }
         }
+        match Rc::new(alloc, points) {
+            Ok(points) => Ok(Measures { points }),
+            Err(_) => Err(AllocError),
+        }
+    }
+
+    /// The same sizes, which aren't copied.
+    pub(crate) fn shared(&self) -> Result<Measures, AllocError> {
+        let points = self.points.clone()?;
         Ok(Measures { points })
     }
 

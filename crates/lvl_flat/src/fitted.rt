@@ -66,6 +66,28 @@ impl Fitted {
         })
     }
 
+    /// The same library with the cell at an index as its top. Cells and boxes aren't copied. None if there is
+    /// no such cell, if its box may leave 64 signed bits, or if it places more than the limits for whole chips
+    /// allow.
+    pub fn rooted(&self, alloc: Global, cell: usize) -> Result<Option<Fitted>, AllocError>
+        ensures { IfOk result (λ found. IfSome found (λ rooted.
+            rooted ≡ record { cells = self.now.cells; top = cell; order = self.now.order })) }
+    {
+        let Some(checked) = self.checked.rooted(alloc, cell)? else {
+            return Ok(None);
+        };
+        let boxes = self.boxes.shared()?;
+        if !boxes.hold_top(&checked) {
+            return Ok(None);
+        }
+        let measures = self.measures.shared()?;
+        Ok(Some(Fitted {
+            checked,
+            boxes,
+            measures,
+        }))
+    }
+
     /// The library.
     pub fn checked(&self) -> &Checked
         ensures library { result.now ≡ self.now }

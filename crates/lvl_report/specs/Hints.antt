@@ -37,12 +37,13 @@ use Rattle.lvl_report.specs.declared.hint.Hint.{Hint}
 use Rattle.lvl_report.specs.declared.hint.Hint.TheVariants.{IgnoreMore, LiftLimits, Unpack, WithoutBlocks, NameTop}
 use Rattle.lvl_report.specs.declared.hint.Hint.TheVariants.{NameTopOf}
 
--- whether the record for which a GDSII file is refused is read under the profile
+-- whether records of the kind for which a GDSII file is refused are read under the profile
 abbrev pub reads_record : Profile → GdsKind → Bool
 reads_record profile (Misplaced (UnsupportedType kind)) = is_ignored profile.ignore kind
 reads_record profile kind = false
 
--- whether the record or the integer for which an OASIS file is refused is read under the profile
+-- whether records of the kind for which an OASIS file is refused, or integers of more bytes, are read under the
+-- profile
 abbrev pub reads_spelling : Profile → OasisKind → Bool
 reads_spelling profile (Value IntegerTooLarge) = profile.ignore.padding
 reads_spelling profile (Record (UnsupportedId id)) = is_ok (record_type profile id)
@@ -60,14 +61,15 @@ with_one_more given =
     record given { properties = true } ∷ record given { texts = true } ∷ record given { names = true }
     ∷ record given { padding = true } ∷ []
 
--- the first of the sets with which the record or integer is read, within these limits
+-- the first of the sets with which such records or integers are read, within these limits
 abbrev pub first_that_reads : Limits → FileFault → List Ignore → Option Ignore
 first_that_reads limits fault [] = None
 first_that_reads limits fault (more ∷ others) =
     if is_read_by (record { ignore = more; limits = limits }) fault then Some more
     else first_that_reads limits fault others
 
--- what to ignore so that it is read; None if it is read already, or if no word would change that
+-- what to ignore so that they are read; None if they are read already, or if no word would change that. The value or
+-- the place of the one that is refused may still breach a rule
 abbrev pub to_ignore : Profile → FileFault → Option Ignore
 to_ignore given fault =
     if is_read_by given fault then None else first_that_reads given.limits fault (with_one_more given.ignore)

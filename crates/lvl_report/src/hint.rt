@@ -21,7 +21,8 @@ const CBLOCK: u64 = 34;
 /// What would mend a refusal (own rule).
 #[derive(Clone, Copy, Debug, PartialEq, Eq)]
 pub enum Hint {
-    /// To ignore this, one word more than before: then the record that was refused is read.
+    /// To ignore this, one word more than before: then records of the kind that was refused are read, or
+    /// integers of more bytes. Its value or its place may still be refused.
     IgnoreMore(Ignore),
     /// To take the limits for whole chips, [`Limits::LARGE`]: the limit that refuses is higher there.
     LiftLimits,
@@ -36,7 +37,7 @@ pub enum Hint {
     NameTopOf(Side),
 }
 
-/// Whether the record for which a GDSII file is refused is read under the profile.
+/// Whether records of the kind for which a GDSII file is refused are read under the profile.
 fn reads_record(profile: Profile, kind: &GdsKind) -> bool
     ensures { result ≡ reads_record profile kind.now }
 {
@@ -46,7 +47,7 @@ fn reads_record(profile: Profile, kind: &GdsKind) -> bool
     }
 }
 
-/// Whether the record or the integer for which an OASIS file is refused is read under the profile.
+/// Whether records of the kind for which an OASIS file is refused, or longer integers, are read under the profile.
 fn reads_spelling(profile: Profile, kind: &OasisKind) -> bool
     ensures { result ≡ reads_spelling profile kind.now }
 {
@@ -57,7 +58,7 @@ fn reads_spelling(profile: Profile, kind: &OasisKind) -> bool
     }
 }
 
-/// The same for a file of either format.
+/// Whether that holds for a file of either format.
 fn is_read_by(profile: Profile, fault: &FileFault) -> bool
     ensures { result ≡ is_read_by profile fault.now }
 {
@@ -92,7 +93,7 @@ fn with_one_more(given: Ignore) -> [Ignore; 4]
     ]
 }
 
-/// The first of the sets with which the record or integer is read, within these limits.
+/// The first of the sets with which such records or integers are read, within these limits.
 fn first_that_reads(limits: Limits, fault: &FileFault, sets: &[Ignore]) -> Option<Ignore>
     ensures { result ≡ first_that_reads limits fault.now sets.now }
 {
@@ -108,7 +109,7 @@ fn first_that_reads(limits: Limits, fault: &FileFault, sets: &[Ignore]) -> Optio
     None
 }
 
-/// What to ignore so that it is read; `None` if it is read already, or if no word would change that.
+/// What to ignore so that they are read; `None` if they are read already, or if no word would change that.
 fn to_ignore(given: Profile, fault: &FileFault) -> Option<Ignore>
     ensures { result ≡ to_ignore given fault.now }
 {

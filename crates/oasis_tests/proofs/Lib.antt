@@ -1,2 +1,4 @@
 pub mod Spelled
 mod Square
+mod Computed
+mod Remembered

@@ -5,7 +5,7 @@ use Rattle.lvl_flat.proofs.Drawing.{layer_of}
 use Rattle.lvl_flat.proofs.advance.flatten.Goals as goal
 
 pub draw_all-requires-clause-boxes : goal.draw_all-requires-clause-boxes
-draw_all-requires-clause-boxes c = c.unknown-boxes.ensures c.args.checked.now.cells
+draw_all-requires-clause-boxes c = c.in_ok-boxes.ensures c.args.checked.now.cells
 
 pub draw_all-requires-clause-fits : goal.draw_all-requires-clause-fits
 draw_all-requires-clause-fits c =

@@ -2,6 +2,7 @@ use Rattle.std.proofs.Common.{◌≡◌, ◌<◌, ◌-◌, ℕ, List, Option, So
 use Rattle.std.proofs.Common.{subst, arith}
 use Rattle.std.specs.Prelude.{IfSome}
 use Rattle.std.proofs.lemmas.Option.{slice_get-get_or}
+use Rattle.std.proofs.lemmas.Result.{IfOk-weaker}
 use Rattle.lvl_cells.specs.Cells.{PlainCell, Rings}
 use Rattle.lvl_cells.specs.Soundness.{IsOrder}
 use Rattle.lvl_cells.proofs.Summing.{place_within}
@@ -45,3 +46,9 @@ loop-i-preserved c =
                 e c.bounds_of_cell.ensures.held mine),
           ));
     }
+
+pub returns : goal.returns
+returns c =
+    let cells : List (PlainCell Rings) = c.args.checked.now.cells in
+    IfOk-weaker c.of.result _ (AreBoxes cells) (λ b e. subst (AreBoxes cells) (sym e) c.loop-i.invariant.known)
+    c.of.ensures

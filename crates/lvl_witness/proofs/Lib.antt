@@ -1,0 +1,11 @@
+pub mod Pulling
+pub mod Reaching
+pub mod Apart
+pub mod Before
+pub mod Leading
+pub mod Skipping
+pub mod Moving
+pub mod Covering
+pub mod Going
+pub mod Searching
+pub mod Witnessing

@@ -1,0 +1,5 @@
+pub mod Spots
+pub mod Areas
+pub mod Rings
+pub mod Moves
+pub mod Searching
