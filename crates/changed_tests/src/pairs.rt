@@ -1,10 +1,10 @@
 //! Pairs of libraries that differ by one change each.
 use crate::layouts::{Pair, cut, fitted_pair, library};
-use lvl_changed::{changed, difference_by_changes, pays_by_cells, same_by_cells};
+use lvl_changed::{Changes, changed, difference_by_changes, pays_by_cells, same_by_cells};
 use lvl_compare::difference_by_strips;
 use lvl_flat::fits_by_boxes;
 use lvl_grid::{Square, Window};
-use lvl_names::Layer;
+use lvl_names::{Layer, in_order};
 use lvl_region::Side;
 use lvl_view::View;
 use std::alloc::{AllocError, Global};
@@ -16,7 +16,7 @@ const METAL: Layer = Layer {
 };
 
 /// The windows from left to right, each as its four coordinates.
-pub(crate) fn windows_text(alloc: Global, mut windows: Vec<Window>) -> Result<String, AllocError> {
+fn windows_text(alloc: Global, mut windows: Vec<Window>) -> Result<String, AllocError> {
     windows.sort_unstable_by_key(|window| (window.x0, window.y0));
     let mut text = String::new(alloc);
     for window in &windows {
@@ -27,11 +27,34 @@ pub(crate) fn windows_text(alloc: Global, mut windows: Vec<Window>) -> Result<St
     Ok(text)
 }
 
+/// The layers in order, each after the mark that boxes have.
+fn layers_text(alloc: Global, layers: Vec<Layer>) -> Result<String, AllocError> {
+    let mut text = String::new(alloc);
+    for layer in &in_order(layers)? {
+        let number = layer.layer;
+        let word = format!(in alloc; " @{number}")?;
+        text.push_str(&word)?;
+    }
+    Ok(text)
+}
+
+/// The windows and the layers.
+pub(crate) fn changes_text(alloc: Global, changes: Changes) -> Result<String, AllocError> {
+    let Changes { windows, layers } = changes;
+    let mut text = windows_text(alloc, windows)?;
+    let layers = match layers {
+        Some(layers) => layers_text(alloc, layers)?,
+        None => String::from_str(alloc, " @any")?,
+    };
+    text.push_str(&layers)?;
+    Ok(text)
+}
+
 /// Where both may differ, or `anywhere`.
 fn changed_text(alloc: Global, pair: &Pair) -> Result<String, AllocError> {
     let view = View::whole(alloc);
     match changed(alloc, &pair.first, &pair.second, &view)? {
-        Some(windows) => windows_text(alloc, windows),
+        Some(changes) => changes_text(alloc, changes),
         None => String::from_str(alloc, " anywhere"),
     }
 }
@@ -59,39 +82,51 @@ placed one by one | T A,0,3,0; A 0..2 | T A,20,1,0 A,0,1,0 A,10,1,0; A 0..2 | | 
 two boxes for one, a thousand times | T A,0,1000,0; A 0..9 | T A,0,1000,0; A 4..9 0..4 | | -
 tops of different names | T A,0,8,0; A 0..2 | U A,0,8,0; A 0..2 | | -
 cells in another order | T M,0,2,0; M A,0,4,0; A 0..2 | T M,0,2,0; A 0..2; M A,0,4,0 | | -
-a place twice | T A,0,8,0; A 0..2 | T A,0,8,0 A,10,1,0; A 0..2 | 10,0,12,1 | -
+a place twice | T A,0,8,0; A 0..2 | T A,0,8,0 A,10,1,0; A 0..2 | 10,0,12,1 @1 | -
 out of reach | T A,0,8,0; A 0..2; X 0..1 | T A,0,8,0; A 0..2; X 7..9 | | -
 out of reach and absent | T A,0,8,0; A 0..2; X 0..1 | T A,0,8,0; A 0..2 | | -
 a cell without shapes removed | T A,0,8,0 X,50,1,0; A 0..2; X | T A,0,8,0; A 0..2 | | -
-a box more in the top | T A,0,8,0; A 0..2 | T A,0,8,0 3..4; A 0..2 | 3,0,4,1 | 1 3 0 second
-a box fewer in the top | T A,0,8,0 5..7; A 0..2 | T A,0,8,0; A 0..2 | 5,0,7,1 | 1 5 0 first
+a box more in the top | T A,0,8,0; A 0..2 | T A,0,8,0 3..4; A 0..2 | 3,0,4,1 @1 | 1 3 0 second
+a box fewer in the top | T A,0,8,0 5..7; A 0..2 | T A,0,8,0; A 0..2 | 5,0,7,1 @1 | 1 5 0 first
 a box more in a cell | T A,0,8,0; A 0..2 | T A,0,8,0; A 0..2 4..5 | \
-    4,0,5,1 14,0,15,1 24,0,25,1 34,0,35,1 44,0,45,1 54,0,55,1 64,0,65,1 74,0,75,1 | 1 4 0 second
-a place fewer | T A,0,8,0; A 0..2 | T A,0,7,0; A 0..2 | 70,0,72,1 | 1 70 0 first
-a place more | T A,0,8,0; A 0..2 | T A,0,8,0 A,80,1,0; A 0..2 | 80,0,82,1 | 1 80 0 second
-a place moved | T A,0,7,0 A,80,1,0; A 0..2 | T A,0,7,0 A,81,1,0; A 0..2 | 80,0,83,1 | 1 80 0 first
-a place turned | T A,0,7,0 A,80,1,0; A 0..2 | T A,0,7,0 A,80,1,90; A 0..2 | 79,0,80,2 80,0,82,1 | 1 79 0 second
-a place reflected | T A,0,7,0 A,80,1,0; A 0..2 | T A,0,7,0 A,80,1,-0; A 0..2 | 80,-1,82,0 80,0,82,1 | \
+    4,0,5,1 14,0,15,1 24,0,25,1 34,0,35,1 44,0,45,1 54,0,55,1 64,0,65,1 74,0,75,1 @1 | 1 4 0 second
+a place fewer | T A,0,8,0; A 0..2 | T A,0,7,0; A 0..2 | 70,0,72,1 @1 | 1 70 0 first
+a place more | T A,0,8,0; A 0..2 | T A,0,8,0 A,80,1,0; A 0..2 | 80,0,82,1 @1 | 1 80 0 second
+a place moved | T A,0,7,0 A,80,1,0; A 0..2 | T A,0,7,0 A,81,1,0; A 0..2 | 80,0,83,1 @1 | 1 80 0 first
+a place turned | T A,0,7,0 A,80,1,0; A 0..2 | T A,0,7,0 A,80,1,90; A 0..2 | 79,0,80,2 80,0,82,1 @1 | 1 79 0 second
+a place reflected | T A,0,7,0 A,80,1,0; A 0..2 | T A,0,7,0 A,80,1,-0; A 0..2 | 80,-1,82,0 80,0,82,1 @1 | \
     1 80 -1 second
 a cell turned about | T A,0,8,0 B,100,1,0; A 0..2; B 0..2 | T A,0,8,0 B,102,1,180; A 0..2; B 0..2 | \
-    100,-1,102,0 100,0,102,1 | 1 100 -1 second
+    100,-1,102,0 100,0,102,1 @1 | 1 100 -1 second
 a cell renamed | T A,0,8,0 B,100,1,0; A 0..2; B 0..2 | T A,0,8,0 C,100,1,0; A 0..2; C 0..2 | | -
 a cell renamed and changed | T A,0,8,0 B,100,1,0; A 0..2; B 0..2 | T A,0,8,0 C,100,1,0; A 0..2; C 0..3 | \
-    100,0,103,1 | 1 102 0 second
+    100,0,103,1 @1 | 1 102 0 second
 a cell exchanged for another | T A,0,8,0 A,100,1,0; A 0..2; B 0..3 | T A,0,8,0 B,100,1,0; A 0..2; B 0..3 | \
-    100,0,103,1 | 1 102 0 second
+    100,0,103,1 @1 | 1 102 0 second
 a layer changed | T A,0,8,0 B,100,1,0; A 0..2; B 0..2 | T A,0,8,0 B,100,1,0; A 0..2; B 0..2@2 | \
-    100,0,102,1 | 1 100 0 first
-a cell emptied | T A,0,8,0 B,100,1,0; A 0..2; B 0..2 | T A,0,8,0 B,100,1,0; A 0..2; B | 100,0,102,1 | \
+    100,0,102,1 @1 @2 | 1 100 0 first
+a square more on a high layer, placed often | T A,0,8,0; A 0..2 | T A,0,8,0; A 0..2 4..5@9 | \
+    4,0,5,1 14,0,15,1 24,0,25,1 34,0,35,1 44,0,45,1 54,0,55,1 64,0,65,1 74,0,75,1 @9 | 9 4 0 second
+and exchanged | T A,0,8,0; A 0..2 4..5@9 | T A,0,8,0; A 0..2 | \
+    4,0,5,1 14,0,15,1 24,0,25,1 34,0,35,1 44,0,45,1 54,0,55,1 64,0,65,1 74,0,75,1 @9 | 9 4 0 first
+a via drawn where it was placed | T A,0,4,0; A 0..2 V,3,1,0; V 0..1@2 0..1@3 | T A,0,4,0; A 0..2 3..4@2 3..4@3 | \
+    3,0,4,1 13,0,14,1 23,0,24,1 33,0,34,1 @2 @3 | -
+and exchanged | T A,0,4,0; A 0..2 3..4@2 3..4@3 | T A,0,4,0; A 0..2 V,3,1,0; V 0..1@2 0..1@3 | \
+    3,0,4,1 13,0,14,1 23,0,24,1 33,0,34,1 @2 @3 | -
+a cell removed that draws below | T A,0,8,0 W,100,1,0; A 0..2; W 0..1@5 V,3,1,0; V 0..1@4 | T A,0,8,0; A 0..2 | \
+    100,0,104,1 @4 @5 | 4 103 0 first
+and exchanged | T A,0,8,0; A 0..2 | T A,0,8,0 W,100,1,0; A 0..2; W 0..1@5 V,3,1,0; V 0..1@4 | \
+    100,0,104,1 @4 @5 | 4 103 0 second
+a cell emptied | T A,0,8,0 B,100,1,0; A 0..2; B 0..2 | T A,0,8,0 B,100,1,0; A 0..2; B | 100,0,102,1 @1 | \
     1 100 0 first
 deep down, turned | T A,0,8,0 M,100,1,90; M B,5,1,0; A 0..2; B 0..2 | \
-    T A,0,8,0 M,100,1,90; M B,5,1,0; A 0..2; B 1..3 | 99,5,100,8 | 1 99 5 first
+    T A,0,8,0 M,100,1,90; M B,5,1,0; A 0..2; B 1..3 | 99,5,100,8 @1 | 1 99 5 first
 under other shapes | T A,0,8,0 B,100,1,0 99..105; A 0..2; B 0..2 | \
-    T A,0,8,0 B,100,1,0 99..105; A 0..2; B 0..3 | 100,0,103,1 | -
+    T A,0,8,0 B,100,1,0 99..105; A 0..2; B 0..3 | 100,0,103,1 @1 | -
 moved within the top | T A,0,8,0 B,100,1,0; A 0..2; B 0..2 | T A,0,8,0 100..102; A 0..2; B 0..2 | \
-    100,0,102,1 | -
+    100,0,102,1 @1 | -
 one instead of another, twice | T A,0,8,0 B,90,1,0 C,95,1,0; A 0..2; B 0..2; C 0..2 | \
-    T A,0,8,0 C,90,1,0 B,95,1,0; A 0..2; B 0..2; C 0..2 | 90,0,92,1 95,0,97,1 | -
+    T A,0,8,0 C,90,1,0 B,95,1,0; A 0..2; B 0..2; C 0..2 | 90,0,92,1 95,0,97,1 @1 | -
 a box that leaves 64 bits and returns | \
     T A,0,8,0 M,-1000,1,0; M B,9223372036854775800,1,0; A 0..2; B 0..9 | \
     T A,0,8,0 M,-1000,1,0; M B,9223372036854775800,1,0; A 0..2; B 0..9 | | -
@@ -99,13 +134,13 @@ and in a cell renamed | T A,0,8,0 M,-1000,1,0; M B,9223372036854775800,1,0; A 0.
     T A,0,8,0 N,-1000,1,0; N B,9223372036854775800,1,0; A 0..2; B 0..9 | | -
 and where another cell is placed | T A,0,8,0 M,-1000,1,0; M B,9223372036854775800,1,0; A 0..2; B 0..9 | \
     T A,0,8,0 N,-1001,1,0; N B,9223372036854775800,1,0; A 0..2; B 0..9 | \
-    9223372036854774799,0,9223372036854774809,1 | 1 9223372036854774799 0 second
+    9223372036854774799,0,9223372036854774809,1 @1 | 1 9223372036854774799 0 second
 and in a cell with a shape | T A,0,8,0 M,-1000,1,0; M 0..1 B,9223372036854775800,1,0; A 0..2; B 0..9 | \
     T A,0,8,0 N,-1001,1,0; N 0..1 B,9223372036854775800,1,0; A 0..2; B 0..9 | anywhere | 1 -1001 0 second
 a row in a cell of its own | T A,0,8,0; A 0..2 | T R,0,1,0; R A,0,8,0; A 0..2 | | -
 and turned, in two cells | T R,100,1,90; R A,5,8,0; A 0..2 | T Q,100,1,90; Q R,5,1,0; R A,0,8,0; A 0..2 | | -
 a row turned otherwise | T R,0,1,0 A,0,8,0; R A,0,2,180; A 0..2 | T R,0,1,180 A,0,8,0; R A,0,2,0; A 0..2 | \
-    -12,-1,-10,0 8,-1,10,0 | 1 -12 -1 second
+    -12,-1,-10,0 8,-1,10,0 @1 | 1 -12 -1 second
 two cells exchange their names | T A,0,8,0 B,100,1,0; A 0..2; B 0..3 | T B,0,8,0 A,100,1,0; B 0..2; A 0..3 | | -
 two cells with one name | T A,0,8,0 B,100,1,0; A 0..2; B 0..2 | T C,0,8,0 C,100,1,0; C 0..2 | | -
 all cells renamed | T M,0,2,0; M A,0,4,90 B,3,1,0; A 0..2; B 5..7 | \
@@ -183,8 +218,8 @@ fn many_changed(alloc: Global) -> Result<Pair, Fail> {
 /// How many windows there are outside of which both cover the same.
 fn windows_of(alloc: Global, pair: &Pair) -> Result<usize, Fail> {
     let view = View::whole(alloc);
-    let windows = changed(alloc, &pair.first, &pair.second, &view)?;
-    Ok(windows.ok_or("windows")?.len())
+    let changes = changed(alloc, &pair.first, &pair.second, &view)?;
+    Ok(changes.ok_or("windows")?.windows.len())
 }
 
 /// How many windows there are, and what `found_twice` finds with few points for a strip.
@@ -249,7 +284,7 @@ fn growing(alloc: Global) -> Result<Pair, Fail> {
 }
 
 fn are_changes_right(alloc: Global, pair: &Pair) -> Result<(bool, bool), Fail> {
-    let is_within = changes_within(alloc, pair, " 90,0,92,1")?;
+    let is_within = changes_within(alloc, pair, " 90,0,92,1 @1")?;
     Ok((is_within, differs_by(alloc, pair, "1 91 0 second")?))
 }
 

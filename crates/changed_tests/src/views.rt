@@ -1,8 +1,8 @@
 //! Changes seen under a view.
 use crate::layouts::{Pair, cut, fitted_pair};
-use crate::pairs::{found_text, windows_text};
+use crate::pairs::{changes_text, found_text};
 use lvl_changed::{changed, difference_by_changes};
-use lvl_compare::{difference_by_strips, difference_in_windows};
+use lvl_compare::{difference_by_strips, difference_in_windows, difference_on_layers};
 use lvl_flat::Fitted;
 use lvl_grid::{Square, Window};
 use lvl_names::Layer;
@@ -22,16 +22,21 @@ const METAL: Layer = Layer {
 /// does.
 const MAPPED: &str = "\
 each layer moved | T A,0,8,0; A 0..2@2 | T A,0,8,0; A 0..2 | 1/0=2/0 | | -
-and one not moved | T A,0,8,0 3..4; A 0..2@2 | T A,0,8,0 3..4; A 0..2 | 1/0=2/0 | 3,0,4,1 | 1 3 0 first
+and one not moved | T A,0,8,0 3..4; A 0..2@2 | T A,0,8,0 3..4; A 0..2 | 1/0=2/0 | 3,0,4,1 @1 @2 | 1 3 0 first
 two layers joined | T A,0,8,0; A 0..2 2..4 | T A,0,8,0; A 0..2 2..4@2 | 2/0=1/0 | | -
 two layers joined, one box less | T A,0,8,0 B,90,1,0; A 0..2; B 0..2 2..4 | \
-    T A,0,8,0 B,90,1,0; A 0..2@2; B 0..2 | 2/0=1/0 | 92,0,94,1 | 1 92 0 first
+    T A,0,8,0 B,90,1,0; A 0..2@2; B 0..2 | 2/0=1/0 | 92,0,94,1 @1 | 1 92 0 first
+a square more on a mapped layer, placed often | T A,0,4,0; A 0..2@2 | T A,0,4,0; A 0..2 4..5@3 | \
+    1/0=2/0,3/0=7/0 | 4,0,5,1 14,0,15,1 24,0,25,1 34,0,35,1 @7 | 7 4 0 second
+a cell removed that draws below, mapped | T A,0,8,0; A 0..2@2 | \
+    T A,0,8,0 W,100,1,0; A 0..2; W 0..1@5 V,3,1,0; V 0..1@4 | 1/0=2/0,4/0=8/0 | 100,0,104,1 @5 @8 | \
+    5 100 0 second
 two layers exchanged | T A,0,8,0; A 0..2@2 4..5 | T A,0,8,0; A 0..2 4..5@2 | 1/0=2/0,2/0=1/0 | | -
 ";
 
 fn changed_text(alloc: Global, pair: &Pair, view: &View) -> Result<String, AllocError> {
     match changed(alloc, &pair.first, &pair.second, view)? {
-        Some(windows) => windows_text(alloc, windows),
+        Some(changes) => changes_text(alloc, changes),
         None => String::from_str(alloc, " anywhere"),
     }
 }
@@ -91,6 +96,13 @@ x=0..3,y=0..9 | -
 x=4..100,y=-9..9 | -
 ";
 
+/// The same of the libraries with a square more on a high layer in a cell that is placed often.
+const SHOWN_OFTEN: &str = "\
+x=0..200,y=0..1 | 9 4 0 second
+x=5..200,y=0..1 | 9 14 0 second
+x=5..14,y=0..9 | -
+";
+
 fn with_one_moved(alloc: Global) -> Result<Pair, Fail> {
     let ours = "T A,0,8,0 B,100,1,0; A 0..2; B 0..2";
     fitted_pair(alloc, ours, "T A,0,8,0 3..4; A 0..2; B 0..2")
@@ -103,9 +115,13 @@ fn differs_in(alloc: Global, pair: &Pair, window: &str, want: &str) -> Result<bo
     Ok(found_text(alloc, found)?.as_str() == want)
 }
 
-/// The first window whose square is another.
-fn wrong_window(alloc: Global, pair: &Pair) -> Result<Option<&'static str>, Fail> {
-    for row in SHOWN.lines() {
+/// The first window of the rows whose square is another.
+fn wrong_window(
+    alloc: Global,
+    pair: &Pair,
+    rows: &'static str,
+) -> Result<Option<&'static str>, Fail> {
+    for row in rows.lines() {
         let (window, want) = cut(row, " | ");
         if !differs_in(alloc, pair, window, want)? {
             return Ok(Some(window));
@@ -116,12 +132,18 @@ fn wrong_window(alloc: Global, pair: &Pair) -> Result<Option<&'static str>, Fail
 
 fn wrong_window_of_moved(alloc: Global) -> Result<Option<&'static str>, Fail> {
     let pair = with_one_moved(alloc)?;
-    wrong_window(alloc, &pair)
+    wrong_window(alloc, &pair, SHOWN)
+}
+
+fn wrong_window_of_often(alloc: Global) -> Result<Option<&'static str>, Fail> {
+    let pair = fitted_pair(alloc, "T A,0,8,0; A 0..2", "T A,0,8,0; A 0..2 4..5@9")?;
+    wrong_window(alloc, &pair, SHOWN_OFTEN)
 }
 
 #[test]
 fn windows_of_views(rt: HostRuntime) -> Result<(), Fail> {
     assert_eq!(rt; wrong_window_of_moved(rt.alloc())?, None);
+    assert_eq!(rt; wrong_window_of_often(rt.alloc())?, None);
     Ok(())
 }
 
@@ -191,6 +213,64 @@ fn windows_alone(rt: HostRuntime) -> Result<(), Fail> {
     Ok(())
 }
 
+/// Layers, two windows of one row of squares, and the first square that differs on these layers in the windows.
+const LISTED: &str = "\
+2 | 60 70 20 30 | 2 27 0 second
+1 | 60 70 20 30 | 1 24 0 second
+2 1 | 60 70 20 30 | 1 24 0 second
+2 1 | 55 58 65 67 | 2 57 0 second
+3 1 2 | 55 57 65 67 | -
+3 | 0 99 0 99 | -
+";
+
+fn listed_layers(alloc: Global, text: &str) -> Result<Vec<Layer>, Fail> {
+    let mut layers = Vec::new(alloc);
+    for word in text.split_whitespace() {
+        let layer = word.parse::<u32>()?;
+        layers.push(Layer { layer, datatype: 0 })?;
+    }
+    Ok(layers)
+}
+
+/// Whether this is the first square that differs on the layers in the windows.
+fn differs_listed(
+    alloc: Global,
+    pair: &Pair,
+    layers: &[Layer],
+    windows: &[Window],
+    want: &str,
+) -> Result<bool, AllocError> {
+    let view = View::whole(alloc);
+    let (first, second) = (&pair.first, &pair.second);
+    let found = difference_on_layers(alloc, first, second, &view, layers, windows, 1 << 20)?;
+    Ok(found_text(alloc, found)?.as_str() == want)
+}
+
+/// The first row of those whose square is another.
+fn wrong_listed(alloc: Global, pair: &Pair) -> Result<Option<&'static str>, Fail> {
+    for row in LISTED.lines() {
+        let (layers, rest) = cut(row, " | ");
+        let (windows, want) = cut(rest, " | ");
+        let layers = listed_layers(alloc, layers)?;
+        let windows = two_windows(windows)?;
+        if !differs_listed(alloc, pair, &layers, &windows, want)? {
+            return Ok(Some(row));
+        }
+    }
+    Ok(None)
+}
+
+fn wrong_listed_of_more(alloc: Global) -> Result<Option<&'static str>, Fail> {
+    let pair = with_more(alloc)?;
+    wrong_listed(alloc, &pair)
+}
+
+#[test]
+fn listed(rt: HostRuntime) -> Result<(), Fail> {
+    assert_eq!(rt; wrong_listed_of_more(rt.alloc())?, None);
+    Ok(())
+}
+
 fn edited(alloc: Global) -> Result<Pair, Fail> {
     fitted_pair(alloc, "T A,0,1000,0; A 0..2", "T A,0,1000,0 3..4; A 0..2")
 }
@@ -203,8 +283,9 @@ fn check_changes(
     edited: &Fitted,
 ) -> Result<(), Fail> {
     let view = View::whole(alloc);
-    let windows = changed(alloc, &kept, &edited, &view)?.ok_or("windows")?;
-    assert_eq!(rt; windows.len(), 1);
+    let changes = changed(alloc, &kept, &edited, &view)?.ok_or("windows")?;
+    assert_eq!(rt; changes.windows.len(), 1);
+    assert_eq!(rt; changes.layers.ok_or("layers")?.as_slice(), [METAL].as_slice());
     let found = difference_by_changes(alloc, &kept, &edited, &view, 1 << 20)?;
     assert_eq!(rt; found, Some((METAL, Square { x: 3, y: 0 }, Side::Second)));
     Ok(())

@@ -18,10 +18,10 @@ use Rattle.lvl_flat.proofs.Outside.{ring_square, square_window}
 use Rattle.lvl_view.specs.declared.map.LayerPair.{LayerPair}
 use Rattle.lvl_view.specs.Moved.{IsMoved}
 use Rattle.lvl_view.specs.Views.{target_of}
-use Rattle.lvl_changed.specs.declared.windows.Windows.{Windows}
+use Rattle.lvl_changed.specs.declared.area.Area.{Area}
 use Rattle.lvl_changed.specs.inside.Figures.{AreAlike, AreLeft, HasAlike}
 use Rattle.lvl_changed.specs.inside.Shapes.{corners, HasMoved, ShapesCover}
-use Rattle.lvl_changed.specs.inside.Windows.{AlikeOutside, Has, Widens}
+use Rattle.lvl_changed.specs.inside.Areas.{AlikeOutside, Grows, IsIn}
 use Rattle.lvl_changed.proofs.Unchanged.{moved_none}
 
 -- the shape with these rings covers the square
@@ -175,8 +175,8 @@ left_more pairs others xs ys old new i low adds before = record {
   ];
 }
 
--- if what is left covers the same outside of windows, the shapes do
-pub left_alike : (none pairs : List LayerPair) (xs ys left other : List (PlainShape Rings)) (w : Windows) → none ≡ []
+-- if what is left covers the same outside of an area, the shapes do
+pub left_alike : (none pairs : List LayerPair) (xs ys left other : List (PlainShape Rings)) (w : Area) → none ≡ []
     → AreLeft none xs pairs ys left → AreLeft pairs ys none xs other
     → AlikeOutside w (ShapesCover left) (IsMoved pairs (ShapesCover other))
     → AlikeOutside w (ShapesCover xs) (IsMoved pairs (ShapesCover ys))
@@ -195,15 +195,16 @@ left_alike none pairs xs ys left other w is first second same l s out = (
       ],
 )
 
--- if neither covers anything outside of windows
-pub none_alike : (pairs : List LayerPair) (xs ys : List (PlainShape Rings)) (old w : Windows) → Widens old w
-    → ((l : Layer) (s : Square) → (¬ Has old s) → ¬ ShapesCover xs l s)
-    → ((l : Layer) (s : Square) → (¬ Has w s) → ¬ ShapesCover ys l s)
+-- if neither covers anything outside of an area
+pub none_alike : (none pairs : List LayerPair) (xs ys : List (PlainShape Rings)) (old w : Area) → none ≡ []
+    → Grows old w → ((l : Layer) (s : Square) → (¬ IsIn old (target_of none l) s) → ¬ ShapesCover xs l s)
+    → ((l : Layer) (s : Square) → (¬ IsIn w (target_of pairs l) s) → ¬ ShapesCover ys l s)
     → AlikeOutside w (ShapesCover xs) (IsMoved pairs (ShapesCover ys))
-none_alike pairs xs ys old w wide first second l s out = (
-  λ c. absurd (first l s (λ h. out (wide.has s h)) c),
-  λ m. absurd (second m.source s out m.covers),
-)
+none_alike none pairs xs ys old w is wide first second l s out =
+    let unmapped : target_of none l ≡ l = rw is refl in (
+      λ c. absurd (first l s (λ h. out (wide.has l s (subst (λ k. IsIn old k s) unmapped h))) c),
+      λ m. absurd (second m.source s (λ h. out (subst (λ k. IsIn w k s) m.is_target h)) m.covers),
+    )
 
 -- a ring between two corners is in their window, and moved in the window moved by the shifts' reach
 pub ring_moved : (ring : List Point) (least greatest low high a b : Point) → All (IsBetween least greatest) ring
@@ -230,11 +231,11 @@ ring_moved ring least greatest low high a b all is_a is_b e s between covers =
       y_below = omega (arith, ints, h.y_below, between.above);
     }))
 
--- windows that have a ring at all shifts of its shape
-pub ring_outside : (h : PlainShape Rings) (r : List Point) (low high : Point) (w : Windows)
-    → All (IsBetween low high) h.shifts → HasMoved r low high (Has w) → (l : Layer) (s : Square) → (¬ Has w s)
+-- a set that has a ring at all shifts of its shape
+pub ring_outside : (h : PlainShape Rings) (r : List Point) (low high : Point) (H : Square → Type 0)
+    → All (IsBetween low high) h.shifts → HasMoved r low high H → (l : Layer) (s : Square) → (¬ H s)
     → RingsCover h (r ∷ []) l s → ⊥
-ring_outside h r low high w all has l s out c =
+ring_outside h r low high H all has l s out c =
     let at = c.1 in
     let covers : Covers r (moved_back at.1 s) =
     elim (Any-uncons (λ (q : List Point). Covers q (moved_back at.1 s)) r [] at.4)
@@ -254,22 +255,36 @@ all_rings first new h j l s long is =
     subst (λ (rs : Rings). ShapesCover new l s ↔ (ShapesCover first l s ⊎ RingsCover h rs l s))
     (take_all j h.figure long) is
 
--- windows that have a shape's rings up to an index, with one more
-pub ring_held : (h : PlainShape Rings) (rings : Rings) (j : ℕ) (r : List Point) (low high : Point) (old new : Windows)
-    → j < length rings → r ≡ get_or rings j [] → All (IsBetween low high) h.shifts → Widens old new
-    → HasMoved r low high (Has new)
-    → ((l : Layer) (s : Square) → (¬ Has old s) → ¬ RingsCover h (take j rings) l s) → (l : Layer) (s : Square)
-    → (¬ Has new s) → RingsCover h (take (j + 1) rings) l s → ⊥
-ring_held h rings j r low high old new inside is all wide has before l s out c =
+-- a shape covers nothing on other Layers
+ring_layer : (h : PlainShape Rings) (rings : Rings) (l : Layer) (s : Square) → RingsCover h rings l s → h.layer ≡ l
+ring_layer h rings l s c = c.0
+
+-- an area that has a shape's rings up to an index, with one more
+pub ring_held : (pairs : List LayerPair) (h : PlainShape Rings) (rings : Rings) (j : ℕ) (r : List Point)
+    (low high : Point) (on : Layer) (old new : Area) → j < length rings → r ≡ get_or rings j []
+    → on ≡ target_of pairs h.layer → All (IsBetween low high) h.shifts → Grows old new
+    → HasMoved r low high (IsIn new on)
+    → ((l : Layer) (s : Square) → (¬ IsIn old (target_of pairs l) s) → ¬ RingsCover h (take j rings) l s)
+    → (l : Layer) (s : Square) → (¬ IsIn new (target_of pairs l) s) → RingsCover h (take (j + 1) rings) l s → ⊥
+ring_held pairs h rings j r low high on old new inside is at all wide has before l s out c =
+    let mapped : target_of pairs l ≡ on =
+    sym (at ∙ ap (target_of pairs) (ring_layer h (take (j + 1) rings) l s c)) in
     elim ((rings_more h rings j r l s inside is).0 c) [
-      | inl b ↦ before l s (λ x. out (wide.has s x)) b
-      | inr b ↦ ring_outside h r low high new all has l s out b
+      | inl b ↦ before l s (λ x. out (wide.has (target_of pairs l) s x)) b
+      | inr b ↦
+          ring_outside h r low high (IsIn new on) all has l s
+          (λ x. out (subst (λ k. IsIn new k s) (sym mapped) x)) b
     ]
 
 -- and the shapes up to an index
-pub shape_held : (hs : List (PlainShape Rings)) (i : ℕ) (old new : Windows) → i < length hs → Widens old new
-    → ((l : Layer) (s : Square) → (¬ Has new s) → ¬ ShapeCovers SomeCovers l s (shape_at hs i))
-    → ((l : Layer) (s : Square) → (¬ Has old s) → ¬ ShapesCover (take i hs) l s) → (l : Layer) (s : Square)
-    → (¬ Has new s) → ShapesCover (take (i + 1) hs) l s → ⊥
-shape_held hs i old new low wide here before l s out c =
-    elim ((shapes_more hs i l s low).0 c) [ inl b ↦ before l s (λ x. out (wide.has s x)) b | inr b ↦ here l s out b ]
+pub shape_held : (pairs : List LayerPair) (hs : List (PlainShape Rings)) (i : ℕ) (old new : Area) → i < length hs
+    → Grows old new
+    → ((l : Layer) (s : Square) → (¬ IsIn new (target_of pairs l) s)
+    → ¬ ShapeCovers SomeCovers l s (shape_at hs i))
+    → ((l : Layer) (s : Square) → (¬ IsIn old (target_of pairs l) s) → ¬ ShapesCover (take i hs) l s) → (l : Layer)
+    (s : Square) → (¬ IsIn new (target_of pairs l) s) → ShapesCover (take (i + 1) hs) l s → ⊥
+shape_held pairs hs i old new low wide here before l s out c =
+    elim ((shapes_more hs i l s low).0 c) [
+      | inl b ↦ before l s (λ x. out (wide.has (target_of pairs l) s x)) b
+      | inr b ↦ here l s out b
+    ]

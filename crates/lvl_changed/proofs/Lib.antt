@@ -1,7 +1,10 @@
 pub mod Lists
 pub mod Widening
+pub mod Growing
+pub mod Spreading
 pub mod Moving
 pub mod Placing
+pub mod Drawn
 pub mod Grid
 pub mod Sums
 pub mod SeenThrough

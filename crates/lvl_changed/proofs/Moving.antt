@@ -1,4 +1,4 @@
--- Layouts that cover the same outside of windows, under a map of Layers.
+-- Layouts that cover the same outside of areas, under a map of Layers.
 use Rattle.std.proofs.Common.{◌≡◌, ◌↔◌, ◌⊎◌, ℕ, List, Some, inl, inr, sym, subst, slice_get, IsSomeAnd}
 use Rattle.lvl_grid.specs.declared.point.Square.{Square}
 use Rattle.lvl_grid.specs.Winding.{SomeCovers}
@@ -10,8 +10,9 @@ use Rattle.lvl_flat.proofs.Covering.{cell_covers}
 use Rattle.lvl_view.specs.declared.map.LayerPair.{LayerPair}
 use Rattle.lvl_view.specs.Moved.{IsMoved}
 use Rattle.lvl_compare.specs.Tops.{Draws}
-use Rattle.lvl_changed.specs.declared.windows.Windows.{Windows}
-use Rattle.lvl_changed.specs.inside.Windows.{Has, Widens, AlikeOutside}
+use Rattle.lvl_view.specs.Views.{target_of}
+use Rattle.lvl_changed.specs.declared.area.Area.{Area}
+use Rattle.lvl_changed.specs.inside.Areas.{AlikeOutside, Grows}
 use Rattle.lvl_changed.specs.inside.Placements.{ReferencesCover}
 use Rattle.lvl_changed.specs.inside.Shapes.{ShapesCover}
 
@@ -24,24 +25,22 @@ moved_more pairs a b s q more l m = record {
   covers = more m.source m.covers;
 }
 
-pub alike_moved : (pairs : List LayerPair) (w : Windows) (a b : Draws) → AlikeOutside w a b
-    → AlikeOutside w (IsMoved pairs a) (IsMoved pairs b)
-alike_moved pairs w a b same l s out = (
-  λ m. moved_more pairs a b s s (λ k x. (same k s out).0 x) l m,
-  λ m. moved_more pairs b a s s (λ k x. (same k s out).1 x) l m,
-)
+-- the same of what the Layer is mapped to
+pub moved_on : (pairs : List LayerPair) (a b : Draws) (s q : Square) (l : Layer)
+    → ((k : Layer) → target_of pairs k ≡ l → a k s → b k q) → IsMoved pairs a l s → IsMoved pairs b l q
+moved_on pairs a b s q l more m = record {
+  source = m.source;
+  is_target = m.is_target;
+  covers = more m.source m.is_target m.covers;
+}
 
-pub alike_then : (w : Windows) (a b c : Draws) → AlikeOutside w a b → AlikeOutside w b c → AlikeOutside w a c
+pub alike_then : (w : Area) (a b c : Draws) → AlikeOutside w a b → AlikeOutside w b c → AlikeOutside w a c
 alike_then w a b c p q l s out =
     (λ x. (q l s out).0 ((p l s out).0 x), λ y. (p l s out).1 ((q l s out).1 y))
 
--- with more windows
-pub alike_wider : (v w : Windows) (a b : Draws) → Widens v w → AlikeOutside v a b → AlikeOutside w a b
-alike_wider v w a b wide same l s out = same l s (λ has. out (wide.has s has))
-
--- with the whole grid as windows
-pub alike_anywhere : (w : Windows) (a b : Draws) → ((s : Square) → Has w s) → AlikeOutside w a b
-alike_anywhere w a b all l s out = absurd (out (all s))
+-- outside of a larger area
+pub alike_wider : (v w : Area) (a b : Draws) → Grows v w → AlikeOutside v a b → AlikeOutside w a b
+alike_wider v w a b wide same l s out = same l s (λ has. out (wide.has l s has))
 
 -- a cell at an index covers what its shapes and its references do
 pub covers_both : (cells : List (PlainCell Rings)) (i : ℕ) (c : PlainCell Rings) → slice_get cells i ≡ Some c
@@ -55,7 +54,7 @@ covers_both cells i c at l s =
 
 -- cells whose shapes and references cover the same do so themselves
 pub cells_alike : (ours theirs : List (PlainCell Rings)) (i j : ℕ) (c d : PlainCell Rings) (pairs : List LayerPair)
-    (w : Windows) → slice_get ours i ≡ Some c → slice_get theirs j ≡ Some d
+    (w : Area) → slice_get ours i ≡ Some c → slice_get theirs j ≡ Some d
     → AlikeOutside w (ShapesCover c.shapes) (IsMoved pairs (ShapesCover d.shapes))
     → AlikeOutside w (ReferencesCover ours c.references) (IsMoved pairs (ReferencesCover theirs d.references))
     → AlikeOutside w (CoversAt ours i) (IsMoved pairs (CoversAt theirs j))

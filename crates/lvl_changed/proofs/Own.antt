@@ -8,18 +8,18 @@ use Rattle.lvl_flat.specs.Mapped.{IsMapped}
 use Rattle.lvl_flat.specs.Sheet.{PlainSheet}
 use Rattle.lvl_view.specs.declared.map.LayerPair.{LayerPair}
 use Rattle.lvl_view.specs.Moved.{IsMoved}
-use Rattle.lvl_changed.specs.declared.windows.Windows.{Windows}
+use Rattle.lvl_changed.specs.declared.area.Area.{Area}
 use Rattle.lvl_changed.specs.inside.Shapes.{FlatCovers, ShapesCover}
-use Rattle.lvl_changed.specs.inside.Windows.{AlikeOutside}
+use Rattle.lvl_changed.specs.inside.Areas.{AlikeOutside}
 use Rattle.lvl_changed.proofs.Moving.{moved_more}
 
 -- the flat layout covers what the shapes do
 abbrev pub Flattens : List PlainSheet → List (PlainShape Rings) → Type 0
 Flattens flat shapes = (l : Layer) (s : Square) → FlatCovers flat l s ↔ ShapesCover shapes l s
 
--- if flat layouts cover the same outside of windows, the shapes do
+-- if flat layouts cover the same outside of an area, the shapes do
 pub shapes_alike : (a b mapped : List PlainSheet) (xs ys : List (PlainShape Rings)) (pairs : List LayerPair)
-    (w : Windows) → Flattens a xs → Flattens b ys → IsMapped pairs b mapped
+    (w : Area) → Flattens a xs → Flattens b ys → IsMapped pairs b mapped
     → AlikeOutside w (FlatCovers a) (FlatCovers mapped)
     → AlikeOutside w (ShapesCover xs) (IsMoved pairs (ShapesCover ys))
 shapes_alike a b mapped xs ys pairs w ours theirs map same l s out = (

@@ -1,4 +1,4 @@
--- What references and placements cover, outside of windows.
+-- What references and placements cover, outside of areas.
 use Rattle.std.proofs.Common.{◌≡◌, ◌↔◌, ◌<◌, ◌+◌, ◌++◌, ◌∷◌, [], ℕ, List, Any, Contains, IsSomeAnd, Option, Some, None}
 use Rattle.std.proofs.Common.{◌⊎◌, map, take, length, get_or, slice_get, inl, inr, refl, sym, ap, ◌∙◌, subst}
 use Rattle.std.proofs.Common.{false, pos}
@@ -24,13 +24,14 @@ use Rattle.lvl_cells.specs.Checks.{IsTargetOf}
 use Rattle.lvl_changed.specs.declared.arrays.Array.{Array}
 use Rattle.lvl_changed.specs.declared.found.Found.{Found}
 use Rattle.lvl_changed.specs.declared.placements.Placement.{Placement}
-use Rattle.lvl_changed.specs.declared.windows.Windows.{Windows}
+use Rattle.lvl_changed.specs.declared.area.Area.{Area}
 use Rattle.lvl_changed.specs.inside.Arrays.{as_reference, each_place, AddsArray, AddsPartner, IsArrayOf}
 use Rattle.lvl_changed.specs.inside.Finding.{IsFound, PartnerCovers}
 use Rattle.lvl_changed.specs.inside.Placements.{placed, partner_placed, HaveSame, PlacedCover, PlacementCovers}
 use Rattle.lvl_changed.specs.inside.Placements.{ReferencesCover}
-use Rattle.lvl_changed.specs.inside.Windows.{Has, HasPlaced, AlikeOutside, Widens}
-use Rattle.lvl_changed.proofs.Moving.{moved_more}
+use Rattle.lvl_view.specs.Views.{target_of}
+use Rattle.lvl_changed.specs.inside.Areas.{AlikeOutside, Grows, HasImages, IsIn}
+use Rattle.lvl_changed.proofs.Moving.{moved_more, moved_on}
 
 at_some : {X : Type 0} (P : X → Type 0) (o : Option X) (x : X) → o ≡ Some x → IsSomeAnd o P ↔ P x
 at_some P o x e = (λ h. subst (λ q. IsSomeAnd q P) e h, λ p. subst (λ q. IsSomeAnd q P) (sym e) p)
@@ -66,22 +67,22 @@ reference_at cells k c r at named l s =
     (λ e. pick_at cells k c r at named e l s))
     (turned_round (Any-map (PlacementCovers cells l s) to r.shifts)))
 
--- a square whose image is outside of the windows is outside of the windows of the cell that is placed
-inner_out : (m : Map) (held all : Windows) (s t : Square) → HasPlaced m held all → image_square m t ≡ s
-    → (¬ Has all s) → ¬ Has held t
-inner_out m held all s t has is out inner = out (subst (λ q. Has all q) is (has.has t inner))
+-- a square whose image is outside of the area is outside of the area of the cell that is placed
+inner_out : (m : Map) (held all : Area) (l : Layer) (s t : Square) → HasImages m held all → image_square m t ≡ s
+    → (¬ IsIn all l s) → ¬ IsIn held l t
+inner_out m held all l s t has is out inner = out (subst (λ q. IsIn all l q) is (has.has l t inner))
 
--- outside of the windows a cell of the first library covers at one place what its partner does there
+-- outside of the area a cell of the first library covers at one place what its partner does there
 placement_alike : (pairs : List LayerPair) (ours theirs : List (PlainCell Rings)) (k n : ℕ) (f : Found) (m : Map)
-    (all : Windows) → f.partner ≡ Some n → IsFound pairs ours theirs k f → HasPlaced m f.windows all → (l : Layer)
-    (s : Square) → (¬ Has all s)
+    (all : Area) → f.partner ≡ Some n → IsFound pairs ours theirs k f → HasImages m f.area all → (l : Layer)
+    (s : Square) → (¬ IsIn all l s)
     → PlacementCovers ours l s (record { cell = k; map = m })
     ↔ IsMoved pairs (λ j q. PlacementCovers theirs j q (record { cell = n; map = m })) l s
 placement_alike pairs ours theirs k n f m all partner found has l s out =
     let same : (t : Square) → image_square m t ≡ s
     → CoversAt ours k l t ↔ IsMoved pairs (CoversAt theirs n) l t =
     λ t is. subst (λ o. CoversAt ours k l t ↔ PartnerCovers pairs theirs o l t) partner
-    (found l t (inner_out m f.windows all s t has is out)) in (
+    (found l t (inner_out m f.area all l s t has is out)) in (
       λ u. let there = (same u.0 u.1).0 u.2 in
           record { source = there.source; is_target = there.is_target; covers = (u.0, u.1, there.covers) },
       λ moved. let u = moved.covers in (
@@ -94,16 +95,16 @@ placement_alike pairs ours theirs k n f m all partner found has l s out =
 
 -- without a partner it covers nothing there
 placement_none : (pairs : List LayerPair) (ours theirs : List (PlainCell Rings)) (k : ℕ) (f : Found) (m : Map)
-    (all : Windows) → f.partner ≡ None → IsFound pairs ours theirs k f → HasPlaced m f.windows all → (l : Layer)
-    (s : Square) → (¬ Has all s) → PlacementCovers ours l s (record { cell = k; map = m }) → ⊥
+    (all : Area) → f.partner ≡ None → IsFound pairs ours theirs k f → HasImages m f.area all → (l : Layer)
+    (s : Square) → (¬ IsIn all l s) → PlacementCovers ours l s (record { cell = k; map = m }) → ⊥
 placement_none pairs ours theirs k f m all none found has l s out u =
     subst (λ o. PartnerCovers pairs theirs o l u.0) none
-    ((found l u.0 (inner_out m f.windows all s u.0 has u.1 out)).0 u.2)
+    ((found l u.0 (inner_out m f.area all l s u.0 has u.1 out)).0 u.2)
 
 -- the same at all places of a reference
 places_alike : (pairs : List LayerPair) (ours theirs : List (PlainCell Rings)) (k n : ℕ) (f : Found)
-    (r : PlainReference) (all : Windows) → f.partner ≡ Some n → IsFound pairs ours theirs k f
-    → ((e : Point) → Contains r.shifts e → HasPlaced (map_at r e) f.windows all)
+    (r : PlainReference) (all : Area) → f.partner ≡ Some n → IsFound pairs ours theirs k f
+    → ((e : Point) → Contains r.shifts e → HasImages (map_at r e) f.area all)
     → AlikeOutside all (PlacedCover ours (placed k r)) (IsMoved pairs (PlacedCover theirs (placed n r)))
 places_alike pairs ours theirs k n f r all partner found has l s out =
     let mine : Point → Placement = λ e. record { cell = k; map = map_at r e } in
@@ -128,8 +129,8 @@ places_alike pairs ours theirs k n f r all partner found has l s out =
     )
 
 places_none : (pairs : List LayerPair) (ours theirs : List (PlainCell Rings)) (k : ℕ) (f : Found)
-    (r : PlainReference) (all : Windows) → f.partner ≡ None → IsFound pairs ours theirs k f
-    → ((e : Point) → Contains r.shifts e → HasPlaced (map_at r e) f.windows all)
+    (r : PlainReference) (all : Area) → f.partner ≡ None → IsFound pairs ours theirs k f
+    → ((e : Point) → Contains r.shifts e → HasImages (map_at r e) f.area all)
     → AlikeOutside all (PlacedCover ours (placed k r)) (IsMoved pairs (PlacedCover theirs []))
 places_none pairs ours theirs k f r all none found has l s out =
     let mine : Point → Placement = λ e. record { cell = k; map = map_at r e } in (
@@ -142,8 +143,8 @@ places_none pairs ours theirs k f r all none found has l s out =
 
 -- whether there is a partner or not
 partner_alike : (pairs : List LayerPair) (ours theirs : List (PlainCell Rings)) (k : ℕ) (f : Found)
-    (r : PlainReference) (all : Windows) (o : Option ℕ) → f.partner ≡ o → IsFound pairs ours theirs k f
-    → ((e : Point) → Contains r.shifts e → HasPlaced (map_at r e) f.windows all)
+    (r : PlainReference) (all : Area) (o : Option ℕ) → f.partner ≡ o → IsFound pairs ours theirs k f
+    → ((e : Point) → Contains r.shifts e → HasImages (map_at r e) f.area all)
     → AlikeOutside all (PlacedCover ours (placed k r)) (IsMoved pairs (PlacedCover theirs (partner_placed o r)))
 partner_alike pairs ours theirs k f r all None is found has =
     places_none pairs ours theirs k f r all is found has
@@ -163,7 +164,7 @@ no_reference : PlainReference
 no_reference = record { cell = []; flip = false; turn = R0; at = record { x = pos 0; y = pos 0 }; shifts = [] }
 
 -- what one more reference covers, which an array does too
-references_more : (cells : List (PlainCell Rings)) (i j : ℕ) (c : PlainCell Rings) (a : Array)
+pub references_more : (cells : List (PlainCell Rings)) (i j : ℕ) (c : PlainCell Rings) (a : Array)
     → slice_get cells i ≡ Some c → j < length c.references → IsArrayOf cells i j a → (l : Layer) (s : Square)
     → ReferencesCover cells (take (j + 1) c.references) l s
     ↔ (ReferencesCover cells (take j c.references) l s ⊎ PlacedCover cells (each_place a) l s)
@@ -187,9 +188,9 @@ references_more cells i j c a at low is l s =
 
 -- with one more reference
 pub partners_more : (pairs : List LayerPair) (ours theirs : List (PlainCell Rings)) (i j : ℕ) (c : PlainCell Rings)
-    (ps new : List Placement) (a : Array) (f : Found) (all : Windows) → slice_get ours i ≡ Some c
+    (ps new : List Placement) (a : Array) (f : Found) (all : Area) → slice_get ours i ≡ Some c
     → j < length c.references → IsArrayOf ours i j a → IsFound pairs ours theirs a.cell f
-    → ((e : Point) → Contains a.shifts e → HasPlaced (map_at (as_reference a) e) f.windows all)
+    → ((e : Point) → Contains a.shifts e → HasImages (map_at (as_reference a) e) f.area all)
     → AddsPartner ps new f.partner a
     → AlikeOutside all (ReferencesCover ours (take j c.references)) (IsMoved pairs (PlacedCover theirs ps))
     → AlikeOutside all (ReferencesCover ours (take (j + 1) c.references)) (IsMoved pairs (PlacedCover theirs new))
@@ -214,7 +215,7 @@ partners_more pairs ours theirs i j c ps new a f all at low is found has adds be
     )
 
 -- without references
-pub partners_none : (pairs : List LayerPair) (ours theirs : List (PlainCell Rings)) (all : Windows)
+pub partners_none : (pairs : List LayerPair) (ours theirs : List (PlainCell Rings)) (all : Area)
     → AlikeOutside all (ReferencesCover ours []) (IsMoved pairs (PlacedCover theirs []))
 partners_none pairs ours theirs all l s out = (
   λ a. absurd (Any-nil (PickCovers ours l s) a),
@@ -244,25 +245,31 @@ pub same_cover : (cells : List (PlainCell Rings)) (ps qs : List Placement) → H
 same_cover cells ps qs h l s a =
     some_contained (PlacementCovers cells l s) qs a.1 ((h a.1).0 (a.0, a.2, a.3)) a.4
 
--- the windows have what a placement covers, if they have the images of the squares that its cell covers
-pub placement_held : (cells : List (PlainCell Rings)) (w : Windows) (p : Placement)
-    → ((l : Layer) (t : Square) → CoversAt cells p.cell l t → Has w (image_square p.map t)) → (l : Layer) (s : Square)
-    → PlacementCovers cells l s p → Has w s
-placement_held cells w p held l s covers = subst (λ q. Has w q) covers.1 (held l covers.0 covers.2)
+-- the area has what a placement covers, if it has the images of the squares that its cell covers
+pub placement_held : (pairs : List LayerPair) (cells : List (PlainCell Rings)) (w : Area) (p : Placement)
+    → ((l : Layer) (t : Square) → CoversAt cells p.cell l t → IsIn w (target_of pairs l) (image_square p.map t))
+    → (l : Layer) (s : Square) → PlacementCovers cells l s p → IsIn w (target_of pairs l) s
+placement_held pairs cells w p held l s covers =
+    subst (λ q. IsIn w (target_of pairs l) q) covers.1 (held l covers.0 covers.2)
 
--- cells whose placements cover the same outside of windows have references that do
+-- cells whose placements cover the same outside of an area have references that do
 pub refer_alike : (pairs : List LayerPair) (ours theirs : List (PlainCell Rings)) (xs ys : List PlainReference)
-    (ps qs : List Placement) (old new : Windows)
+    (ps qs : List Placement) (old new : Area)
     → AlikeOutside old (ReferencesCover ours xs) (IsMoved pairs (PlacedCover theirs ps))
-    → ((l : Layer) (s : Square) → PlacedCover theirs qs l s ↔ ReferencesCover theirs ys l s) → Widens old new
-    → ((l : Layer) (s : Square) → (¬ Has new s) → PlacedCover theirs ps l s ↔ PlacedCover theirs qs l s)
+    → ((l : Layer) (s : Square) → PlacedCover theirs qs l s ↔ ReferencesCover theirs ys l s) → Grows old new
+    → ((l : Layer) (s : Square) → (¬ IsIn new (target_of pairs l) s)
+    → PlacedCover theirs ps l s ↔ PlacedCover theirs qs l s)
     → AlikeOutside new (ReferencesCover ours xs) (IsMoved pairs (ReferencesCover theirs ys))
 refer_alike pairs ours theirs xs ys ps qs old new mine other wide same l s out =
-    let both = mine l s (λ h. out (wide.has s h)) in
+    let both = mine l s (λ h. out (wide.has l s h)) in
+    let outside : (k : Layer) → target_of pairs k ≡ l → ¬ IsIn new (target_of pairs k) s =
+    λ k is h. out (subst (λ j. IsIn new j s) is h) in
     let here : Draws = PlacedCover theirs ps in
     let there : Draws = ReferencesCover theirs ys in (
-      λ x. moved_more pairs here there s s (λ k a. (other k s).0 ((same k s out).0 a)) l (both.0 x),
-      λ m. both.1 (moved_more pairs there here s s (λ k a. (same k s out).1 ((other k s).1 a)) l m),
+      λ x. moved_on pairs here there s s l
+          (λ k is a. (other k s).0 ((same k s (outside k is)).0 a)) (both.0 x),
+      λ m. both.1 (moved_on pairs there here s s l
+          (λ k is a. (same k s (outside k is)).1 ((other k s).1 a)) m),
     )
 
 -- the reference to a cell covers what the array of that cell does

@@ -192,15 +192,17 @@ pub widens_further : (a b c : Windows) → Widens a b → Widens b c → Widens 
 widens_further a b c p q = record { has = λ s h. q.has s (p.has s h) }
 
 -- windows that are sorted
+pub sorted_some : (ws us : List Window) (s : Square) → IsPermutation ws us → SomeHas ws s → SomeHas us s
+sorted_some ws us s moved a =
+    some_contained (λ w. IsInWindow w s) us a.1 (Contains-permutation ws us a.1 moved (a.0, a.2, a.3)) a.4
+
 pub sorted_has : (from to : Windows) → to.anywhere ≡ from.anywhere → IsPermutation from.list.items to.list.items
     → Widens from to
 sorted_has from to flag moved = record { has = each }
   where
     each : (s : Square) → Has from s → Has to s
     each s (inl any) = inl (flag_is from to flag any)
-    each s (inr a) =
-        inr (some_contained (λ w. IsInWindow w s) to.list.items a.1
-        (Contains-permutation from.list.items to.list.items a.1 moved (a.0, a.2, a.3)) a.4)
+    each s (inr a) = inr (sorted_some from.list.items to.list.items s moved a)
 
 -- one window is removed, and another joined with it
 pub next_joined : (from to : Windows) (xs : List Window) (next whole none : Window) (i : ℕ)

@@ -5,3 +5,6 @@ pub mod Arrays
 pub mod Finding
 pub mod Shapes
 pub mod Figures
+pub mod Layers
+pub mod Areas
+pub mod Drawing

@@ -16,7 +16,7 @@ pub fn same_by_cells(alloc: Global, first: &Fitted, second: &Fitted) -> Result<b
         → TopCovers first.now layer s ↔ TopCovers second.now layer s) }
 {
     match changed(alloc, first, second, &View::whole(alloc))? {
-        Some(windows) => Ok(windows.is_empty()),
+        Some(changes) => Ok(changes.windows.is_empty()),
         None => Ok(false),
     }
 }

@@ -7,18 +7,20 @@ ghost use Rattle.lvl_cells.specs.Cells.{PlainCell, Rings};
 ghost use Rattle.lvl_flat.specs.Flattened.{CoversAt, TopCovers};
 ghost use Rattle.lvl_view.specs.declared.map.LayerPair.{LayerPair};
 ghost use Rattle.lvl_view.specs.Moved.{IsMoved};
-ghost use Rattle.lvl_compare.specs.Tops.{DrawSame};
-ghost use Rattle.lvl_changed.specs.Changed.{IsOutside};
-ghost use Rattle.lvl_changed.specs.inside.Windows.{AlikeOutside, Has};
+ghost use Rattle.lvl_changed.specs.Changed.{DrawSameBut};
+ghost use Rattle.lvl_changed.specs.inside.Areas.{AlikeOutside, IsIn};
+ghost use Rattle.lvl_changed.specs.inside.Drawing.{AreDrawnOn};
 ghost use Rattle.lvl_changed.specs.inside.Finding.{AreFound, IsFound};
 
+use crate::area::Area;
+use crate::changes::Changes;
+use crate::drawing::drawn_by_cells;
 use crate::found::Found;
+use crate::layers::Layers;
 use crate::partners::{partner_in, partners_of};
 use crate::references::hold_references;
 use crate::shapes::hold_shapes;
-use crate::windows::Windows;
 use lvl_flat::Fitted;
-use lvl_grid::Window;
 use lvl_view::View;
 use std::alloc::{AllocError, Global};
 
@@ -47,70 +49,95 @@ fn none_known(alloc: Global, count: usize) -> Result<Vec<Option<Found>>, AllocEr
     (0..count).map(|_| None).collect(alloc)
 }
 
-/// Windows outside of which cell `ours` of the first library covers what cell `theirs` of the
+/// An area outside of which cell `ours` of the first library covers what cell `theirs` of the
 /// second does.
 fn changes_of(
     alloc: Global,
     first: &Fitted,
     ours: usize,
     second: &Fitted,
+    drawn: &[Option<Layers>],
     theirs: usize,
     view: &View,
     known: &[Option<Found>],
     most: usize,
-) -> Result<Windows, AllocError>
+) -> Result<Area, AllocError>
     requires ours { ours < length first.now.cells }
+    requires drawn { AreDrawnOn second.now.cells drawn.now }
     requires theirs { theirs < length second.now.cells }
-    ensures { IfOk result (λ windows. AreFound view.now.pairs first.now.cells second.now.cells known.now
-        → AlikeOutside windows (CoversAt first.now.cells ours)
+    ensures { IfOk result (λ area. AreFound view.now.pairs first.now.cells second.now.cells known.now
+        → AlikeOutside area (CoversAt first.now.cells ours)
         (IsMoved view.now.pairs (CoversAt second.now.cells theirs))) }
 {
-    let mut windows = Windows::none(alloc, most);
+    let mut area = Area::none(alloc, most);
     let our_cell = first.checked().cell(ours);
     let their_cell = second.checked().cell(theirs);
-    hold_shapes(&mut windows, alloc, our_cell, their_cell, view)?;
-    hold_references(&mut windows, alloc, first, ours, second, theirs, known)?;
-    Ok(windows)
+    hold_shapes(&mut area, alloc, our_cell, their_cell, view)?;
+    hold_references(
+        &mut area, alloc, first, ours, second, drawn, theirs, view, known,
+    )?;
+    Ok(area)
 }
 
-/// A window that has all squares that a cell covers.
-fn extent_of(alloc: Global, library: &Fitted, cell: usize) -> Result<Windows, AllocError>
-    ensures { IfOk result (λ windows. (layer : Layer) (s : Square)
-        → CoversAt library.now.cells cell layer s → Has windows s) }
+/// An area that has all squares that a cell covers.
+fn extent_of(
+    alloc: Global,
+    library: &Fitted,
+    drawn: &[Option<Layers>],
+    cell: usize,
+) -> Result<Area, AllocError>
+    requires { AreDrawnOn library.now.cells drawn.now }
+    ensures { IfOk result (λ area. (layer : Layer) (s : Square)
+        → CoversAt library.now.cells cell layer s → IsIn area layer s) }
 {
-    let mut windows = Windows::none(alloc, 1);
-    windows.hold_cell(library, cell)?;
-    Ok(windows)
+    let whole = View::whole(alloc);
+    let mut area = Area::none(alloc, 1);
+    area.hold_cell(library, drawn, &whole, cell)?;
+    Ok(area)
 }
 
-/// Windows outside of which a cell covers what its partner does, or nothing if it has no partner.
+/// An area outside of which a cell covers what its partner does, or nothing if it has no partner.
 fn found_of(
     alloc: Global,
     first: &Fitted,
+    our_drawn: &[Option<Layers>],
     cell: usize,
     second: &Fitted,
+    their_drawn: &[Option<Layers>],
     partner: Option<usize>,
     view: &View,
     known: &[Option<Found>],
     most: usize,
 ) -> Result<Found, AllocError>
+    requires ours { AreDrawnOn first.now.cells our_drawn.now }
     requires cell { cell < length first.now.cells }
+    requires theirs { AreDrawnOn second.now.cells their_drawn.now }
     requires partner { IfSome partner (λ n. n < length second.now.cells) }
     ensures partner { IfOk result (λ found. found.partner ≡ partner) }
     ensures found { IfOk result (λ found. AreFound view.now.pairs first.now.cells second.now.cells known.now
         → IsFound view.now.pairs first.now.cells second.now.cells cell found) }
 {
     let Some(theirs) = partner else {
-        let windows = extent_of(alloc, first, cell)?;
+        let area = extent_of(alloc, first, our_drawn, cell)?;
         return Ok(Found {
             partner: None,
-            windows,
+            area,
         });
     };
-    let windows = changes_of(alloc, first, cell, second, theirs, view, known, most)?;
+    let area = changes_of(
+        alloc,
+        first,
+        cell,
+        second,
+        their_drawn,
+        theirs,
+        view,
+        known,
+        most,
+    )?;
     Ok(Found {
         partner: Some(theirs),
-        windows,
+        area,
     })
 }
 
@@ -123,46 +150,50 @@ fn keep(known: &mut Vec<Option<Found>>, cell: usize, found: Found)
     known[cell] = Some(found);
 }
 
-/// The windows that were found for a cell, if it was compared with the cell `partner` and they
-/// aren't the whole grid.
-fn windows_of(mut known: Vec<Option<Found>>, cell: usize, partner: usize) -> Option<Vec<Window>>
+/// What was found for a cell, if it was compared with the cell `partner` and it isn't the whole
+/// grid.
+fn changes_in(mut known: Vec<Option<Found>>, cell: usize, partner: usize) -> Option<Changes>
     requires { cell < vec_len known }
-    ensures { IfSome result (λ windows. (pairs : List LayerPair) (ours theirs : List (PlainCell Rings))
+    ensures { IfSome result (λ changes. (pairs : List LayerPair) (ours theirs : List (PlainCell Rings))
         → AreFound pairs ours theirs known.items
-        → DrawSame (IsOutside windows.items) (CoversAt ours cell) (IsMoved pairs (CoversAt theirs partner))) }
+        → DrawSameBut changes (CoversAt ours cell) (IsMoved pairs (CoversAt theirs partner))) }
 {
     let Found {
         partner: compared,
-        windows,
+        area,
     } = known.swap_remove(cell)?;
     if compared? != partner {
         return None;
     }
-    windows.into_list()
+    area.into_changes()
 }
 
-/// Windows outside of which both tops cover the same squares on every Layer, with the Layers of the
-/// second mapped by the view. None if no such windows are found. There are at most 64, and the list
-/// is empty if both are found to draw the same everywhere. Fails only if out of memory.
+/// Windows and Layers such that both tops cover the same squares outside of the windows, and on all
+/// other Layers, with the Layers of the second mapped by the view. None if no such windows are found.
+/// There are at most 64 windows, and none if both are found to draw the same everywhere; and at most
+/// 64 Layers, or it may be any. Fails only if out of memory.
 ///
 /// The tops are compared with each other, and any other cell with one that it is likely to be the
 /// same as: one of its name that looks like it, one that is placed where it is, or else the one of
 /// its name. Own shapes are compared with own shapes, and references with references. What is the
 /// same on both sides cancels; only the rest is flattened, or written out place by place, or becomes
-/// windows if it is large. What is found for a cell is added to the windows of the cells that place
-/// it, at each place. A cell that isn't placed is no partner, since nothing limits how much it draws.
+/// windows if it is large, on the Layers on which it draws. What is found for a cell is added to what
+/// is found for the cells that place it, at each place. A cell that isn't placed is no partner, since
+/// nothing limits how much it draws.
 pub fn changed(
     alloc: Global,
     first: &Fitted,
     second: &Fitted,
     view: &View,
-) -> Result<Option<Vec<Window>>, AllocError>
-    ensures { IfOk result (λ found. IfSome found (λ windows.
-        DrawSame (IsOutside windows.items) (TopCovers first.now) (IsMoved view.now.pairs (TopCovers second.now)))) }
+) -> Result<Option<Changes>, AllocError>
+    ensures { IfOk result (λ found. IfSome found (λ changes.
+        DrawSameBut changes (TopCovers first.now) (IsMoved view.now.pairs (TopCovers second.now)))) }
 {
     let ours = first.checked();
     let theirs = second.checked();
     let partners = partners_of(alloc, first, second)?;
+    let our_drawn = drawn_by_cells(alloc, ours)?;
+    let their_drawn = drawn_by_cells(alloc, theirs)?;
     let times = ours.times();
     let mut known = none_known(alloc, ours.cells().len())?;
     for i in (0..ours.order().len()).rev() {
@@ -172,8 +203,19 @@ pub fn changed(
         }
         let partner = partner_in(&partners, cell, theirs);
         let most = most_windows(times[cell]);
-        let found = found_of(alloc, first, cell, second, partner, view, &known, most)?;
+        let found = found_of(
+            alloc,
+            first,
+            &our_drawn,
+            cell,
+            second,
+            &their_drawn,
+            partner,
+            view,
+            &known,
+            most,
+        )?;
         keep(&mut known, cell, found);
     }
-    Ok(windows_of(known, ours.top(), theirs.top()))
+    Ok(changes_in(known, ours.top(), theirs.top()))
 }

@@ -4,17 +4,21 @@ ghost use Rattle.lvl_columns.specs.Windows.{IsShown};
 ghost use Rattle.lvl_flat.specs.Flattened.{TopCovers};
 ghost use Rattle.lvl_view.specs.Moved.{IsMoved};
 ghost use Rattle.lvl_compare.specs.Tops.{DrawSame, IsFirstDifference};
-ghost use Rattle.lvl_changed.specs.Changed.{IsOutside};
+ghost use Rattle.lvl_changed.specs.Changed.{DrawSameBut};
 
 use crate::cells::changed;
+use crate::changes::Changes;
 use crate::pays::pays_by_cells;
-use lvl_compare::{difference_by_strips, difference_in_windows};
+use lvl_compare::{difference_by_strips, difference_in_windows, difference_on_layers};
 use lvl_flat::Fitted;
 use lvl_grid::{Square, Window};
 use lvl_names::Layer;
 use lvl_region::Side;
 use lvl_view::View;
 use std::alloc::{AllocError, Global};
+
+/// The greatest number of Layers on which large windows are compared without the others.
+const FEW_LAYERS: usize = 8;
 
 /// The number of squares of a window, at most `u64::MAX`.
 fn area(window: &Window) -> u64 {
@@ -33,36 +37,45 @@ fn are_small(windows: &[Window], first: &Fitted, second: &Fitted) -> bool {
     sum <= all / 2
 }
 
-/// The windows in which the layouts may differ, or None if it isn't likely to pay to search for
-/// them, or to compare only what is in them.
-fn windows_to_compare(
+/// Whether it is likely to pay to compare only these changes.
+fn pays(changes: &Changes, first: &Fitted, second: &Fitted) -> bool {
+    match &changes.layers {
+        Some(layers) if layers.len() <= FEW_LAYERS => true,
+        _ => are_small(&changes.windows, first, second),
+    }
+}
+
+/// Where the layouts may differ, or None if it isn't likely to pay to search for that, or to compare
+/// only what is there.
+fn changes_to_compare(
     alloc: Global,
     first: &Fitted,
     second: &Fitted,
     view: &View,
-) -> Result<Option<Vec<Window>>, AllocError>
-    ensures { IfOk result (λ found. IfSome found (λ windows.
-        DrawSame (IsOutside windows.items) (TopCovers first.now) (IsMoved view.now.pairs (TopCovers second.now)))) }
+) -> Result<Option<Changes>, AllocError>
+    ensures { IfOk result (λ found. IfSome found (λ changes.
+        DrawSameBut changes (TopCovers first.now) (IsMoved view.now.pairs (TopCovers second.now)))) }
 {
     if !pays_by_cells(first.checked()) || !pays_by_cells(second.checked()) {
         return Ok(None);
     }
-    let Some(windows) = changed(alloc, first, second, view)? else {
+    let Some(changes) = changed(alloc, first, second, view)? else {
         return Ok(None);
     };
-    if !are_small(&windows, first, second) {
+    if !pays(&changes, first, second) {
         return Ok(None);
     }
-    Ok(Some(windows))
+    Ok(Some(changes))
 }
 
 /// The first Layer, and on it the first square, by `y` and then `x`, that only one of two layouts
 /// draws, with its side; None if both draw the same squares on every Layer. The Layers of the
 /// second are mapped by the view, and if the view has a window, only its squares are compared.
 ///
-/// If cells are placed often enough for it to pay, only the windows that [`changed`] finds are
-/// compared. Otherwise, or if these are more than half of the layout, everything is: see
-/// [`difference_by_strips`], which also explains `most`. Fails only if out of memory.
+/// If cells are placed often enough for it to pay, only what [`changed`] finds is compared: its
+/// windows, and on its Layers only if these are few. Otherwise, or if the windows are more than half
+/// of the layout and the Layers aren't few, everything is: see [`difference_by_strips`], which also
+/// explains `most`. Fails only if out of memory.
 pub fn difference_by_changes(
     alloc: Global,
     first: &Fitted,
@@ -76,8 +89,12 @@ pub fn difference_by_changes(
         (λ at. IsFirstDifference (IsShown view.now.window) (TopCovers first.now)
         (IsMoved view.now.pairs (TopCovers second.now)) at.0 at.1 at.2)) }
 {
-    let Some(windows) = windows_to_compare(alloc, first, second, view)? else {
+    let Some(changes) = changes_to_compare(alloc, first, second, view)? else {
         return difference_by_strips(alloc, first, second, view, most);
     };
-    difference_in_windows(alloc, first, second, view, &windows, most)
+    let Changes { windows, layers } = changes;
+    match layers {
+        Some(layers) => difference_on_layers(alloc, first, second, view, &layers, &windows, most),
+        None => difference_in_windows(alloc, first, second, view, &windows, most),
+    }
 }

@@ -1,10 +1,10 @@
 //! What was found for a cell.
-use crate::windows::Windows;
+use crate::area::Area;
 
-/// Outside of the windows, a cell covers what its partner in the other library does, or nothing if
-/// it has no partner.
+/// Outside of the area, a cell covers what its partner in the other library does, or nothing if it
+/// has no partner.
 #[derive(Drop)]
 pub(crate) struct Found {
     pub partner: Option<usize>,
-    pub windows: Windows,
+    pub area: Area,
 }

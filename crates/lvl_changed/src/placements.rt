@@ -2,12 +2,16 @@
 ghost use Rattle.std.specs.Prelude.{Contains, IsTrue, OnOk};
 ghost use Rattle.lvl_grid.specs.declared.point.Square.{Square};
 ghost use Rattle.lvl_names.specs.declared.layer.Layer.{Layer};
-ghost use Rattle.lvl_changed.specs.inside.Windows.{Has, Widens};
+ghost use Rattle.lvl_view.specs.Views.{target_of};
+ghost use Rattle.lvl_changed.specs.inside.Areas.{Grows, IsIn};
+ghost use Rattle.lvl_changed.specs.inside.Drawing.{AreDrawnOn};
 ghost use Rattle.lvl_changed.specs.inside.Placements.{HaveSame, PlacedCover};
 
-use crate::windows::Windows;
+use crate::area::Area;
+use crate::layers::Layers;
 use lvl_flat::Fitted;
 use lvl_grid::{Map, Turn};
+use lvl_view::View;
 use std::alloc::AllocError;
 
 /// What placements are sorted by. Different placements have different keys.
@@ -64,24 +68,28 @@ fn is_at(placements: &[Placement], at: usize, placement: &Placement) -> bool
     }
 }
 
-/// Adds windows that have all that is covered by those placements that aren't among the others.
-/// Both lists should be sorted, or more windows are added than need be.
+/// Adds all that is covered by those placements that aren't among the others, with its Layers as the
+/// view maps them. Both lists should be sorted, or more is added than need be.
 pub(crate) fn hold_alone(
-    windows: &mut Windows,
+    area: &mut Area,
     library: &Fitted,
+    drawn: &[Option<Layers>],
+    view: &View,
     placements: &[Placement],
     others: &[Placement],
 ) -> Result<(), AllocError>
-    ensures held { OnOk result ((layer : Layer) (s : Square) → ¬ Has windows.new s
+    requires { AreDrawnOn library.now.cells drawn.now }
+    ensures held { OnOk result ((layer : Layer) (s : Square)
+        → ¬ IsIn area.new (target_of view.now.pairs layer) s
         → PlacedCover library.now.cells placements.now layer s
         → PlacedCover library.now.cells others.now layer s) }
-    ensures kept { OnOk result (Widens windows.old windows.new) }
+    ensures kept { OnOk result (Grows area.old area.new) }
 {
     let mut at = 0;
     for placement in placements {
         at = skip(others, at, placement.key());
         if !is_at(others, at, placement) {
-            windows.hold_placed_cell(library, placement.cell, &placement.map)?;
+            area.hold_placed_cell(library, drawn, view, placement.cell, &placement.map)?;
         }
     }
     Ok(())

@@ -7,28 +7,32 @@ ghost use Rattle.lvl_cells.specs.Cells.{PlainCell, Rings, map_at};
 ghost use Rattle.lvl_view.specs.declared.map.LayerPair.{LayerPair};
 ghost use Rattle.lvl_view.specs.Moved.{IsMoved};
 ghost use Rattle.lvl_changed.specs.inside.Arrays.{all_places, as_reference, AddsPartner};
-ghost use Rattle.lvl_changed.specs.inside.Windows.{AlikeOutside, Has, HasPlaced, Widens};
+ghost use Rattle.lvl_view.specs.Views.{target_of};
+ghost use Rattle.lvl_changed.specs.inside.Areas.{AlikeOutside, Grows, HasImages, IsIn};
+ghost use Rattle.lvl_changed.specs.inside.Drawing.{AreDrawnOn};
 ghost use Rattle.lvl_changed.specs.inside.Finding.{AreFound};
 ghost use Rattle.lvl_changed.specs.inside.Placements.{PlacedCover, ReferencesCover, ReferAlike};
 
+use crate::area::Area;
 use crate::arrays::{Array, array_of, sort_arrays};
 use crate::found::Found;
+use crate::layers::Layers;
 use crate::listing::list_alone;
 use crate::placed::{Placed, placed_of};
 use crate::placements::{hold_alone, sort_places};
-use crate::windows::Windows;
 use lvl_cells::Checked;
 use lvl_flat::Fitted;
+use lvl_view::View;
 use std::alloc::{AllocError, Global};
 
 /// The greatest number of placements of a cell for which arrays that only one side has are written
 /// out place by place, and as many again as the other side has single placements.
 const MOST_LISTED: u64 = 1_048_576;
 
-/// Adds the windows that were found for the cell of an array, at each place of the array, and adds
-/// what it places with the partner in place of the cell.
+/// Adds the area that was found for the cell of an array, at each place of the array, and adds what
+/// it places with the partner in place of the cell.
 fn place_partner(
-    windows: &mut Windows,
+    area: &mut Area,
     placed: &mut Placed,
     array: Array,
     found: &Found,
@@ -36,10 +40,10 @@ fn place_partner(
     ensures added { OnOk result
         (AddsPartner (all_places placed.old) (all_places placed.new) found.now.partner array) }
     ensures held { OnOk result ((e : Point) → Contains array.shifts e
-        → HasPlaced (map_at (as_reference array) e) found.now.windows windows.new) }
-    ensures kept { OnOk result (Widens windows.old windows.new) }
+        → HasImages (map_at (as_reference array) e) found.now.area area.new) }
+    ensures kept { OnOk result (Grows area.old area.new) }
 {
-    windows.hold_places(&found.windows, &array)?;
+    area.hold_places(&found.area, &array)?;
     let Array { by, shifts, .. } = array;
     if let Some(cell) = found.partner {
         placed.push(Array { cell, by, shifts })?;
@@ -48,10 +52,10 @@ fn place_partner(
 }
 
 /// What a cell's references place, with partners in place of the cells; those without a partner are
-/// left out. The windows that were found for each of these cells are added at each place. If
-/// nothing is known for one of them, the windows become the whole grid.
+/// left out. The area that was found for each of these cells is added at each place. If nothing is
+/// known for one of them, the area becomes the whole grid on every Layer.
 fn partners_placed(
-    windows: &mut Windows,
+    area: &mut Area,
     alloc: Global,
     checked: &Checked,
     cell: usize,
@@ -61,34 +65,39 @@ fn partners_placed(
     ensures covers { IfOk result (λ placed. (pairs : List LayerPair) (theirs : List (PlainCell Rings))
         → AreFound pairs checked.now.cells theirs known.now
         → IfSome (slice_get checked.now.cells cell)
-        (λ c. AlikeOutside windows.new (ReferencesCover checked.now.cells c.references)
+        (λ c. AlikeOutside area.new (ReferencesCover checked.now.cells c.references)
         (IsMoved pairs (PlacedCover theirs (all_places placed))))) }
-    ensures kept { OnOk result (Widens windows.old windows.new) }
+    ensures kept { OnOk result (Grows area.old area.new) }
 {
     let mut placed = Placed::none(alloc);
     let parent = &checked.cells()[cell];
     for j in 0..parent.references.len() {
         let array = array_of(checked, cell, j)?;
         let Some(Some(found)) = known.get(array.cell) else {
-            windows.hold_anywhere();
+            area.hold_anywhere();
             return Ok(placed);
         };
-        place_partner(windows, &mut placed, array, found)?;
+        place_partner(area, &mut placed, array, found)?;
     }
     Ok(placed)
 }
 
-/// Adds windows outside of which the first covers the same squares as the second.
+/// Adds an area outside of which the first covers the same squares as the second, both with their
+/// Layers as the view maps them.
 fn hold_placed(
-    windows: &mut Windows,
+    area: &mut Area,
     library: &Fitted,
+    drawn: &[Option<Layers>],
+    view: &View,
     first: Placed,
     second: Placed,
 ) -> Result<(), AllocError>
-    ensures held { OnOk result ((layer : Layer) (s : Square) → (¬ Has windows.new s)
+    requires { AreDrawnOn library.now.cells drawn.now }
+    ensures held { OnOk result ((layer : Layer) (s : Square)
+        → (¬ IsIn area.new (target_of view.now.pairs layer) s)
         → PlacedCover library.now.cells (all_places first) layer s
         ↔ PlacedCover library.now.cells (all_places second) layer s) }
-    ensures kept { OnOk result (Widens windows.old windows.new) }
+    ensures kept { OnOk result (Grows area.old area.new) }
 {
     let Placed {
         mut singles,
@@ -102,42 +111,55 @@ fn hold_placed(
     sort_arrays(&mut other_arrays);
     let most = MOST_LISTED.saturating_add(others.len() as u64);
     let their_most = MOST_LISTED.saturating_add(singles.len() as u64);
-    list_alone(windows, &mut singles, library, &arrays, &other_arrays, most)?;
     list_alone(
-        windows,
+        area,
+        &mut singles,
+        library,
+        drawn,
+        view,
+        &arrays,
+        &other_arrays,
+        most,
+    )?;
+    list_alone(
+        area,
         &mut others,
         library,
+        drawn,
+        view,
         &other_arrays,
         &arrays,
         their_most,
     )?;
     sort_places(&mut singles);
     sort_places(&mut others);
-    hold_alone(windows, library, &singles, &others)?;
-    hold_alone(windows, library, &others, &singles)?;
+    hold_alone(area, library, drawn, view, &singles, &others)?;
+    hold_alone(area, library, drawn, view, &others, &singles)?;
     Ok(())
 }
 
-/// Adds windows outside of which the references of cell `ours` cover the same squares as those of
-/// cell `theirs`.
+/// Adds an area outside of which the references of cell `ours` cover the same squares as those of
+/// cell `theirs` under the view's map of Layers.
 pub(crate) fn hold_references(
-    windows: &mut Windows,
+    area: &mut Area,
     alloc: Global,
     first: &Fitted,
     ours: usize,
     second: &Fitted,
+    drawn: &[Option<Layers>],
     theirs: usize,
+    view: &View,
     known: &[Option<Found>],
 ) -> Result<(), AllocError>
     requires ours { ours < length first.now.cells }
+    requires drawn { AreDrawnOn second.now.cells drawn.now }
     requires theirs { theirs < length second.now.cells }
-    ensures held { OnOk result ((pairs : List LayerPair)
-        → AreFound pairs first.now.cells second.now.cells known.now
-        → ReferAlike windows.new pairs first.now.cells ours second.now.cells theirs) }
-    ensures kept { OnOk result (Widens windows.old windows.new) }
+    ensures held { OnOk result (AreFound view.now.pairs first.now.cells second.now.cells known.now
+        → ReferAlike area.new view.now.pairs first.now.cells ours second.now.cells theirs) }
+    ensures kept { OnOk result (Grows area.old area.new) }
 {
-    let placed = partners_placed(windows, alloc, first.checked(), ours, known)?;
+    let placed = partners_placed(area, alloc, first.checked(), ours, known)?;
     let others = placed_of(alloc, second.checked(), theirs)?;
-    hold_placed(windows, second, placed, others)?;
+    hold_placed(area, second, drawn, view, placed, others)?;
     Ok(())
 }

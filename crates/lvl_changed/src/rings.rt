@@ -3,11 +3,14 @@ ghost use Rattle.std.specs.Prelude.{◌≡◌, ◌↔◌, Contains, IsTrue, OnOk
 ghost use Rattle.lvl_grid.specs.declared.point.Square.{Square};
 ghost use Rattle.lvl_grid.specs.Clip.{IsInWindow};
 ghost use Rattle.lvl_grid.specs.Winding.{Covers, SomeCovers};
+ghost use Rattle.lvl_changed.specs.inside.Areas.{Grows, IsIn};
 ghost use Rattle.lvl_changed.specs.inside.Windows.{Has, Widens};
 
+use crate::area::Area;
 use crate::windows::{Windows, spot};
 use lvl_columns::difference_in;
 use lvl_grid::{Point, Rings, Window};
+use lvl_names::Layer;
 use std::alloc::{AllocError, Global};
 use std::cmp::Ordering;
 
@@ -95,22 +98,24 @@ fn hold_missing(
     Ok(())
 }
 
-/// Adds windows outside of which both lists cover the same squares: none if both cover the same
-/// everywhere, else the boxes of the rings that only one list has.
+/// Adds an area outside of which both lists cover the same squares on the Layer: nothing if both
+/// cover the same everywhere, else the boxes of the rings that only one list has.
 pub(crate) fn hold_rings(
-    windows: &mut Windows,
+    area: &mut Area,
     alloc: Global,
+    layer: Layer,
     ours: &Rings,
     theirs: &Rings,
 ) -> Result<(), AllocError>
     ensures held { OnOk result ((s : Square)
-        → ¬ Has windows.new s → SomeCovers ours.now s ↔ SomeCovers theirs.now s) }
-    ensures kept { OnOk result (Widens windows.old windows.new) }
+        → ¬ IsIn area.new layer s → SomeCovers ours.now s ↔ SomeCovers theirs.now s) }
+    ensures kept { OnOk result (Grows area.old area.new) }
 {
     if difference_in(alloc, ours, theirs, None)?.is_none() {
         return Ok(());
     }
-    hold_missing(windows, alloc, ours, theirs)?;
-    hold_missing(windows, alloc, theirs, ours)?;
+    area.layers.add(layer)?;
+    hold_missing(&mut area.windows, alloc, ours, theirs)?;
+    hold_missing(&mut area.windows, alloc, theirs, ours)?;
     Ok(())
 }

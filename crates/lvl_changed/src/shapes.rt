@@ -3,23 +3,26 @@ ghost use Rattle.std.specs.Prelude.{◌≡◌, ◌<◌, ◌↔◌, length, Any, 
 ghost use Rattle.lvl_grid.specs.declared.point.Square.{Square};
 ghost use Rattle.lvl_grid.specs.Clip.{IsInWindow};
 ghost use Rattle.lvl_grid.specs.Winding.{SomeCovers};
-ghost use Rattle.lvl_names.specs.declared.layer.Layer.{Layer};
+ghost use Rattle.lvl_names.specs.declared.layer.Layer.{Layer as PlainLayer};
 ghost use Rattle.lvl_cells.specs.Cells.{shape_at};
 ghost use Rattle.lvl_cells.specs.Coverage.{ShapeCovers};
 ghost use Rattle.lvl_flat.specs.Sheets.{rings_on};
 ghost use Rattle.lvl_view.specs.Moved.{IsMoved};
-ghost use Rattle.lvl_changed.specs.inside.Windows.{Has, Widens, AlikeOutside};
+ghost use Rattle.lvl_view.specs.Views.{target_of};
+ghost use Rattle.lvl_changed.specs.inside.Areas.{AlikeOutside, Grows, IsIn};
 ghost use Rattle.lvl_changed.specs.inside.Shapes.{ShapesCover, FlatCovers, HasMoved};
 
+use crate::area::Area;
 use crate::left::left_of;
 use crate::pays::rings_of;
 use crate::rings::hold_rings;
 use crate::shifts::moved;
-use crate::windows::{Windows, between};
+use crate::windows::between;
 use lvl_cells::{Cell, MovedRing, Shapes};
 use lvl_compare::{lesser, past};
 use lvl_flat::{Flat, flatten_shapes};
 use lvl_grid::{Point, Window};
+use lvl_names::Layer;
 use lvl_refusal::Cause;
 use lvl_view::View;
 use std::alloc::{AllocError, Global};
@@ -29,7 +32,7 @@ const MOST_FLATTENED: u64 = 1_048_576;
 
 /// The rings of a cell's own shapes, or None if a vertex is outside 64 signed bits.
 fn shapes_of(alloc: Global, cell: &Cell) -> Result<Option<Flat>, AllocError>
-    ensures { IfOk result (λ found. IfSome found (λ flat. (layer : Layer) (s : Square)
+    ensures { IfOk result (λ found. IfSome found (λ flat. (layer : PlainLayer) (s : Square)
         → FlatCovers flat layer s ↔ ShapesCover cell.now.shapes layer s)) }
 {
     match flatten_shapes(alloc, cell) {
@@ -39,50 +42,45 @@ fn shapes_of(alloc: Global, cell: &Cell) -> Result<Option<Flat>, AllocError>
     }
 }
 
-/// Adds windows outside of which both flat layouts cover the same squares.
-fn hold_flats(
-    windows: &mut Windows,
-    alloc: Global,
-    ours: &Flat,
-    theirs: &Flat,
-) -> Result<(), AllocError>
-    ensures held { OnOk result (AlikeOutside windows.new (FlatCovers ours.now) (FlatCovers theirs.now)) }
-    ensures kept { OnOk result (Widens windows.old windows.new) }
+/// Adds an area outside of which both flat layouts cover the same squares.
+fn hold_flats(area: &mut Area, alloc: Global, ours: &Flat, theirs: &Flat) -> Result<(), AllocError>
+    ensures held { OnOk result (AlikeOutside area.new (FlatCovers ours.now) (FlatCovers theirs.now)) }
+    ensures kept { OnOk result (Grows area.old area.new) }
 {
     let mut our_place = 0;
     let mut their_place = 0;
     while let Some(layer) = lesser(ours.layer(our_place), theirs.layer(their_place)) {
         let (a, b) = (ours.rings(layer), theirs.rings(layer));
-        hold_rings(windows, alloc, a, b)?;
+        hold_rings(area, alloc, layer, a, b)?;
         our_place = past(ours, our_place, layer);
         their_place = past(theirs, their_place, layer);
     }
     Ok(())
 }
 
-/// Adds windows outside of which the shapes of cell `ours`, which are flattened, cover the same
+/// Adds an area outside of which the shapes of cell `ours`, which are flattened, cover the same
 /// squares as those of cell `theirs` under the view's map of Layers.
 fn hold_flattened(
-    windows: &mut Windows,
+    area: &mut Area,
     alloc: Global,
     ours: &Cell,
     theirs: &Cell,
     view: &View,
 ) -> Result<(), AllocError>
-    ensures held { OnOk result (AlikeOutside windows.new (ShapesCover ours.now.shapes)
+    ensures held { OnOk result (AlikeOutside area.new (ShapesCover ours.now.shapes)
         (IsMoved view.now.pairs (ShapesCover theirs.now.shapes))) }
-    ensures kept { OnOk result (Widens windows.old windows.new) }
+    ensures kept { OnOk result (Grows area.old area.new) }
 {
     let Some(ours) = shapes_of(alloc, ours)? else {
-        windows.hold_anywhere();
+        area.hold_anywhere();
         return Ok(());
     };
     let Some(theirs) = shapes_of(alloc, theirs)? else {
-        windows.hold_anywhere();
+        area.hold_anywhere();
         return Ok(());
     };
     let mapped = theirs.mapped(alloc, view)?;
-    hold_flats(windows, alloc, &ours, &mapped)
+    hold_flats(area, alloc, &ours, &mapped)
 }
 
 /// A window that has all squares that a ring covers after a move by any of the shifts, whose least
@@ -96,72 +94,75 @@ fn extent_of(ring: &MovedRing<'_>, reach: (Point, Point)) -> Option<Window>
     Some(between(low, high))
 }
 
-/// Adds a window that has all that [`extent_of`] says.
+/// Adds a window on the Layer that has all that [`extent_of`] says.
 fn hold_ring(
-    windows: &mut Windows,
+    area: &mut Area,
+    layer: Layer,
     ring: &MovedRing<'_>,
     reach: (Point, Point),
 ) -> Result<(), AllocError>
-    ensures held { OnOk result (HasMoved ring.now reach.0 reach.1 (Has windows.new)) }
-    ensures kept { OnOk result (Widens windows.old windows.new) }
+    ensures held { OnOk result (HasMoved ring.now reach.0 reach.1 (IsIn area.new layer)) }
+    ensures kept { OnOk result (Grows area.old area.new) }
 {
     match extent_of(ring, reach) {
-        Some(window) => windows.hold(window),
+        Some(window) => area.hold(layer, window),
         None => {
-            windows.hold_anywhere();
+            area.hold_anywhere();
             Ok(())
         }
     }
 }
 
-/// Adds windows that have all squares that shape `i` covers.
-fn hold_shape(windows: &mut Windows, shapes: &Shapes, i: usize) -> Result<(), AllocError>
+/// Adds all squares that shape `i` covers, on its Layer as the view maps it.
+fn hold_shape(area: &mut Area, shapes: &Shapes, i: usize, view: &View) -> Result<(), AllocError>
     requires { i < length shapes.now }
-    ensures held { OnOk result ((layer : Layer) (s : Square) → (¬ Has windows.new s)
+    ensures held { OnOk result ((layer : PlainLayer) (s : Square)
+        → (¬ IsIn area.new (target_of view.now.pairs layer) s)
         → ¬ ShapeCovers SomeCovers layer s (shape_at shapes.now i)) }
-    ensures kept { OnOk result (Widens windows.old windows.new) }
+    ensures kept { OnOk result (Grows area.old area.new) }
 {
+    let layer = view.target(shapes.layer(i));
     for j in 0..shapes.ring_count(i) {
         let ring = shapes.ring(i, j);
-        hold_ring(windows, &ring, shapes.reach(i))?;
+        hold_ring(area, layer, &ring, shapes.reach(i))?;
     }
     Ok(())
 }
 
-/// Adds windows that have all squares that the shapes cover.
-fn hold_extents(windows: &mut Windows, shapes: &Shapes) -> Result<(), AllocError>
-    ensures held { OnOk result ((layer : Layer) (s : Square) → (¬ Has windows.new s)
-        → ¬ ShapesCover shapes.now layer s) }
-    ensures kept { OnOk result (Widens windows.old windows.new) }
+/// Adds all squares that the shapes cover, on their Layers as the view maps them.
+fn hold_extents(area: &mut Area, shapes: &Shapes, view: &View) -> Result<(), AllocError>
+    ensures held { OnOk result ((layer : PlainLayer) (s : Square)
+        → (¬ IsIn area.new (target_of view.now.pairs layer) s) → ¬ ShapesCover shapes.now layer s) }
+    ensures kept { OnOk result (Grows area.old area.new) }
 {
     for i in 0..shapes.len() {
-        hold_shape(windows, shapes, i)?;
+        hold_shape(area, shapes, i, view)?;
     }
     Ok(())
 }
 
-/// Adds windows outside of which the own shapes of cell `ours` cover the same squares as those of
+/// Adds an area outside of which the own shapes of cell `ours` cover the same squares as those of
 /// cell `theirs` under the view's map of Layers. The same shapes on both sides are left out. The
 /// others are flattened, unless these are more than [`MOST_FLATTENED`] rings.
 pub(crate) fn hold_shapes(
-    windows: &mut Windows,
+    area: &mut Area,
     alloc: Global,
     ours: &Cell,
     theirs: &Cell,
     view: &View,
 ) -> Result<(), AllocError>
-    ensures held { OnOk result (AlikeOutside windows.new (ShapesCover ours.now.shapes)
+    ensures held { OnOk result (AlikeOutside area.new (ShapesCover ours.now.shapes)
         (IsMoved view.now.pairs (ShapesCover theirs.now.shapes))) }
-    ensures kept { OnOk result (Widens windows.old windows.new) }
+    ensures kept { OnOk result (Grows area.old area.new) }
 {
     let whole = View::whole(alloc);
     let left = left_of(alloc, ours, &whole, theirs, view)?;
     let their_left = left_of(alloc, theirs, view, ours, &whole)?;
     if rings_of(&left).saturating_add(rings_of(&their_left)) <= MOST_FLATTENED {
-        hold_flattened(windows, alloc, &left, &their_left, view)?;
+        hold_flattened(area, alloc, &left, &their_left, view)?;
         return Ok(());
     }
-    hold_extents(windows, &left.shapes)?;
-    hold_extents(windows, &their_left.shapes)?;
+    hold_extents(area, &left.shapes, &whole)?;
+    hold_extents(area, &their_left.shapes, view)?;
     Ok(())
 }

@@ -139,19 +139,21 @@ impl Windows {
         !self.anywhere && self.list.is_empty()
     }
 
-    /// At most `most` windows, and at least one, unless the set has no squares. None if it is the
-    /// whole grid.
+    /// At most `most` windows, and at least one, unless the set has no squares; those with the least
+    /// `y` first. None if it is the whole grid.
     pub(crate) fn into_list(self) -> Option<Vec<Window>>
         ensures { IfSome result (λ list. (s : Square) → Has self s → SomeHas list.items s) }
     {
         let most = self.most;
         let mut reduced = self;
         reduced.reduce(most);
-        let Windows { list, anywhere, .. } = reduced;
-        if anywhere {
+        if reduced.anywhere {
             return None;
         }
-        Some(list)
+        reduced
+            .list
+            .sort_unstable_by_key(|window| (window.y0, window.x0));
+        Some(reduced.list)
     }
 
     /// Makes the set the whole grid.

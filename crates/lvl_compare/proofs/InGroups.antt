@@ -35,7 +35,7 @@ use Rattle.lvl_compare.specs.inside.Strips.{everywhere, rows_to}
 use Rattle.lvl_compare.proofs.Finding.{IsSpared, layers_order, least_improves}
 use Rattle.lvl_compare.proofs.InStrips.{in_rows, rows_or_above}
 
-before_true : (a b : Layer) → is_before a b ≡ true → ComesBefore a b
+pub before_true : (a b : Layer) → is_before a b ≡ true → ComesBefore a b
 before_true a b h =
     elim (or_cases (ltb a.layer b.layer) ((a.layer == b.layer) && ltb a.datatype b.datatype) h) [
       | inl lt ↦ inl (ltb-true a.layer b.layer lt)
@@ -44,7 +44,7 @@ before_true a b h =
           inr (eqb-true a.layer b.layer p.0, ltb-true a.datatype b.datatype p.1)
     ]
 
-true_before : (a b : Layer) → ComesBefore a b → is_before a b ≡ true
+pub true_before : (a b : Layer) → ComesBefore a b → is_before a b ≡ true
 true_before a b (inl h) =
     ap (λ t. t || ((a.layer == b.layer) && ltb a.datatype b.datatype)) (lt-ltb a.layer b.layer h)
 true_before a b (inr h) =
@@ -66,14 +66,14 @@ tested_before a b false h =
     ]
 
 -- a Layer isn't after another exactly if the other doesn't come before it
-not_after : (k l : Layer) → (ComesBefore k l → ⊥) → is_until (Some k) l ≡ true
+pub not_after : (k l : Layer) → (ComesBefore k l → ⊥) → is_until (Some k) l ≡ true
 not_after k l never =
     elim (cases_Bool (is_before k l)) [
       | inl before ↦ absurd (never (before_true k l before))
       | inr after ↦ ap not after
     ]
 
-until_not : (k l : Layer) → is_until (Some k) l ≡ true → ComesBefore k l → ⊥
+pub until_not : (k l : Layer) → is_until (Some k) l ≡ true → ComesBefore k l → ⊥
 until_not k l h before = both_ways (is_before k l) (not-true (is_before k l) h) (true_before k l before)
 
 past_last : (k l : Layer) → is_until (Some k) l ≡ false → ComesBefore k l

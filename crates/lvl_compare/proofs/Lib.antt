@@ -4,3 +4,4 @@ pub mod InStrips
 pub mod InGroups
 pub mod InWindows
 pub mod InLists
+pub mod InListed

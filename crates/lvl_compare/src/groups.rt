@@ -150,7 +150,7 @@ impl Group {
         if most <= GROUP {
             return Ok(ends);
         }
-        let layers = self.targets(alloc, view, most)?;
+        let layers = self.targets(alloc, view)?;
         let size = GROUP.max(layers.len().div_ceil(MOST_GROUPS));
         for index in 1..layers.len() {
             if index.checked_rem(size) == Some(0) {
@@ -161,7 +161,8 @@ impl Group {
     }
 
     /// The Layers that the Layers of both layouts count as, in order.
-    fn targets(&self, alloc: Global, view: &View, most: usize) -> Result<Vec<Layer>, AllocError> {
+    pub(crate) fn targets(&self, alloc: Global, view: &View) -> Result<Vec<Layer>, AllocError> {
+        let most = self.ours.len().saturating_add(self.theirs.len());
         let mut targets = Vec::with_capacity(alloc, most)?;
         for layer in &self.ours {
             targets.push(*layer)?;

@@ -2,8 +2,9 @@
 //!
 //! [`first_difference`] finds the first square that only one of two flat layouts covers, and
 //! [`first_difference_in`] the first in a window. [`difference_by_strips`] finds the first that
-//! only one of two libraries draws, without flattening them as a whole, and
-//! [`difference_in_windows`] the first in some windows.
+//! only one of two libraries draws, without flattening them as a whole,
+//! [`difference_in_windows`] the first in some windows, and [`difference_on_layers`] the first
+//! there on some Layers.
 //!
 //! Here `wide` and `narrow` are checked libraries whose tops draw rectangles of 4 by 2 and of 3 by
 //! 2 squares:
@@ -22,11 +23,13 @@
 #![tactic(auto)]
 
 pub use flats::{first_difference, first_difference_in, lesser, past};
+pub use listed::difference_on_layers;
 pub use regions::difference_by;
 pub use windows::{difference_by_strips, difference_in_windows};
 
 mod flats;
 mod groups;
+mod listed;
 mod lists;
 mod pace;
 mod regions;

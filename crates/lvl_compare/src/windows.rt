@@ -21,7 +21,7 @@ use std::alloc::{AllocError, Global};
 use std::slice;
 
 /// The first difference of two layouts on the Layers of a group, in some windows.
-fn difference_in_group(
+pub(crate) fn difference_in_group(
     alloc: Global,
     first: &Fitted,
     second: &Fitted,

@@ -7,13 +7,15 @@ use Rattle.lvl_grid.specs.Clip.{IsInWindow}
 use Rattle.lvl_grid.specs.Turn.{image, image_square}
 use Rattle.lvl_names.specs.declared.layer.Layer.{Layer}
 use Rattle.lvl_cells.specs.Cells.{PlainCell, PlainReference, Rings, map_at}
+use Rattle.lvl_view.specs.declared.map.LayerPair.{LayerPair}
+use Rattle.lvl_view.specs.Views.{target_of}
+use Rattle.lvl_changed.specs.declared.area.Area.{Area}
 use Rattle.lvl_changed.specs.declared.arrays.Array.{Array}
 use Rattle.lvl_changed.specs.declared.placed.Placed.{Placed}
 use Rattle.lvl_changed.specs.declared.placements.Placement.{Placement}
-use Rattle.lvl_changed.specs.declared.windows.Windows.{Windows}
 use Rattle.lvl_changed.specs.inside.Placements.{placed, partner_placed, PlacedCover, ReferencesCover}
 use Rattle.lvl_changed.specs.inside.Shifts.{AreSame, AreSums}
-use Rattle.lvl_changed.specs.inside.Windows.{Has}
+use Rattle.lvl_changed.specs.inside.Areas.{IsIn}
 
 -- the array as a reference, to a cell of no name
 abbrev pub as_reference : Array → PlainReference
@@ -72,10 +74,11 @@ AddsPartner old new partner a =
     → PlacedCover cells new layer s
     ↔ (PlacedCover cells old layer s ⊎ PlacedCover cells (partner_placed partner (as_reference a)) layer s)
 
--- outside of the windows that holds of one library
-abbrev pub AddsOutside : Windows → List (PlainCell Rings) → List Placement → List Placement → Array → Type 0
-AddsOutside w cells old new a =
-    (layer : Layer) (s : Square) → (¬ Has w s)
+-- outside of the area that holds of one library, whose Layers are mapped
+abbrev pub AddsOutside : Area → List LayerPair → List (PlainCell Rings) → List Placement → List Placement → Array
+    → Type 0
+AddsOutside w pairs cells old new a =
+    (layer : Layer) (s : Square) → (¬ IsIn w (target_of pairs layer) s)
     → PlacedCover cells new layer s ↔ (PlacedCover cells old layer s ⊎ PlacedCover cells (each_place a) layer s)
 
 -- the window has the images of the other window's squares, at each place of the array
@@ -93,8 +96,8 @@ pub record IsListed (cells : List (PlainCell Rings)) (old new : List Placement) 
   pub inside : PlacedCover cells new layer s
       → PlacedCover cells old layer s ⊎ PlacedCover cells (every_place arrays) layer s
 
--- that holds of all squares outside of the windows
-abbrev pub AreListed : Windows → List (PlainCell Rings) → List Placement → List Placement → List Array → List Array
-    → Type 0
-AreListed w cells old new arrays others =
-    (layer : Layer) (s : Square) → (¬ Has w s) → IsListed cells old new arrays others layer s
+-- that holds of all squares outside of the area, with the Layers mapped
+abbrev pub AreListed : Area → List LayerPair → List (PlainCell Rings) → List Placement → List Placement → List Array
+    → List Array → Type 0
+AreListed w pairs cells old new arrays others =
+    (layer : Layer) (s : Square) → (¬ IsIn w (target_of pairs layer) s) → IsListed cells old new arrays others layer s

@@ -9,8 +9,8 @@ use Rattle.lvl_flat.specs.inside.Visits.{picks, PickCovers}
 use Rattle.lvl_view.specs.declared.map.LayerPair.{LayerPair}
 use Rattle.lvl_view.specs.Moved.{IsMoved}
 use Rattle.lvl_changed.specs.declared.placements.Placement.{Placement}
-use Rattle.lvl_changed.specs.declared.windows.Windows.{Windows}
-use Rattle.lvl_changed.specs.inside.Windows.{AlikeOutside}
+use Rattle.lvl_changed.specs.declared.area.Area.{Area}
+use Rattle.lvl_changed.specs.inside.Areas.{AlikeOutside}
 
 -- the cell with the index k, placed at each place of the reference
 abbrev pub placed : ℕ → PlainReference → List Placement
@@ -33,9 +33,9 @@ PlacedCover cells placements layer s = Any (PlacementCovers cells layer s) place
 abbrev pub ReferencesCover : List (PlainCell Rings) → List PlainReference → Layer → Square → Type 0
 ReferencesCover cells references layer s = Any (PickCovers cells layer s) (picks references)
 
--- outside of the windows, the references of cell i of the first library cover the same squares as those of cell j of
+-- outside of the area, the references of cell i of the first library cover the same squares as those of cell j of
 -- the second under the map of Layers
-abbrev pub ReferAlike : Windows → List LayerPair → List (PlainCell Rings) → ℕ → List (PlainCell Rings) → ℕ → Type 0
+abbrev pub ReferAlike : Area → List LayerPair → List (PlainCell Rings) → ℕ → List (PlainCell Rings) → ℕ → Type 0
 ReferAlike w pairs ours i theirs j =
     (c d : PlainCell Rings) → slice_get ours i ≡ Some c → slice_get theirs j ≡ Some d
     → AlikeOutside w (ReferencesCover ours c.references) (IsMoved pairs (ReferencesCover theirs d.references))

@@ -11,8 +11,8 @@ use Rattle.lvl_cells.specs.Coverage.{moved_back, ShapeCovers}
 use Rattle.lvl_flat.specs.declared.bounds.Bounds.{Bounds}
 use Rattle.lvl_flat.specs.Sheet.{PlainSheet}
 use Rattle.lvl_flat.specs.Sheets.{rings_on}
-use Rattle.lvl_changed.specs.declared.windows.Windows.{Windows}
-use Rattle.lvl_changed.specs.inside.Windows.{Has}
+use Rattle.lvl_changed.specs.declared.area.Area.{Area}
+use Rattle.lvl_changed.specs.inside.Areas.{IsIn}
 
 -- at least one of the shapes covers the square on the Layer
 abbrev pub ShapesCover : List (PlainShape Rings) → Layer → Square → Type 0
@@ -22,9 +22,9 @@ ShapesCover shapes layer s = Any (ShapeCovers SomeCovers layer s) shapes
 abbrev pub FlatCovers : List PlainSheet → Layer → Square → Type 0
 FlatCovers flat layer s = SomeCovers (rings_on layer flat) s
 
--- both flat layouts cover the same squares outside of the windows, on the Layer
-abbrev pub LayerAlike : Windows → List PlainSheet → List PlainSheet → Layer → Type 0
-LayerAlike w a b layer = (s : Square) → (¬ Has w s) → FlatCovers a layer s ↔ FlatCovers b layer s
+-- both flat layouts cover the same squares outside of the area, on the Layer
+abbrev pub LayerAlike : Area → List PlainSheet → List PlainSheet → Layer → Type 0
+LayerAlike w a b layer = (s : Square) → (¬ IsIn w layer s) → FlatCovers a layer s ↔ FlatCovers b layer s
 
 -- the box between the corners of a window
 abbrev pub corners : Window → Bounds

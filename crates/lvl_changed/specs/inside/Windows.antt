@@ -1,10 +1,9 @@
--- Windows: their squares, and what two layouts cover outside of them.
+-- Windows and their squares.
 use Rattle.std.specs.Prelude.{◌⊎◌, IsTrue}
 use Rattle.lvl_grid.specs.declared.point.Square.{Square}
 use Rattle.lvl_grid.specs.declared.map.Map.{Map}
 use Rattle.lvl_grid.specs.Turn.{image_square}
 use Rattle.lvl_compare.specs.Parts.{SomeHas}
-use Rattle.lvl_compare.specs.Tops.{Draws, DrawSame}
 use Rattle.lvl_changed.specs.declared.windows.Windows.{Windows}
 
 -- the windows are the whole grid, or one of them has the square
@@ -18,7 +17,3 @@ pub record Widens (from to : Windows) : Type 0 where
 -- the windows `all` have the images of all squares of the windows `held`
 pub record HasPlaced (m : Map) (held all : Windows) : Type 0 where
   pub has : (s : Square) → Has held s → Has all (image_square m s)
-
--- both cover the same squares outside of the windows, on every Layer
-abbrev pub AlikeOutside : Windows → Draws → Draws → Type 0
-AlikeOutside w a b = DrawSame (λ s. ¬ Has w s) a b

@@ -9,8 +9,7 @@ use Rattle.lvl_cells.proofs.Summing.{place_within}
 use Rattle.lvl_flat.specs.Flattened.{CoversAt}
 use Rattle.lvl_view.specs.declared.map.LayerPair.{LayerPair}
 use Rattle.lvl_view.specs.Moved.{IsMoved}
-use Rattle.lvl_compare.specs.Tops.{DrawSame}
-use Rattle.lvl_changed.specs.Changed.{IsOutside}
+use Rattle.lvl_changed.specs.Changed.{DrawSameBut}
 use Rattle.lvl_changed.specs.declared.found.Found.{Found}
 use Rattle.lvl_changed.specs.inside.Finding.{AreFound, IsFound}
 use Rattle.lvl_changed.proofs.Finding.{found_more, none_found, some_weaker, unknown}
@@ -63,8 +62,8 @@ loop-i-preserved c =
     let low : k < length ours = place_within ours order i k ordered hi in
     let there : slice_get known k ≡ Some (get_or known k None) =
     slice_get-get_or known k None (omega (arith, low, c.loop-i.invariant.long, c.loop-i.known.ok.0)) in
-    let mine : AreFound pairs ours theirs c.deref-in-loop-i.result.now =
-    subst (λ xs. AreFound pairs ours theirs xs) (sym c.deref-in-loop-i.ensures.value) c.loop-i.invariant.known in
+    let mine : AreFound pairs ours theirs c.deref-in-loop-i-3.result.now =
+    subst (λ xs. AreFound pairs ours theirs xs) (sym c.deref-in-loop-i-3.ensures.value) c.loop-i.invariant.known in
     let found : IsFound pairs ours theirs k f = c.in_ok-found.ensures.found mine in
     record {
       long = c.keep.ensures.long ∙ c.loop-i.invariant.long;
@@ -73,8 +72,8 @@ loop-i-preserved c =
           (found_more pairs ours theirs known k f (get_or known k None) c.loop-i.invariant.known there found);
     }
 
-pub windows_of-requires : goal.windows_of-requires
-windows_of-requires c =
+pub changes_in-requires : goal.changes_in-requires
+changes_in-requires c =
     let settled = c.top.ensures.checked.settled in
     let whole : Settled = c.checked-ours.result.now in
     omega (
@@ -94,11 +93,11 @@ returns c =
     c.top.ensures.value ∙ ap (λ (z : Settled). z.top) c.checked-ours.ensures.library in
     let their_top : c.top-2.result ≡ c.args.second.now.top =
     c.top-2.ensures.value ∙ ap (λ (z : Settled). z.top) c.checked-theirs.ensures.library in
-    some_weaker c.windows_of.result _ _
-    (λ windows same.
+    some_weaker c.changes_in.result _ _
+    (λ changes same.
     subst
-    (λ i. DrawSame (IsOutside windows.items) (CoversAt ours i)
+    (λ i. DrawSameBut changes (CoversAt ours i)
     (IsMoved pairs (CoversAt theirs c.args.second.now.top))) our_top
     (subst
-    (λ j. DrawSame (IsOutside windows.items) (CoversAt ours c.top.result) (IsMoved pairs (CoversAt theirs j)))
-    their_top (same pairs ours theirs c.loop-i.invariant.known))) c.windows_of.ensures
+    (λ j. DrawSameBut changes (CoversAt ours c.top.result) (IsMoved pairs (CoversAt theirs j)))
+    their_top (same pairs ours theirs c.loop-i.invariant.known))) c.changes_in.ensures

@@ -1,6 +1,7 @@
 use Rattle.std.proofs.Common.{◌≡◌, ◌↔◌, ◌⊎◌, ◌++◌, Any, List, inl, inr, sym, subst}
 use Rattle.std.proofs.lemmas.Result.{on_ok_weaker}
 use Rattle.lvl_changed.specs.declared.placements.Placement.{Placement}
+use Rattle.lvl_view.specs.Views.{target_of}
 use Rattle.lvl_changed.specs.inside.Arrays.{each_place}
 use Rattle.lvl_changed.specs.inside.Placements.{PlacementCovers}
 use Rattle.lvl_changed.proofs.Arraying.{any_either}
@@ -12,10 +13,10 @@ returns-then-saturating_add-most-clause-listed c =
     (λ none l s out. (λ b. inl b, λ e. elim e [ inl b ↦ b | inr b ↦ absurd (none l s out b) ])) c.hold_array.ensures.held
 
 pub returns-then-not-branch-clause-listed : goal.returns-then-not-branch-clause-listed
-returns-then-not-branch-clause-listed c = λ l s out. absurd (out (c.hold_anywhere.ensures s))
+returns-then-not-branch-clause-listed c = λ l s out. absurd (out (c.hold_anywhere.ensures (target_of c.args.view.now.pairs l) s))
 
 pub returns-then-not-branch-clause-kept : goal.returns-then-not-branch-clause-kept
-returns-then-not-branch-clause-kept c = record { has = λ s h. c.hold_anywhere.ensures s }
+returns-then-not-branch-clause-kept c = record { has = λ l s h. c.hold_anywhere.ensures l s }
 
 pub returns-else-not-branch-clause-listed : goal.returns-else-not-branch-clause-listed
 returns-else-not-branch-clause-listed c = λ l s out.

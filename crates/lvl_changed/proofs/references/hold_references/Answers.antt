@@ -6,23 +6,25 @@ use Rattle.lvl_cells.specs.Cells.{PlainCell, Rings}
 use Rattle.lvl_cells.specs.Checks.{Settled}
 use Rattle.lvl_view.specs.Moved.{IsMoved}
 use Rattle.lvl_changed.specs.declared.placements.Placement.{Placement}
-use Rattle.lvl_changed.specs.declared.windows.Windows.{Windows}
+use Rattle.lvl_changed.specs.declared.area.Area.{Area}
+use Rattle.lvl_view.specs.declared.map.LayerPair.{LayerPair}
 use Rattle.lvl_changed.specs.inside.Arrays.{all_places}
 use Rattle.lvl_changed.specs.inside.Finding.{AreFound}
 use Rattle.lvl_changed.specs.inside.Placements.{PlacedCover, ReferencesCover}
-use Rattle.lvl_changed.specs.inside.Windows.{AlikeOutside}
+use Rattle.lvl_changed.specs.inside.Areas.{AlikeOutside}
 use Rattle.lvl_changed.proofs.Placing.{refer_alike}
-use Rattle.lvl_changed.proofs.Widening.{widens_further}
+use Rattle.lvl_changed.proofs.Growing.{grows_further}
 use Rattle.lvl_changed.proofs.references.hold_references.Goals as goal
 
 pub returns-clause-held : goal.returns-clause-held
-returns-clause-held c = λ pairs known x y at there.
+returns-clause-held c = λ known x y at there.
+    let pairs : List LayerPair = c.args.view.now.pairs in
     let ours : List (PlainCell Rings) = c.args.first.now.cells in
     let theirs : List (PlainCell Rings) = c.args.second.now.cells in
     let ps : List Placement = all_places c.in_ok-placed.placed in
     let qs : List Placement = all_places c.in_ok-others.others in
-    let old : Windows = c.partners_placed.new.windows in
-    let new : Windows = c.hold_placed.new.windows in
+    let old : Area = c.partners_placed.new.area in
+    let new : Area = c.hold_placed.new.area in
     let covers : IfSome (slice_get ours c.args.ours)
     (λ d. AlikeOutside old (ReferencesCover ours d.references) (IsMoved pairs (PlacedCover theirs ps))) =
     subst
@@ -52,5 +54,5 @@ returns-clause-held c = λ pairs known x y at there.
 
 pub returns-clause-kept : goal.returns-clause-kept
 returns-clause-kept c =
-    widens_further c.args.windows.now c.partners_placed.new.windows c.hold_placed.new.windows
+    grows_further c.args.area.now c.partners_placed.new.area c.hold_placed.new.area
     c.in_ok-placed.ensures.kept c.in_ok-hold_placed.ensures.kept

@@ -8,25 +8,25 @@ use Rattle.lvl_view.specs.Moved.{IsMoved}
 use Rattle.lvl_changed.specs.declared.arrays.Array.{Array}
 use Rattle.lvl_changed.specs.declared.found.Found.{Found}
 use Rattle.lvl_changed.specs.declared.placements.Placement.{Placement}
-use Rattle.lvl_changed.specs.declared.windows.Windows.{Windows}
+use Rattle.lvl_changed.specs.declared.area.Area.{Area}
 use Rattle.lvl_changed.specs.inside.Arrays.{all_places}
 use Rattle.lvl_changed.specs.inside.Finding.{IsFound}
 use Rattle.lvl_changed.specs.inside.Placements.{PlacedCover, ReferencesCover}
-use Rattle.lvl_changed.specs.inside.Windows.{AlikeOutside}
+use Rattle.lvl_changed.specs.inside.Areas.{AlikeOutside}
 use Rattle.lvl_changed.proofs.Moving.{alike_wider}
 use Rattle.lvl_changed.proofs.Own.{any_some, some_then}
 use Rattle.lvl_changed.proofs.Placing.{partners_more, partners_none}
-use Rattle.lvl_changed.proofs.Widening.{widens_further, widens_itself}
+use Rattle.lvl_changed.proofs.Growing.{grows_further, grows_itself}
 use Rattle.lvl_changed.proofs.references.partners_placed.Goals as goal
 
 pub loop-j-init : goal.loop-j-init
 loop-j-init c = record {
   covers = λ pairs theirs known b at.
       subst
-      (λ (ps : List Placement). AlikeOutside c.args.windows.now (ReferencesCover c.args.checked.now.cells [])
+      (λ (ps : List Placement). AlikeOutside c.args.area.now (ReferencesCover c.args.checked.now.cells [])
       (IsMoved pairs (PlacedCover theirs ps))) (sym c.none-placed.ensures)
-      (partners_none pairs c.args.checked.now.cells theirs c.args.windows.now);
-  kept = widens_itself c.args.windows.now;
+      (partners_none pairs c.args.checked.now.cells theirs c.args.area.now);
+  kept = grows_itself c.args.area.now;
 }
 
 pub array_of-requires-clause-reference : goal.array_of-requires-clause-reference
@@ -48,10 +48,10 @@ returns-in_default-clause-covers c = λ pairs theirs known.
     (λ (d : PlainCell Rings).
     AlikeOutside c.hold_anywhere.new.self (ReferencesCover c.args.checked.now.cells d.references)
     (IsMoved pairs (PlacedCover theirs (all_places c.loop-j.placed))))
-    (slice_get c.args.checked.now.cells c.args.cell) (λ d l s out. absurd (out (c.hold_anywhere.ensures s)))
+    (slice_get c.args.checked.now.cells c.args.cell) (λ d l s out. absurd (out (c.hold_anywhere.ensures l s)))
 
 pub returns-in_default-clause-kept : goal.returns-in_default-clause-kept
-returns-in_default-clause-kept c = record { has = λ s h. c.hold_anywhere.ensures s }
+returns-in_default-clause-kept c = record { has = λ l s h. c.hold_anywhere.ensures l s }
 
 pub loop-j-preserved : goal.loop-j-preserved
 loop-j-preserved c =
@@ -60,8 +60,8 @@ loop-j-preserved c =
     let a : Array = c.in_ok-array.array in
     let f : Found = c.in-Some-Some.found in
     let j : ℕ = c.loop-j.j in
-    let old : Windows = c.loop-j.windows in
-    let new : Windows = c.place_partner.new.windows in
+    let old : Area = c.loop-j.area in
+    let new : Area = c.place_partner.new.area in
     let wide = c.in_ok-place_partner.ensures.kept in
     let found_at : slice_get c.args.known.now a.cell ≡ Some (Some f) =
     grind (arith, common_steps, gets, c.in-Some-Some.ensures.lookup) in
@@ -85,7 +85,7 @@ loop-j-preserved c =
           (alike_wider old new (ReferencesCover cells (take j b.references))
           (IsMoved pairs (PlacedCover theirs (all_places c.loop-j.placed))) wide
           (c.loop-j.invariant.covers pairs theirs known b at));
-      kept = widens_further c.args.windows.now old new c.loop-j.invariant.kept wide;
+      kept = grows_further c.args.area.now old new c.loop-j.invariant.kept wide;
     }
 
 pub returns-clause-covers : goal.returns-clause-covers
@@ -106,6 +106,6 @@ returns-clause-covers c = λ pairs theirs known.
     let long : length b.references ≤ c.loop-j.j =
     omega (arith, c.loop-j-test.false, c.len-j-end.ensures, ap length kept) in
     subst
-    (λ (rs : List PlainReference). AlikeOutside c.loop-j.windows (ReferencesCover cells rs)
+    (λ (rs : List PlainReference). AlikeOutside c.loop-j.area (ReferencesCover cells rs)
     (IsMoved pairs (PlacedCover theirs (all_places c.loop-j.placed)))) (take_all c.loop-j.j b.references long)
     (c.loop-j.invariant.covers pairs theirs known b at))

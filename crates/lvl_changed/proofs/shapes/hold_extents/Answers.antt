@@ -6,13 +6,13 @@ use Rattle.lvl_cells.specs.Cells.{PlainShape, Rings}
 use Rattle.lvl_cells.specs.Coverage.{ShapeCovers}
 use Rattle.lvl_changed.specs.inside.Shapes.{ShapesCover}
 use Rattle.lvl_changed.proofs.Leaving.{shape_held}
-use Rattle.lvl_changed.proofs.Widening.{widens_further, widens_itself}
+use Rattle.lvl_changed.proofs.Growing.{grows_further, grows_itself}
 use Rattle.lvl_changed.proofs.shapes.hold_extents.Goals as goal
 
 pub loop-i-init : goal.loop-i-init
 loop-i-init c = record {
   held = λ l s out covers. Any-nil (ShapeCovers SomeCovers l s) covers;
-  kept = widens_itself c.args.windows.now;
+  kept = grows_itself c.args.area.now;
 }
 
 pub loop-i-preserved : goal.loop-i-preserved
@@ -22,10 +22,10 @@ loop-i-preserved c =
     let low : c.loop-i.i < length hs = omega (arith, c.loop-i-test.true, c.len-i-end.ensures) in
     record {
       held =
-          shape_held hs c.loop-i.i c.loop-i.windows c.hold_shape.new.windows low wide
+          shape_held c.args.view.now.pairs hs c.loop-i.i c.loop-i.area c.hold_shape.new.area low wide
           c.in_ok-hold_shape.ensures.held c.loop-i.invariant.held;
       kept =
-          widens_further c.args.windows.now c.loop-i.windows c.hold_shape.new.windows c.loop-i.invariant.kept wide;
+          grows_further c.args.area.now c.loop-i.area c.hold_shape.new.area c.loop-i.invariant.kept wide;
     }
 
 pub returns-clause-held : goal.returns-clause-held

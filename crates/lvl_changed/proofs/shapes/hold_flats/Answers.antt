@@ -6,19 +6,19 @@ use Rattle.lvl_flat.specs.Sheet.{PlainSheet}
 use Rattle.lvl_flat.specs.Sheets.{rings_on}
 use Rattle.lvl_compare.specs.Flats.{IsLesser, head_layer}
 use Rattle.lvl_compare.proofs.After.{alike_absent, walked_none, walked_more, walked_all, walked_less, lesser_heads}
-use Rattle.lvl_changed.specs.declared.windows.Windows.{Windows}
+use Rattle.lvl_changed.specs.declared.area.Area.{Area}
 use Rattle.lvl_changed.specs.inside.Shapes.{LayerAlike}
-use Rattle.lvl_changed.specs.inside.Windows.{Has}
+use Rattle.lvl_changed.specs.inside.Areas.{IsIn}
 use Rattle.lvl_changed.proofs.Walked.{walked_wider}
-use Rattle.lvl_changed.proofs.Widening.{widens_itself, widens_further}
+use Rattle.lvl_changed.proofs.Growing.{grows_itself, grows_further}
 use Rattle.lvl_changed.proofs.shapes.hold_flats.Goals as goal
 
 pub loop-layer-init : goal.loop-layer-init
 loop-layer-init c = record {
   walked =
-      walked_none (LayerAlike c.args.windows.now c.args.ours.now c.args.theirs.now) c.args.ours.now c.args.theirs.now
+      walked_none (LayerAlike c.args.area.now c.args.ours.now c.args.theirs.now) c.args.ours.now c.args.theirs.now
       (λ l x y s _. alike_absent c.args.ours.now c.args.theirs.now l x y s);
-  kept = widens_itself _;
+  kept = grows_itself _;
 }
 
 pub loop-layer-smaller : goal.loop-layer-smaller
@@ -33,10 +33,10 @@ pub loop-layer-preserved : goal.loop-layer-preserved
 loop-layer-preserved c =
     let a : List PlainSheet = c.args.ours.now in
     let b : List PlainSheet = c.args.theirs.now in
-    let v : Windows = c.loop-layer.windows in
-    let w : Windows = c.hold_rings.new.windows in
+    let v : Area = c.loop-layer.area in
+    let w : Area = c.hold_rings.new.area in
     let wide = c.in_ok-hold_rings.ensures.kept in
-    let same : (s : Square) → (¬ Has w s)
+    let same : (s : Square) → (¬ IsIn w c.in-Some.layer s)
     → SomeCovers c.rings-a.result.now s ↔ SomeCovers c.rings-b.result.now s = c.in_ok-hold_rings.ensures.held in
     let alike : LayerAlike w a b c.in-Some.layer =
     λ s out. subst (λ (x : Rings). SomeCovers x s ↔ SomeCovers (rings_on c.in-Some.layer b) s) c.rings-a.ensures
@@ -46,12 +46,12 @@ loop-layer-preserved c =
           rw (c.past-our_place.ensures, c.past-their_place.ensures)
           (walked_more (LayerAlike w a b) _ _ c.in-Some.layer
           (walked_wider v w a b _ _ wide c.loop-layer.invariant.walked) alike);
-      kept = widens_further _ v w c.loop-layer.invariant.kept wide;
+      kept = grows_further _ v w c.loop-layer.invariant.kept wide;
     }
 
 pub returns-clause-held : goal.returns-clause-held
 returns-clause-held c = λ l s out.
-    walked_all (LayerAlike c.loop-layer.windows c.args.ours.now c.args.theirs.now)
+    walked_all (LayerAlike c.loop-layer.area c.args.ours.now c.args.theirs.now)
     (drop c.loop-layer.our_place c.args.ours.now) (drop c.loop-layer.their_place c.args.theirs.now)
     c.loop-layer.invariant.walked
     (lesser_heads c.args.ours.now c.args.theirs.now c.loop-layer.our_place c.loop-layer.their_place _ _ _ _

@@ -3,16 +3,16 @@ use Rattle.lvl_changed.proofs.Own.{shapes_alike}
 use Rattle.lvl_changed.proofs.shapes.hold_flattened.Goals as goal
 
 pub returns-in_default-clause-held : goal.returns-in_default-clause-held
-returns-in_default-clause-held c = λ l s out. absurd (out (c.hold_anywhere.ensures s))
+returns-in_default-clause-held c = λ l s out. absurd (out (c.hold_anywhere.ensures l s))
 
 pub returns-in_default-clause-kept : goal.returns-in_default-clause-kept
-returns-in_default-clause-kept c = record { has = λ s h. c.hold_anywhere.ensures s }
+returns-in_default-clause-kept c = record { has = λ l s h. c.hold_anywhere.ensures l s }
 
 pub returns-in_default-2-clause-held : goal.returns-in_default-2-clause-held
-returns-in_default-2-clause-held c = λ l s out. absurd (out (c.hold_anywhere-in_default-2.ensures s))
+returns-in_default-2-clause-held c = λ l s out. absurd (out (c.hold_anywhere-in_default-2.ensures l s))
 
 pub returns-in_default-2-clause-kept : goal.returns-in_default-2-clause-kept
-returns-in_default-2-clause-kept c = record { has = λ s h. c.hold_anywhere-in_default-2.ensures s }
+returns-in_default-2-clause-kept c = record { has = λ l s h. c.hold_anywhere-in_default-2.ensures l s }
 
 pub returns-clause-held : goal.returns-clause-held
 returns-clause-held c =
@@ -21,5 +21,5 @@ returns-clause-held c =
     on_ok_weaker c.hold_flats.result
     (λ same.
     shapes_alike c.in-Some.ours c.in-Some-2.theirs c.in_ok-mapped.mapped c.args.ours.now.shapes c.args.theirs.now.shapes
-    c.args.view.now.pairs c.hold_flats.new.windows ours theirs c.in_ok-mapped.ensures.covers same)
+    c.args.view.now.pairs c.hold_flats.new.area ours theirs c.in_ok-mapped.ensures.covers same)
     c.hold_flats.ensures.held

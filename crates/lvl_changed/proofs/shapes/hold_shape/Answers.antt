@@ -1,14 +1,15 @@
-use Rattle.std.proofs.Common.{◌<◌, ◌≤◌, length, subst, arith}
+use Rattle.std.proofs.Common.{◌<◌, ◌≤◌, length, subst, arith, ap, ◌∙◌}
 use Rattle.std.proofs.lemmas.List.{take_all}
+use Rattle.lvl_view.specs.Views.{target_of}
 use Rattle.lvl_cells.specs.Cells.{PlainShape, Rings, shape_at}
 use Rattle.lvl_changed.proofs.Leaving.{no_rings, ring_held, RingsCover}
-use Rattle.lvl_changed.proofs.Widening.{widens_further, widens_itself}
+use Rattle.lvl_changed.proofs.Growing.{grows_further, grows_itself}
 use Rattle.lvl_changed.proofs.shapes.hold_shape.Goals as goal
 
 pub loop-j-init : goal.loop-j-init
 loop-j-init c = record {
   held = λ l s out covers. no_rings (shape_at c.args.shapes.now c.args.i) l s covers;
-  kept = widens_itself c.args.windows.now;
+  kept = grows_itself c.args.area.now;
 }
 
 pub loop-j-preserved : goal.loop-j-preserved
@@ -18,11 +19,12 @@ loop-j-preserved c =
     let low : c.loop-j.j < length h.figure = omega (arith, c.loop-j-test.true, c.ring_count-j-end.ensures) in
     record {
       held =
-          ring_held h h.figure c.loop-j.j c.ring-ring.result c.reach.result.0 c.reach.result.1 c.loop-j.windows
-          c.hold_ring.new.windows low c.ring-ring.ensures.value c.reach.ensures wide c.in_ok-hold_ring.ensures.held
+          ring_held c.args.view.now.pairs h h.figure c.loop-j.j c.ring-ring.result c.reach.result.0 c.reach.result.1
+          c.target-layer.result c.loop-j.area c.hold_ring.new.area low c.ring-ring.ensures.value
+          (c.target-layer.ensures ∙ ap (target_of c.args.view.now.pairs) c.layer.ensures) c.reach.ensures wide c.in_ok-hold_ring.ensures.held
           c.loop-j.invariant.held;
       kept =
-          widens_further c.args.windows.now c.loop-j.windows c.hold_ring.new.windows c.loop-j.invariant.kept wide;
+          grows_further c.args.area.now c.loop-j.area c.hold_ring.new.area c.loop-j.invariant.kept wide;
     }
 
 pub returns-clause-held : goal.returns-clause-held
