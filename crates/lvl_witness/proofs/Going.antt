@@ -54,3 +54,12 @@ less_into cells order q front f step m rest linked ordered e =
       sum_by_push left front rest,
       sum_by_push left (front ++ rest ∷ []) child,
     )
+
+-- a cell that isn't entered
+pub less_known : (cells : List (PlainCell Rings)) (order : List ℕ) (q : Square) (front : List Frame) (f : Frame)
+    (step : Step) (m : Map) (rest : Frame) → AreLinked cells → IsOrder cells order → Enters cells q f step m rest
+    → work_left cells (front ++ rest ∷ []) < work_left cells (front ++ f ∷ [])
+less_known cells order q front f step m rest linked ordered e =
+    let more = less_into cells order q front f step m rest linked ordered e in
+    let less = less_out cells (front ++ rest ∷ []) (begun step.cell m) in
+    omega (arith, more, less)

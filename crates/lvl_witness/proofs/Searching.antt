@@ -7,18 +7,24 @@ use Rattle.std.proofs.Math.Seq.{drop-append_seam}
 use Rattle.std.proofs.lemmas.Option.{slice_get_within}
 use Rattle.lvl_grid.specs.declared.point.Square.{Square}
 use Rattle.lvl_grid.specs.declared.map.Map.{Map}
+use Rattle.lvl_grid.specs.Turn.{image_square}
+use Rattle.lvl_grid.specs.Winding.{SomeCovers}
 use Rattle.lvl_grid.proofs.Anyone.{Any-nil, Any-left, Any-right, Any-sides, Any-head, Any-tail, Any-uncons}
 use Rattle.lvl_names.specs.declared.layer.Layer.{Layer}
 use Rattle.lvl_cells.specs.Cells.{PlainCell, Rings}
 use Rattle.lvl_cells.specs.Chains.{unmoved}
 use Rattle.lvl_cells.specs.Checks.{IsChecked, Settled}
 use Rattle.lvl_cells.proofs.Sequences.{item_there, one_answer, slice_get-front}
+use Rattle.lvl_cells.specs.Coverage.{CellCovers}
+use Rattle.lvl_flat.specs.Flattened.{CoversAt}
 use Rattle.lvl_flat.specs.inside.Visits.{PickCovers}
+use Rattle.lvl_flat.proofs.Covering.{some_is}
 use Rattle.lvl_witness.specs.declared.frame.Frame.{Frame}
 use Rattle.lvl_witness.specs.declared.witness.Step.{Step}
 use Rattle.lvl_witness.specs.Witnesses.{Leads, LeadsOn}
 use Rattle.lvl_witness.specs.inside.Moves.{begun, pending, FrameCovers, IsPast, Enters, IsReached}
-use Rattle.lvl_witness.specs.inside.Searching.{HasNoRing, IsLeft, IsPlaced, IsSearch}
+use Rattle.lvl_witness.specs.inside.Known.{AreEmpty}
+use Rattle.lvl_witness.specs.inside.Searching.{HasNoRing, IsLeft, IsPlaced, IsSearch, PlacedCovers}
 use Rattle.lvl_witness.proofs.Covering.{covers_entered}
 use Rattle.lvl_witness.proofs.Leading.{leads_alike, leads_chain}
 
@@ -128,18 +134,19 @@ search_out s layers q front f steps w none =
           (w.placed k g (slice_get-front front (f ∷ []) k g at)) goes);
     }
 
--- the last frame goes on
-pub search_past : (s : Settled) (layers : List Layer) (q : Square) (front : List Frame) (f rest : Frame)
-    (steps : List Step) → IsSearch s layers q (front ++ f ∷ []) steps → IsPast s.cells q f rest
+-- the last frame goes on, and covers no less
+pub search_on : (s : Settled) (layers : List Layer) (q : Square) (front : List Frame) (f rest : Frame)
+    (steps : List Step) → IsSearch s layers q (front ++ f ∷ []) steps → rest.cell ≡ f.cell → rest.map ≡ f.map
+    → ((layer : Layer) → Contains layers layer → FrameCovers s.cells layer q f → FrameCovers s.cells layer q rest)
     → IsSearch s layers q (front ++ rest ∷ []) steps
-search_past s layers q front f rest steps w past =
+search_on s layers q front f rest steps w cell map covers =
     let cells : List (PlainCell Rings) = s.cells in
     let goes : (layer : Layer) → Contains layers layer → Any (FrameCovers cells layer q) (f ∷ [])
     → Any (FrameCovers cells layer q) (rest ∷ []) =
     λ layer listed a.
     let P : Frame → Type 0 = FrameCovers cells layer q in
     elim (Any-uncons P f [] a)
-    [ inl u ↦ Any-head P rest [] (past.covers layer u) | inr nothing ↦ absurd (Any-nil P nothing) ] in
+    [ inl u ↦ Any-head P rest [] (covers layer listed u) | inr nothing ↦ absurd (Any-nil P nothing) ] in
     record {
       checked = w.checked;
       top = w.top;
@@ -163,9 +170,47 @@ search_past s layers q front f rest steps w past =
                 subst (λ n. slice_get (front ++ f ∷ []) n ≡ Some f) (sym last.0) (at_end front f) in
                 subst (IsPlaced cells layers q w.top (front ++ rest ∷ []) steps k) last.1
                 (placed_after cells layers q w.top front (f ∷ []) (rest ∷ []) steps steps k f rest on (λ j less. refl)
-                past.cell_is past.map_is (w.placed k f at_f) goes)
+                cell map (w.placed k f at_f) goes)
           ];
     }
+
+-- it goes on with the next reference
+pub search_past : (s : Settled) (layers : List Layer) (q : Square) (front : List Frame) (f rest : Frame)
+    (steps : List Step) → IsSearch s layers q (front ++ f ∷ []) steps → IsPast s.cells q f rest
+    → IsSearch s layers q (front ++ rest ∷ []) steps
+search_past s layers q front f rest steps w past =
+    search_on s layers q front f rest steps w past.cell_is past.map_is (λ layer listed u. past.covers layer u)
+
+-- or it would enter a cell that is known not to cover the square
+pub search_known : (s : Settled) (layers : List Layer) (q : Square) (front : List Frame) (f : Frame)
+    (steps : List Step) (step : Step) (m : Map) (rest : Frame) → IsSearch s layers q (front ++ f ∷ []) steps
+    → (e : Enters s.cells q f step m rest)
+    → ((layer : Layer) → Contains layers layer → ¬ PlacedCovers s.cells layer q m e.next)
+    → IsSearch s layers q (front ++ rest ∷ []) steps
+search_known s layers q front f steps step m rest w e none =
+    search_on s layers q front f rest steps w (ap (λ (x : Frame). x.cell) e.rest_is)
+    (ap (λ (x : Frame). x.map) e.rest_is)
+    (λ layer listed u.
+    elim (covers_entered s.cells layer q f step m rest e u)
+    [ inl below ↦ absurd (none layer listed below) | inr later ↦ later ])
+
+-- a frame that ends is of a cell that doesn't cover the square
+pub last_empty : (s : Settled) (layers : List Layer) (q t : Square) (front : List Frame) (f : Frame)
+    (steps : List Step) → IsSearch s layers q (front ++ f ∷ []) steps → pending s.cells f ≡ []
+    → image_square f.map t ≡ q → (layer : Layer) → Contains layers layer → CoversAt s.cells f.cell layer t → ⊥
+last_empty s layers q t front f steps w none place layer listed covers =
+    let cells : List (PlainCell Rings) = s.cells in
+    let last = w.placed (length front) f (at_end front f) in
+    let found = some_is (λ c. CellCovers SomeCovers cells layer c t) (slice_get cells f.cell) covers in
+    let of_cell : CellCovers SomeCovers cells layer last.cell t =
+    subst (λ c. CellCovers SomeCovers cells layer c t) (one_answer found.1 last.there) found.2 in
+    let P : Frame → Type 0 = FrameCovers cells layer q in
+    let a : Any P (f ∷ []) =
+    subst (Any P) (drop-append_seam front (f ∷ [])) (last.left.left layer listed (t, place, of_cell)) in
+    elim (Any-uncons P f [] a) [
+      | inl u ↦ Any-nil (PickCovers cells layer u.0) (subst (Any (PickCovers cells layer u.0)) none u.2)
+      | inr nothing ↦ Any-nil P nothing
+    ]
 
 -- the steps lead to the cell that the last frame enters
 pub leads_into : (s : Settled) (layers : List Layer) (q : Square) (front : List Frame) (f : Frame) (steps : List Step)
@@ -327,3 +372,9 @@ search_begins s layers q top checked at own =
                 (record { cell = top; there = at; leads = (refl, refl); left = left }))
           ];
     }
+
+-- an empty table
+pub none_empty : (cells : List (PlainCell Rings)) (layers : List Layer) → AreEmpty cells layers []
+none_empty cells layers = record {
+  empty = λ s layer has listed. let below : has.0 < 0 = has.1 in absurd (omega arith);
+}

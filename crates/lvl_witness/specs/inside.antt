@@ -5,3 +5,4 @@ pub mod Moves
 pub mod Searching
 pub mod Stretches
 pub mod Lattices
+pub mod Known

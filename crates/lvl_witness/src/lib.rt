@@ -21,6 +21,7 @@ pub use witness::{PlacedRing, Step, Witness};
 
 mod areas;
 mod frame;
+mod known;
 mod lattice;
 mod places;
 mod rings;

@@ -1,14 +1,17 @@
-use Rattle.std.proofs.Common.{◌≡◌, ◌++◌, ◌∷◌, [], List, IfSome, IfNone, sym, ap, subst, ◌∙◌, arith}
+use Rattle.std.proofs.Common.{◌≡◌, ◌∷◌, [], List, IfSome, IfNone, sym, ap, subst, ◌∙◌, arith}
 use Rattle.std.proofs.lemmas.Grind.{common_steps}
 use Rattle.lvl_grid.specs.declared.point.Square.{Square}
 use Rattle.lvl_names.specs.declared.layer.Layer.{Layer}
 use Rattle.lvl_cells.specs.Chains.{unmoved}
 use Rattle.lvl_cells.specs.Checks.{IsChecked, Settled}
-use Rattle.lvl_witness.specs.declared.frame.Frame.{Frame}
 use Rattle.lvl_witness.specs.Witnesses.{IsWitness}
+use Rattle.lvl_flat.specs.Flattened.{TopCovers}
+use Rattle.lvl_witness.specs.declared.witness.PlacedRing.{PlacedRing}
+use Rattle.lvl_witness.specs.declared.witness.Step.{Step}
+use Rattle.lvl_witness.specs.inside.Known.{AreEmpty}
 use Rattle.lvl_witness.specs.inside.Moves.{begun}
 use Rattle.lvl_witness.specs.inside.Searching.{HasNoRing, IsRingOfCell, IsSearch}
-use Rattle.lvl_witness.proofs.Searching.{search_begins}
+use Rattle.lvl_witness.proofs.Searching.{search_begins, none_empty}
 use Rattle.lvl_witness.proofs.Witnessing.{top_witness, witness_covers, none_covers}
 use Rattle.lvl_witness.proofs.search.find_witness.Goals as goal
 
@@ -58,22 +61,28 @@ loop-frame-init c =
     let begins : IsSearch s layers q (begun s.top unmoved ∷ []) [] =
     search_begins s layers q checked.settled.cell checked checked.settled.is
     (subst (λ i. HasNoRing s.cells i unmoved layers q) index none) in
-    let frames : c.push.new.self.items ≡ begun s.top unmoved ∷ [] =
-    c.in_ok-push.ensures.items
-    ∙ (ap (λ (fs : List Frame). fs ++ c.begun.result ∷ []) c.new-frames.ensures.items
-    ∙ ap (λ (f : Frame). f ∷ []) (c.begun.ensures ∙ ap (λ i. begun i unmoved) index)) in
-    subst (λ fs. IsSearch s layers q fs c.new-steps.result.items) (sym frames)
-    (subst (IsSearch s layers q (begun s.top unmoved ∷ [])) (sym c.new-steps.ensures.items) begins)
+    let frames : c.in_ok-search.search.frames.items ≡ begun s.top unmoved ∷ [] =
+    c.in_ok-search.ensures.frames ∙ ap (λ i. begun i unmoved ∷ []) index in
+    record {
+      search =
+          subst (λ fs. IsSearch s layers q fs c.in_ok-search.search.steps.items) (sym frames)
+          (subst (IsSearch s layers q (begun s.top unmoved ∷ [])) (sym c.in_ok-search.ensures.steps) begins);
+      known = subst (AreEmpty s.cells layers) (sym c.in_ok-search.ensures.known) (none_empty s.cells layers);
+    }
 
 pub returns-in-Some-2-clause-covered : goal.returns-in-Some-2-clause-covered
 returns-in-Some-2-clause-covered c =
-    witness_covers c.args.fitted.now c.args.layers.now c.args.square c.advance.new.steps.items c.in-Some-2.ring
-    (subst (λ o. IfSome o (IsWitness c.args.fitted.now c.args.layers.now c.args.square c.advance.new.steps.items))
-    c.in-Some-2.is c.in_ok-ring-2.ensures.some)
+    let s : Settled = c.args.fitted.now in
+    let layers : List Layer = c.args.layers.now in
+    let q : Square = c.args.square in
+    let steps : List Step = c.advance.new.search.steps.items in
+    subst (λ (ring : PlacedRing). TopCovers s ring.layer q) (sym c.into_witness.ensures.ring)
+    (witness_covers s layers q steps c.in-Some-2.ring
+    (subst (λ o. IfSome o (IsWitness s layers q steps)) c.in-Some-2.is c.in_ok-ring-2.ensures.some))
 
 pub returns-clause-none : goal.returns-clause-none
 returns-clause-none c =
-    let none : c.loop-frame.frames.items ≡ [] = grind (arith, common_steps, c.in_default-pop.ensures) in
-    none_covers c.args.fitted.now c.args.layers.now c.args.square c.loop-frame.steps.items
-    (subst (λ fs. IsSearch c.args.fitted.now c.args.layers.now c.args.square fs c.loop-frame.steps.items) none
-    c.loop-frame.invariant)
+    let none : c.loop-frame.search.frames.items ≡ [] = grind (arith, common_steps, c.in_default-pop.ensures) in
+    none_covers c.args.fitted.now c.args.layers.now c.args.square c.loop-frame.search.steps.items
+    (subst (λ fs. IsSearch c.args.fitted.now c.args.layers.now c.args.square fs c.loop-frame.search.steps.items) none
+    c.loop-frame.invariant.search)
