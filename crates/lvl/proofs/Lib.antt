@@ -10,3 +10,4 @@ pub mod Showing
 pub mod Digesting
 pub mod Hashing
 pub mod Listing
+pub mod Reasoning

@@ -8,3 +8,4 @@ pub mod Shown
 pub mod Digested
 pub mod Hashes
 pub mod Views
+pub mod Reasons

@@ -1,5 +1,5 @@
 //! Compares two files: reads them, checks them, and compares them strip by strip under a view.
-ghost use Rattle.std.specs.Prelude.{◌≡◌, List, ℕ, Some, Ok, Err, IfOk, IfErr};
+ghost use Rattle.std.specs.Prelude.{◌≡◌, List, ℕ, Some, Ok, Err, IfOk, IfErr, IsTrue};
 ghost use Rattle.lvl_io.specs.Bytes.{CountsFailure};
 ghost use Rattle.lvl_region.specs.declared.region.Side.TheVariants.{First, Second};
 ghost use Rattle.lvl_names.specs.declared.layer.Layer.{Layer};
@@ -14,9 +14,11 @@ ghost use Rattle.lvl.specs.Accepted.{AreSame, AreDifferent, IsUnaccepted, IsVerd
 ghost use Rattle.lvl.specs.Kept.{Kept, IsCheckedAs, IsKeptVerdict, IsKeptRefusal};
 ghost use Rattle.lvl.specs.Answers.{Blames, HasPassed, IsEarlyOf, IsHopeless, IsRefusalOf, IsReported, is_read_of};
 ghost use Rattle.lvl.specs.Sides.{file, library_of};
+ghost use Rattle.lvl.specs.Reasons.{IsExplainedIn, IsKeptReason, IsReasonIn};
 ghost use Rattle.lvl.specs.Views.{IsComparedIn, IsViewVerdict};
 
-use crate::fitted::compare_fitted;
+use crate::explained::{Explained, Judged};
+use crate::reason::judge;
 use crate::side::{check_side, fit_side, read_side};
 use crate::verdict::{Comparison, Refusal, Tops, Verdict};
 use lvl_cells::{Checked, Library};
@@ -34,15 +36,18 @@ fn compare_libraries(
     theirs: Library,
     tops: &Tops,
     view: &View,
-) -> Result<Verdict, Refusal>
-    ensures verdict { IfOk result (IsKeptVerdict view.now
-        (library_of limits ours tops.now.first) (library_of limits theirs tops.now.second)) }
+    explained: bool,
+) -> Result<Judged, Refusal>
+    ensures verdict { IfOk result (λ judged. IsKeptVerdict view.now
+        (library_of limits ours tops.now.first) (library_of limits theirs tops.now.second) judged.verdict) }
+    ensures reason { IsTrue explained → IfOk result (λ judged. IsKeptReason view.now
+        (library_of limits ours tops.now.first) (library_of limits theirs tops.now.second) judged.verdict judged.why) }
     ensures refused { IfErr result
         (IsKeptRefusal (library_of limits ours tops.now.first) (library_of limits theirs tops.now.second)) }
 {
     let ours = check_side(alloc, Side::First, limits, ours, &tops.first)?;
     let theirs = check_side(alloc, Side::Second, limits, theirs, &tops.second)?;
-    compare_checked(alloc, ours, theirs, view)
+    compare_checked(alloc, ours, theirs, view, explained)
 }
 
 /// Compares two sound libraries under the view.
@@ -51,16 +56,19 @@ fn compare_checked(
     ours: Checked,
     theirs: Checked,
     view: &View,
-) -> Result<Verdict, Refusal>
+    explained: bool,
+) -> Result<Judged, Refusal>
     ensures verdict { (a b : Kept) → IsCheckedAs a ours → IsCheckedAs b theirs
-        → IfOk result (IsKeptVerdict view.now a b) }
+        → IfOk result (λ judged. IsKeptVerdict view.now a b judged.verdict) }
+    ensures reason { (a b : Kept) → IsCheckedAs a ours → IsCheckedAs b theirs → IsTrue explained
+        → IfOk result (λ judged. IsKeptReason view.now a b judged.verdict judged.why) }
     ensures refused { (a b : Kept) → IsCheckedAs a ours → IsCheckedAs b theirs
         → IfErr result (IsKeptRefusal a b) }
 {
     let ours = fit_side(alloc, Side::First, ours)?;
     let theirs = fit_side(alloc, Side::Second, theirs)?;
-    match compare_fitted(alloc, &ours, &theirs, view) {
-        Ok(verdict) => Ok(verdict),
+    match judge(alloc, &ours, &theirs, view, explained) {
+        Ok(judged) => Ok(judged),
         Err(_) => Err(Refusal::OutOfMemory),
     }
 }
@@ -156,6 +164,49 @@ pub fn compare_view<A: Read, B: Read>(
     }
 }
 
+/// Compares two files under a view and a profile, as [`compare_files`] and [`explain_files`] do.
+fn compare_both<A: Read, B: Read>(
+    alloc: Global,
+    first: &mut A,
+    second: &mut B,
+    tops: &Tops,
+    view: &View,
+    profile: Profile,
+    explained: bool,
+) -> Result<Explained, Refusal>
+    ensures compared { (xs ys : List ℕ) → A.remaining first.old ≡ Some xs → B.remaining second.old ≡ Some ys
+        → IfOk result (λ e. IsComparedIn view.now (file profile xs tops.now.first) (file profile ys tops.now.second)
+        e.comparison) }
+    ensures reason { (xs ys : List ℕ) → A.remaining first.old ≡ Some xs → B.remaining second.old ≡ Some ys
+        → IsTrue explained → IfOk result (λ e. IsReasonIn view.now (file profile xs tops.now.first)
+        (file profile ys tops.now.second) e.comparison.verdict e.why) }
+    ensures first_refused { (xs : List ℕ) → A.remaining first.old ≡ Some xs
+        → IfErr result (IsRefusalOf First (file profile xs tops.now.first)) }
+    ensures second_refused { (ys : List ℕ) → B.remaining second.old ≡ Some ys
+        → IfErr result (IsRefusalOf Second (file profile ys tops.now.second)) }
+    ensures first_early { (xs : List ℕ) → A.remaining first.old ≡ Some xs
+        → IfErr result (λ r. IsEarlyOf First r → IsHopeless profile xs (A.remaining first.new)) }
+    ensures second_early { (ys : List ℕ) → B.remaining second.old ≡ Some ys
+        → IfErr result (λ r. IsEarlyOf Second r → IsHopeless profile ys (B.remaining second.new)) }
+    ensures second_kept { (fault : FaultOfFile) → result ≡ Err (FileRefused First fault) → second.new ≡ second.old }
+    ensures first_reads { CountsFailure (A.read_errors first.old) (A.read_errors first.new) (is_read_of First result) }
+    ensures second_reads { CountsFailure (B.read_errors second.old) (B.read_errors second.new)
+        (is_read_of Second result) }
+{
+    let (ours, first_head) = read_side(alloc, Side::First, first, profile)?;
+    let (theirs, second_head) = read_side(alloc, Side::Second, second, profile)?;
+    let judged = compare_libraries(alloc, profile.limits, ours, theirs, tops, view, explained)?;
+    let Judged { verdict, why } = judged;
+    Ok(Explained {
+        comparison: Comparison {
+            first: first_head,
+            second: second_head,
+            verdict,
+        },
+        why,
+    })
+}
+
 /// Compares two files under a view and a profile, and returns the head of each and the verdict of
 /// [`compare_view`]. The second file isn't read if the first is refused. [`compare_layouts`] and
 /// [`compare_view`] are this call with the standard profile and without the heads.
@@ -185,12 +236,37 @@ pub fn compare_files<A: Read, B: Read>(
     ensures second_reads { CountsFailure (B.read_errors second.old) (B.read_errors second.new)
         (is_read_of Second result) }
 {
-    let (ours, first_head) = read_side(alloc, Side::First, first, profile)?;
-    let (theirs, second_head) = read_side(alloc, Side::Second, second, profile)?;
-    let verdict = compare_libraries(alloc, profile.limits, ours, theirs, tops, view)?;
-    Ok(Comparison {
-        first: first_head,
-        second: second_head,
-        verdict,
-    })
+    match compare_both(alloc, first, second, tops, view, profile, false) {
+        Ok(explained) => Ok(explained.comparison),
+        Err(refusal) => Err(refusal),
+    }
+}
+
+/// Compares two files as [`compare_files`] does, and if they differ, also says why: by which references and which
+/// shape the side that alone covers the square does so. On the second side, a shape counts whose Layer is mapped to
+/// that of the difference.
+pub fn explain_files<A: Read, B: Read>(
+    alloc: Global,
+    first: &mut A,
+    second: &mut B,
+    tops: &Tops,
+    view: &View,
+    profile: Profile,
+) -> Result<Explained, Refusal>
+    ensures explained { (xs ys : List ℕ) → A.remaining first.old ≡ Some xs → B.remaining second.old ≡ Some ys
+        → IfOk result (IsExplainedIn view.now (file profile xs tops.now.first) (file profile ys tops.now.second)) }
+    ensures first_refused { (xs : List ℕ) → A.remaining first.old ≡ Some xs
+        → IfErr result (IsRefusalOf First (file profile xs tops.now.first)) }
+    ensures second_refused { (ys : List ℕ) → B.remaining second.old ≡ Some ys
+        → IfErr result (IsRefusalOf Second (file profile ys tops.now.second)) }
+    ensures first_early { (xs : List ℕ) → A.remaining first.old ≡ Some xs
+        → IfErr result (λ r. IsEarlyOf First r → IsHopeless profile xs (A.remaining first.new)) }
+    ensures second_early { (ys : List ℕ) → B.remaining second.old ≡ Some ys
+        → IfErr result (λ r. IsEarlyOf Second r → IsHopeless profile ys (B.remaining second.new)) }
+    ensures second_kept { (fault : FaultOfFile) → result ≡ Err (FileRefused First fault) → second.new ≡ second.old }
+    ensures first_reads { CountsFailure (A.read_errors first.old) (A.read_errors first.new) (is_read_of First result) }
+    ensures second_reads { CountsFailure (B.read_errors second.old) (B.read_errors second.new)
+        (is_read_of Second result) }
+{
+    compare_both(alloc, first, second, tops, view, profile, true)
 }

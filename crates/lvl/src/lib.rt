@@ -2,7 +2,7 @@
 //!
 //! [`compare_layouts`] reads two files, checks their cells, and compares what they cover on each Layer. It
 //! returns a [`Verdict`] or a [`Refusal`]. [`compare_view`] does the same with the Layers of the second
-//! file mapped, and only within a window. [`show_file`] returns what one file has, and [`digest_file`] a
+//! file mapped, and only within a window, and [`explain_files`] says why two files differ. [`show_file`] returns what one file has, and [`digest_file`] a
 //! digest of the mask that it draws. Each format is a variant of [`Layout`], [`Head`] and [`FileFault`].
 //!
 //! `one` and `other` are two files in memory that draw the same:
@@ -22,11 +22,14 @@
 //! ```
 #![tactic(auto)]
 
-pub use compare::{compare_files, compare_layouts, compare_view};
+pub use compare::{compare_files, compare_layouts, compare_view, explain_files};
 pub use digest::{digest_file, digests_decide};
 pub use digested::{Digested, MaskDigest};
+pub use explained::Explained;
 pub use layout::{FileFault, Head, Layout, read_layout, read_layout_by, widening_keeps};
 pub use lvl_corners::{DigestedLayer, layer_line};
+pub use lvl_why::{Borders, NamedStep, Why};
+pub use lvl_witness::PlacedRing;
 pub use show::show_file;
 pub use shown::Shown;
 pub use verdict::{Comparison, Refusal, Tops, Verdict};
@@ -34,10 +37,12 @@ pub use verdict::{Comparison, Refusal, Tops, Verdict};
 mod compare;
 mod digest;
 mod digested;
+mod explained;
 mod fitted;
 mod hashes;
 mod layout;
 mod pace;
+mod reason;
 mod show;
 mod shown;
 mod side;

@@ -27,11 +27,13 @@ use Rattle.lvl.specs.declared.layout.FileFault.{FileFault}
 use Rattle.lvl.specs.declared.layout.FileFault.TheVariants.{Gds, Oasis}
 use Rattle.lvl.specs.declared.verdict.Refusal.{Refusal}
 use Rattle.lvl.specs.declared.verdict.Refusal.TheVariants.{File, Cells}
+use Rattle.lvl.specs.declared.explained.Explained.{Explained}
 use Rattle.lvl.specs.declared.verdict.Comparison.{Comparison}
 use Rattle.lvl_report.specs.Writing.{verdict_status}
 use Rattle.lvl_report.specs.declared.status.Status.{Status}
 use Rattle.lvl_report.specs.declared.status.Status.TheVariants.{Shown as ShownStatus, Refused}
 use Rattle.lvl_report.specs.Steps.{AreStepsSaid}
+use Rattle.lvl_report.specs.Texts.{comparison_of}
 use Rattle.lvl_report.specs.declared.outcome.Outcome.{Outcome}
 use Rattle.lvl_report.specs.declared.hint.Hint.{Hint}
 use Rattle.lvl_report.specs.declared.hint.Hint.TheVariants.{IgnoreMore, LiftLimits, Unpack, WithoutBlocks, NameTop}
@@ -159,6 +161,10 @@ abbrev pub IsOutcomeOf : Profile → Result Comparison Refusal → Outcome → T
 IsOutcomeOf given (Ok comparison) =
     IsEnd (verdict_status comparison.verdict) None (AreStepsSaid comparison.first comparison.second)
 IsOutcomeOf given (Err refusal) = IsEnd Refused (hint_of_two given refusal) (λ text. text ≡ None)
+
+-- how a run ends that also gives the reason: as its comparison does
+abbrev pub IsExplainedOutcome : Profile → Result Explained Refusal → Outcome → Type 0
+IsExplainedOutcome given answer = IsOutcomeOf given (comparison_of answer)
 
 -- how a run on a single file ends
 abbrev pub shown_outcome : {X : Type 0} → Profile → Result X Refusal → Outcome

@@ -11,7 +11,9 @@ use Rattle.lvl.specs.declared.verdict.Comparison.{Comparison}
 use Rattle.lvl.specs.declared.verdict.Refusal.{Refusal}
 use Rattle.lvl.specs.Sides.{file_named}
 use Rattle.lvl.specs.Layouts.{File}
+use Rattle.lvl.specs.Reasons.{IsExplainedIn}
 use Rattle.lvl.specs.Views.{IsComparedIn}
+use Rattle.lvl.specs.declared.explained.Explained.{Explained}
 use Rattle.lvl_view.specs.Views.{PlainView}
 use Rattle.lvl.specs.Answers.{IsCompared, IsEarlyOf, IsHopeless, IsRefusalOf, is_read_of}
 use Rattle.lvl.specs.Shown.{IsShownFile, IsOfFirst}
@@ -31,10 +33,10 @@ abbrev pub input : Profile → Option (List ℕ) → Option (List ℕ) → ℕ �
 input profile bytes left before after top =
     record { profile = profile; bytes = bytes; left = left; before = before; after = after; top = top }
 
--- the answer is possible for the comparison of two files: a comparison satisfies `Says`, and a refusal is true of the
+-- the answer is possible for the comparison of two files: what was found satisfies `Says`, and a refusal is true of the
 -- files
-pub record IsAnswerBy (Says : File → File → Comparison → Type 0) (a b : Input)
-    (answer : Result Comparison Refusal) : Type 0 where
+pub record IsAnswerBy {X : Type 0} (Says : File → File → X → Type 0) (a b : Input)
+    (answer : Result X Refusal) : Type 0 where
   pub compared : (xs ys : List ℕ) → a.bytes ≡ Some xs → b.bytes ≡ Some ys
       → IfOk answer (Says (file_named a.profile xs a.top) (file_named b.profile ys b.top))
   pub first_refused : (xs : List ℕ) → a.bytes ≡ Some xs
@@ -55,6 +57,10 @@ IsComparedBy = IsAnswerBy IsCompared
 -- the answer is possible for their comparison under the view
 abbrev pub IsViewedBy : PlainView → Input → Input → Result Comparison Refusal → Type 0
 IsViewedBy view = IsAnswerBy (IsComparedIn view)
+
+-- the answer is possible for their comparison under the view, with its reason
+abbrev pub IsExplainedBy : PlainView → Input → Input → Result Explained Refusal → Type 0
+IsExplainedBy view = IsAnswerBy (IsExplainedIn view)
 
 -- the answer is possible for one file: what was found satisfies `Says`, and a refusal is true of the file
 pub record IsFoundBy {X : Type 0} (Says : File → X → Type 0) (a : Input) (answer : Result X Refusal) : Type 0 where

@@ -1,9 +1,14 @@
--- The text of an answer in bytes (own rule): two heads and a verdict, what is shown of a layout, its digest, or a
--- refusal.
-use Rattle.std.specs.Prelude.{ℕ, List, [], ◌∷◌, ◌++◌, flat_map, codes, decimal, Result, Ok, Err}
+-- The text of an answer in bytes (own rule): two heads and a verdict, and why; what is shown of a layout, its digest, or
+-- a refusal.
+use Rattle.std.specs.Prelude.{ℕ, ◌+◌, Bool, true, false, List, [], ◌∷◌, ◌++◌, flat_map, codes, decimal, Option, Some, None}
+use Rattle.std.specs.Prelude.{Result, Ok, Err}
 use Rattle.std.specs.Fmt.{signed_decimal}
+use Rattle.lvl_grid.specs.declared.map.Map.{Map}
+use Rattle.lvl_grid.specs.declared.map.Turn.{Turn}
+use Rattle.lvl_grid.specs.declared.map.Turn.TheVariants.{R0, R90, R180, R270}
 use Rattle.lvl_region.specs.declared.region.Side.{Side}
 use Rattle.lvl_region.specs.declared.region.Side.TheVariants.{First, Second}
+use Rattle.lvl.specs.declared.explained.Explained.{Explained}
 use Rattle.lvl.specs.declared.layout.Head.{Head}
 use Rattle.lvl.specs.declared.layout.Head.TheVariants.{Gds, Oasis}
 use Rattle.lvl.specs.declared.layout.FileFault.{FileFault}
@@ -17,6 +22,10 @@ use Rattle.lvl.specs.declared.digested.Digested.{Digested}
 use Rattle.lvl.specs.declared.digested.MaskDigest.{MaskDigest}
 use Rattle.lvl.specs.declared.shown.Shown.{Shown}
 use Rattle.lvl_corners.specs.Masks.{mask_lines}
+use Rattle.lvl_why.specs.declared.borders.Borders.{Borders}
+use Rattle.lvl_why.specs.declared.why.NamedStep.{NamedStep}
+use Rattle.lvl_why.specs.declared.why.Why.{Why}
+use Rattle.lvl_witness.specs.declared.witness.PlacedRing.{PlacedRing}
 use Rattle.lvl_count.specs.declared.counts.LayerRings.{LayerRings}
 use Rattle.lvl_text.specs.Faults.{spaced, cell_fault, flat_fault}
 use Rattle.lvl_text.specs.Gds.{gds_fault, gds_head_text, hex}
@@ -61,6 +70,71 @@ text_of (Ok c) =
     line (codes "first: " ++ head_text c.first) ++ line (codes "second: " ++ head_text c.second)
     ++ line (verdict_text c.verdict)
 text_of (Err refusal) = line (refusal_text refusal)
+
+-- the number of what has this index, counted from 1, and how many there are
+abbrev pub of_all : ℕ → ℕ → List ℕ
+of_all index all = decimal (index + 1) ++ codes " of " ++ decimal all
+
+-- a turn in degrees
+abbrev pub turn_text : Turn → List ℕ
+turn_text R0 = codes "0"
+turn_text R90 = codes "90"
+turn_text R180 = codes "180"
+turn_text R270 = codes "270"
+
+abbrev pub flip_text : Bool → List ℕ
+flip_text false = []
+flip_text true = codes " flipped"
+
+-- where a map puts the origin, and how it turns
+abbrev pub map_text : Map → List ℕ
+map_text m =
+    codes ", at " ++ signed_decimal m.at.x ++ codes " " ++ signed_decimal m.at.y ++ codes " turned " ++ turn_text m.turn
+    ++ flip_text m.flip
+
+-- the reference of a step, the cell to which it refers, and the place
+abbrev pub step_line : NamedStep → List ℕ
+step_line n =
+    line (codes "why: reference " ++ of_all n.step.reference n.step.references ++ codes " to" ++ spaced n.cell.items
+    ++ codes ", place " ++ of_all n.step.place n.step.places ++ map_text n.step.map)
+
+-- which ring of the last cell covers the square
+abbrev pub ring_text : PlacedRing → List ℕ
+ring_text p =
+    codes "why: shape " ++ of_all p.shape p.shapes ++ codes ", place " ++ of_all p.place p.places ++ codes ", ring "
+    ++ of_all p.ring p.rings ++ codes " on layer " ++ decimal p.layer.layer ++ codes " datatype "
+    ++ decimal p.layer.datatype
+
+-- the least and the greatest coordinates of a ring
+abbrev pub borders_text : Borders → List ℕ
+borders_text b =
+    codes ", box " ++ signed_decimal b.x0 ++ codes " " ++ signed_decimal b.y0 ++ codes " " ++ signed_decimal b.x1
+    ++ codes " " ++ signed_decimal b.y1
+
+-- why a top covers a square: the top, a line for each reference of the chain, and the ring
+abbrev pub why_text : Why → List ℕ
+why_text w =
+    line (codes "why: cell" ++ spaced w.top.items) ++ flat_map step_line w.steps.items
+    ++ line (ring_text w.ring ++ borders_text w.borders)
+
+-- the lines of a reason, if there is one
+abbrev pub reason_text : Option Why → List ℕ
+reason_text None = []
+reason_text (Some w) = why_text w
+
+-- the comparison of an explained answer
+abbrev pub comparison_of : Result Explained Refusal → Result Comparison Refusal
+comparison_of (Ok e) = Ok e.comparison
+comparison_of (Err refusal) = Err refusal
+
+-- the reason in it
+abbrev pub why_of : Result Explained Refusal → Option Why
+why_of (Ok e) = e.why
+why_of (Err refusal) = None
+
+-- the text of an explained comparison or a refusal: that of the comparison, and its reason
+abbrev pub text_of_explained : Result Explained Refusal → List ℕ
+text_of_explained answer = text_of (comparison_of answer) ++ reason_text (why_of answer)
 
 -- the line of a Layer that is shown
 abbrev pub layer_line : LayerRings → List ℕ

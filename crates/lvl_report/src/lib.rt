@@ -2,7 +2,7 @@
 //! refusal.
 //!
 //! [`run`] compares two files, [`run_view`] compares them under a view, [`run_show`] shows one, and
-//! [`run_digest`] hashes what one draws. Each makes the whole text of the answer, writes it, and returns a
+//! [`run_digest`] hashes what one draws, and [`run_why`] says why two differ. Each makes the whole text of the answer, writes it, and returns a
 //! [`Status`], which gives the exit status of the program. The calls that take what is ignored return an
 //! [`Outcome`], which also has a [`Hint`] if something would mend a refusal. [`form`], [`form_shown`] and
 //! [`form_digest`] only make the text.
@@ -23,7 +23,7 @@
 pub use digest::form_digest;
 pub use hint::Hint;
 pub use outcome::Outcome;
-pub use runs::{run, run_by, run_digest, run_show, run_show_by, run_view, run_view_by};
+pub use runs::{run, run_by, run_digest, run_show, run_show_by, run_view, run_view_by, run_why};
 pub use status::{RunFault, Status};
 pub use text::{form, form_shown};
 
@@ -36,3 +36,4 @@ mod status;
 mod steps;
 mod tell;
 mod text;
+mod why;

@@ -2,17 +2,19 @@
 ghost use Rattle.std.specs.Prelude.{◌≡◌, OnErr, IfOk, Err, option_copied};
 ghost use Rattle.std.specs.Io.KnownBytes.{Keeps};
 ghost use Rattle.lvl_io.specs.Bytes.{CountsFailure};
-ghost use Rattle.lvl_report.specs.Runs.{IsComparedBy, IsDigestedBy, IsShownBy, IsViewedBy, IsWritten, IsBegun, input};
+ghost use Rattle.lvl_report.specs.Runs.{IsComparedBy, IsDigestedBy, IsExplainedBy, IsShownBy, IsViewedBy, IsWritten};
+ghost use Rattle.lvl_report.specs.Runs.{IsBegun, input};
 ghost use Rattle.lvl.specs.Sides.{given_name};
 ghost use Rattle.lvl_profile.specs.Profiles.{strict};
-ghost use Rattle.lvl_report.specs.Texts.{text_of, text_of_digested, text_of_shown};
-ghost use Rattle.lvl_report.specs.Hints.{IsOutcomeOf, shown_outcome};
+ghost use Rattle.lvl_report.specs.Texts.{text_of, text_of_digested, text_of_explained, text_of_shown};
+ghost use Rattle.lvl_report.specs.Hints.{IsExplainedOutcome, IsOutcomeOf, shown_outcome};
 ghost use Rattle.lvl_report.specs.Writing.{ends_by, status_of, shown_status, is_output};
 
 use crate::outcome::Outcome;
 use crate::status::{RunFault, Status};
-use crate::tell::{tell, tell_digest, tell_shown};
-use lvl::{Tops, compare_files, digest_file, show_file};
+use crate::tell::{tell, tell_both, tell_digest, tell_shown};
+use crate::why::parts_of;
+use lvl::{Tops, compare_files, digest_file, explain_files, show_file};
 use lvl_io::{Read, Write};
 use lvl_profile::Profile;
 use lvl_view::View;
@@ -151,6 +153,40 @@ pub fn run_view_by<A: Read, B: Read, W: Write>(
 {
     let answer = compare_files(alloc, first, second, tops, view, profile);
     tell(alloc, profile, &answer, out)
+}
+
+/// Compares two files under a view with some records ignored, and writes the answer as [`run`] does, and if they
+/// differ, also why: the top of the side that alone covers the square, and on a line each, the references of a chain
+/// that leads to a cell with a shape that covers it, and that shape. Numbers count from 1, in file order.
+///
+/// It writes an answer that [`explain_files`](lvl::explain_files) may return for these files.
+pub fn run_why<A: Read, B: Read, W: Write>(
+    alloc: Global,
+    first: &mut A,
+    second: &mut B,
+    tops: &Tops,
+    view: &View,
+    profile: Profile,
+    out: &mut W,
+) -> Result<Outcome, RunFault>
+    ensures written { IfOk result (IsWritten
+        (IsExplainedBy view.now (input profile (A.remaining first.old) (A.remaining first.new)
+        (A.read_errors first.old) (A.read_errors first.new) (given_name tops.now.first))
+        (input profile (B.remaining second.old) (B.remaining second.new)
+        (B.read_errors second.old) (B.read_errors second.new) (given_name tops.now.second)))
+        text_of_explained (IsExplainedOutcome profile) (W.contents out.old) (W.contents out.new)) }
+    ensures begun { OnErr result (IsBegun
+        (IsExplainedBy view.now (input profile (A.remaining first.old) (A.remaining first.new)
+        (A.read_errors first.old) (A.read_errors first.new) (given_name tops.now.first))
+        (input profile (B.remaining second.old) (B.remaining second.new)
+        (B.read_errors second.old) (B.read_errors second.new) (given_name tops.now.second)))
+        text_of_explained (W.contents out.old) (W.contents out.new)) }
+    ensures nothing { result ≡ Err RunFault.OutOfMemory → Keeps (W.contents out.old) (W.contents out.new) }
+    ensures errors { CountsFailure (W.write_errors out.old) (W.write_errors out.new) (is_output result) }
+    ensures same { W.lent out.new ≡ W.lent out.old }
+{
+    let (answer, why) = parts_of(explain_files(alloc, first, second, tops, view, profile));
+    tell_both(alloc, profile, &answer, &why, out)
 }
 
 /// Shows a file: writes what it says about itself, the name of its top, the number of its cells,

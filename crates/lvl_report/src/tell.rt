@@ -1,8 +1,8 @@
 //! Writes the whole text of an answer, and returns how the run ends.
-ghost use Rattle.std.specs.Prelude.{◌≡◌, OnOk, OnErr, IfOk, Err};
+ghost use Rattle.std.specs.Prelude.{◌≡◌, ◌++◌, OnOk, OnErr, IfOk, Err};
 ghost use Rattle.std.specs.Io.KnownBytes.{Appends, Keeps};
 ghost use Rattle.lvl_io.specs.Bytes.{CountsFailure};
-ghost use Rattle.lvl_report.specs.Texts.{text_of, text_of_digested, text_of_shown};
+ghost use Rattle.lvl_report.specs.Texts.{reason_text, text_of, text_of_digested, text_of_shown};
 ghost use Rattle.lvl_report.specs.Hints.{IsOutcomeOf, shown_outcome};
 ghost use Rattle.lvl_report.specs.Writing.{AppendsBeginning, is_output};
 
@@ -12,7 +12,8 @@ use crate::output::put;
 use crate::status::RunFault;
 use crate::steps::steps_of;
 use crate::text::{form, form_shown};
-use lvl::{Comparison, Digested, Refusal, Shown};
+use crate::why::form_both;
+use lvl::{Comparison, Digested, Refusal, Shown, Why};
 use lvl_io::Write;
 use lvl_profile::Profile;
 use std::alloc::Global;
@@ -33,6 +34,33 @@ pub(crate) fn tell<W: Write>(
     ensures same { W.lent out.new ≡ W.lent out.old }
 {
     let Ok(text) = form(alloc, answer) else {
+        return Err(RunFault::OutOfMemory);
+    };
+    let Ok(steps) = steps_of(alloc, answer) else {
+        return Err(RunFault::OutOfMemory);
+    };
+    put(out, &text)?;
+    Ok(outcome_of(profile, answer, steps))
+}
+
+/// Writes the text of an answer about two files and of its reason, and returns how the run ends.
+pub(crate) fn tell_both<W: Write>(
+    alloc: Global,
+    profile: Profile,
+    answer: &Result<Comparison, Refusal>,
+    why: &Option<Why>,
+    out: &mut W,
+) -> Result<Outcome, RunFault>
+    ensures whole { OnOk result
+        (Appends (W.contents out.old) (W.contents out.new) (text_of answer.now ++ reason_text why.now)) }
+    ensures outcome { IfOk result (IsOutcomeOf profile answer.now) }
+    ensures begun { OnErr result
+        (AppendsBeginning (W.contents out.old) (W.contents out.new) (text_of answer.now ++ reason_text why.now)) }
+    ensures nothing { result ≡ Err RunFault.OutOfMemory → Keeps (W.contents out.old) (W.contents out.new) }
+    ensures errors { CountsFailure (W.write_errors out.old) (W.write_errors out.new) (is_output result) }
+    ensures same { W.lent out.new ≡ W.lent out.old }
+{
+    let Ok(text) = form_both(alloc, answer, why) else {
         return Err(RunFault::OutOfMemory);
     };
     let Ok(steps) = steps_of(alloc, answer) else {

@@ -1,46 +1,9 @@
-use Rattle.std.proofs.lemmas.Result.{err_from_is_err_and}
-use Rattle.lvl_region.specs.declared.region.Side.TheVariants.{First, Second}
-use Rattle.lvl.specs.Layouts.{File}
-use Rattle.lvl.specs.Sides.{given_name}
-use Rattle.lvl.proofs.Refused.{first_of_second, first_refused, not_early_of, second_refused}
-use Rattle.lvl.proofs.Viewing.{compared_in, whole_verdict}
+use Rattle.lvl.proofs.Viewing.{whole_verdict}
 use Rattle.lvl.proofs.compare.compare_files.Goals as goal
 
-pub returns-in_err-theirs-clause-first_refused : goal.returns-in_err-theirs-clause-first_refused
-returns-in_err-theirs-clause-first_refused g c xs known =
-    let a : File = record { profile = c.args.profile; bytes = xs; top = given_name c.args.tops.now.first } in
-    let p = err_from_is_err_and c.from_residual-in_err-theirs.result c.from_residual-in_err-theirs.ensures.1 in
-    rw (p.1, p.2) (first_of_second a _ _ (c.in_ok-ours.ensures.read xs known) c.in_err-theirs.field-0.0
-    c.in_err-theirs.ensures.own)
+pub returns-in-Ok-clause-compared : goal.returns-in-Ok-clause-compared
+returns-in-Ok-clause-compared g c xs ys known_first known_second = c.in-Ok.ensures.compared xs ys known_first known_second
 
-pub returns-in_err-theirs-clause-first_early : goal.returns-in_err-theirs-clause-first_early
-returns-in_err-theirs-clause-first_early g c xs known =
-    let p = err_from_is_err_and c.from_residual-in_err-theirs.result c.from_residual-in_err-theirs.ensures.1 in
-    rw (p.1, p.2)
-    (λ e. absurd (not_early_of Second First c.in_err-theirs.field-0.0 (λ same. cc) c.in_err-theirs.ensures.own e))
-
-pub returns-in_err-verdict-clause-first_refused : goal.returns-in_err-verdict-clause-first_refused
-returns-in_err-verdict-clause-first_refused g c xs known =
-    let a : File = record { profile = c.args.profile; bytes = xs; top = given_name c.args.tops.now.first } in
-    let p = err_from_is_err_and c.from_residual-in_err-verdict.result c.from_residual-in_err-verdict.ensures.1 in
-    rw (p.1, p.2) (first_refused a _ _ _ (c.in_ok-ours.ensures.read xs known) c.in_err-verdict.field-0.0
-    c.in_err-verdict.ensures.refused)
-
-pub returns-in_err-verdict-clause-second_refused : goal.returns-in_err-verdict-clause-second_refused
-returns-in_err-verdict-clause-second_refused g c ys known =
-    let b : File = record { profile = c.args.profile; bytes = ys; top = given_name c.args.tops.now.second } in
-    let p = err_from_is_err_and c.from_residual-in_err-verdict.result c.from_residual-in_err-verdict.ensures.1 in
-    rw (p.1, p.2) (second_refused b _ _ _ (c.in_ok-theirs.ensures.read ys known) c.in_err-verdict.field-0.0
-    c.in_err-verdict.ensures.refused)
-
-pub returns-clause-compared : goal.returns-clause-compared
-returns-clause-compared g c xs ys known_first known_second =
-    let a : File = record { profile = c.args.profile; bytes = xs; top = given_name c.args.tops.now.first } in
-    let b : File = record { profile = c.args.profile; bytes = ys; top = given_name c.args.tops.now.second } in
-    compared_in c.args.view.now a b _ _ _ _ (c.in_ok-ours.ensures.read xs known_first)
-    (c.in_ok-theirs.ensures.read ys known_second)
-    c.in_ok-verdict.verdict c.in_ok-verdict.ensures.verdict
-
-pub returns-clause-whole : goal.returns-clause-whole
-returns-clause-whole g c whole xs ys known_first known_second =
-    whole_verdict c.args.view.now whole _ _ _ (returns-clause-compared g c xs ys known_first known_second).verdict
+pub returns-in-Ok-clause-whole : goal.returns-in-Ok-clause-whole
+returns-in-Ok-clause-whole g c whole xs ys known_first known_second =
+    whole_verdict c.args.view.now whole _ _ _ (c.in-Ok.ensures.compared xs ys known_first known_second).verdict
