@@ -10,6 +10,7 @@ use std::alloc::{AllocError, Global};
 use std::test::Fail;
 
 mod files;
+mod listed;
 
 /// A file that is read in pieces, and has not failed.
 fn pieces(bytes: &'static [u8]) -> Pieces<'static>

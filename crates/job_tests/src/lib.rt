@@ -1,5 +1,5 @@
-//! Each public call of `lvl` once, the lines that `lvl_line` reads, and the jobs of `lvl_job` on files that are
-//! held in memory.
+//! Each public call of `lvl` once, the lines that `lvl_line` reads, the lists of `lvl_list`, and the jobs of `lvl_job`
+//! on files that are held in memory.
 //!
 //! A crate of its own, since a crate with tests is proved twice.
 #![tactic(auto)]
@@ -10,3 +10,5 @@ mod jobs;
 mod layouts;
 #[cfg(test)]
 mod lines;
+#[cfg(test)]
+mod lists;

@@ -17,6 +17,10 @@ enum Asks<'a> {
     Show(&'a str, Option<&'a str>, Option<&'a str>),
     /// A file, its top and what is ignored.
     Digest(&'a str, Option<&'a str>, Option<&'a str>),
+    /// Files to be listed, the top of each, and what is ignored.
+    List(&'a [&'a str], Option<&'a str>, Option<&'a str>),
+    /// A list to be checked, whether quietly, the top of each file, and what is ignored.
+    Check(&'a str, bool, Option<&'a str>, Option<&'a str>),
     /// The limits for whole chips, and anything else.
     Large,
     Nothing(ErrorKind),
@@ -26,6 +30,46 @@ fn is_text(found: &Option<String>, expected: Option<&str>) -> bool {
     match (found, expected) {
         (Some(found), Some(expected)) => found.as_str() == expected,
         (None, None) => true,
+        _ => false,
+    }
+}
+
+fn are_texts(found: &[String], expected: &[&str]) -> bool {
+    if found.len() != expected.len() {
+        return false;
+    }
+    for (found, expected) in found.iter().zip(expected) {
+        if found.as_str() != *expected {
+            return false;
+        }
+    }
+    true
+}
+
+/// Whether the job is one on several files that is asked for.
+fn is_on_list(asks: Asks<'_>, job: &Job) -> bool {
+    match (asks, job) {
+        (
+            Asks::List(names, name, words),
+            Job::List {
+                files,
+                top,
+                ignore,
+                large: false,
+            },
+        ) => are_texts(files, names) && is_text(top, name) && is_text(ignore, words),
+        (
+            Asks::Check(a, still, name, words),
+            Job::Check {
+                list,
+                quiet,
+                top,
+                ignore,
+                large: false,
+            },
+        ) => {
+            list.as_str() == a && *quiet == still && is_text(top, name) && is_text(ignore, words)
+        }
         _ => false,
     }
 }
@@ -102,8 +146,15 @@ fn is_asked(asks: Asks<'_>, answer: &Result<Job, LineFault>) -> bool {
         ) => file.as_str() == a && is_text(top, name) && is_text(ignore, words),
         (
             Asks::Large,
-            Ok(Job::Compare { large, .. } | Job::Show { large, .. } | Job::Digest { large, .. }),
+            Ok(
+                Job::Compare { large, .. }
+                | Job::Show { large, .. }
+                | Job::Digest { large, .. }
+                | Job::List { large, .. }
+                | Job::Check { large, .. },
+            ),
         ) => *large,
+        (Asks::List(..) | Asks::Check(..), Ok(job)) => is_on_list(asks, job),
         (Asks::Nothing(kind), Err(LineFault::Words(error))) => error.kind() == kind,
         _ => false,
     }
@@ -118,7 +169,7 @@ fn words_of(alloc: Global, line: &'static str) -> Result<Vec<&'static str>, Allo
     Ok(words)
 }
 
-static LINES: [(&str, Asks<'static>); 41] = [
+static LINES: [(&str, Asks<'static>); 54] = [
     ("lvl compare a b", Asks::Compare("a", "b", None, None)),
     (
         "lvl compare a b --top-a X --top-b Y",
@@ -208,7 +259,47 @@ static LINES: [(&str, Asks<'static>); 41] = [
         "lvl digest",
         Asks::Nothing(ErrorKind::MissingRequiredArgument),
     ),
-    ("lvl digest a b", Asks::Nothing(ErrorKind::UnknownArgument)),
+    ("lvl digest a b", Asks::Nothing(ErrorKind::ArgumentConflict)),
+    ("lvl digest --list a", Asks::List(&["a"], None, None)),
+    (
+        "lvl digest a --list b --top X --ignore all c",
+        Asks::List(&["a", "b", "c"], Some("X"), Some("all")),
+    ),
+    ("lvl digest --check a", Asks::Check("a", false, None, None)),
+    (
+        "lvl digest --top=X --quiet a --check --ignore texts",
+        Asks::Check("a", true, Some("X"), Some("texts")),
+    ),
+    ("lvl digest --large --list a b", Asks::Large),
+    ("lvl digest --check --large a", Asks::Large),
+    (
+        "lvl digest --list",
+        Asks::Nothing(ErrorKind::MissingRequiredArgument),
+    ),
+    (
+        "lvl digest --list --check a",
+        Asks::Nothing(ErrorKind::ArgumentConflict),
+    ),
+    (
+        "lvl digest a --quiet",
+        Asks::Nothing(ErrorKind::ArgumentConflict),
+    ),
+    (
+        "lvl digest a b --list --quiet",
+        Asks::Nothing(ErrorKind::ArgumentConflict),
+    ),
+    (
+        "lvl digest --check a b",
+        Asks::Nothing(ErrorKind::ArgumentConflict),
+    ),
+    (
+        "lvl digest --list a --list",
+        Asks::Nothing(ErrorKind::ArgumentConflict),
+    ),
+    (
+        "lvl show a --list",
+        Asks::Nothing(ErrorKind::UnknownArgument),
+    ),
     ("lvl", Asks::Nothing(ErrorKind::MissingSubcommand)),
     (
         "lvl compare a",
@@ -266,6 +357,16 @@ fn growths_of_a_line(rt: HostRuntime) -> Result<(), Fail> {
     let words = [
         "lvl", "compare", "a", "b", "--top-a", "X", "--map", "1/0=2/0",
     ];
+    match parse_line(rt.alloc(), words.as_slice()) {
+        Ok(_) => Ok(()),
+        Err(LineFault::OutOfMemory) => Err(Fail::from(AllocError)),
+        Err(LineFault::Words(_)) => Err(Fail::from("another refusal")),
+    }
+}
+
+#[test]
+fn growths_of_a_line_with_files(rt: HostRuntime) -> Result<(), Fail> {
+    let words = ["lvl", "digest", "--list", "a", "b", "--top", "X"];
     match parse_line(rt.alloc(), words.as_slice()) {
         Ok(_) => Ok(()),
         Err(LineFault::OutOfMemory) => Err(Fail::from(AllocError)),

@@ -17,6 +17,7 @@ use Rattle.lvl_report.specs.Writing.{is_output}
 use Rattle.lvl_view.specs.Views.{PlainView}
 use Rattle.lvl_job.specs.declared.fault.JobFault.{JobFault}
 use Rattle.lvl_job.specs.declared.fault.JobFault.TheVariants.{BadView, BadIgnore, NotOpened, OutOfMemory, Output}
+use Rattle.lvl_job.specs.declared.fault.JobFault.TheVariants.{BadLine, LongList, UnreadList}
 use Rattle.lvl_job.specs.Ends.{is_cut}
 use Rattle.lvl_profile.specs.declared.profile.Profile.{Profile}
 use Rattle.lvl_job.specs.Jobs.{IsAnswered, IsBadIgnore, IsComparedUnder, IsCut, IsFaultOfJob, IsProfileAsked}
@@ -105,6 +106,9 @@ module _ {S : Type 0} (opens : S → List ℕ → Option (Option (List ℕ)) →
         go (BadView fault) h = absurd h
         go (BadIgnore fault) h = absurd h
         go (NotOpened name) h = (missing (string_bytes name) h.0 h.1, h.2)
+        go (UnreadList name) h = absurd h
+        go (LongList name) h = absurd h
+        go (BadLine name n) h = absurd h
         go OutOfMemory h = h
         go Output h = cut h
 
@@ -137,6 +141,9 @@ module _ {S : Type 0} (opens : S → List ℕ → Option (Option (List ℕ)) →
         go (BadView fault) h = absurd h
         go (BadIgnore fault) h = absurd h
         go (NotOpened name) h = (both h.0, h.1)
+        go (UnreadList name) h = absurd h
+        go (LongList name) h = absurd h
+        go (BadLine name n) h = absurd h
         go OutOfMemory h = h
         go Output h = record {
           view = view;
@@ -185,6 +192,9 @@ module _ {S : Type 0} (opens : S → List ℕ → Option (Option (List ℕ)) →
       (h, refl, keeps_same from)
   view_fault first second top_a top_b map_text window_text ignored is_large old from (BadIgnore fault) h = absurd h
   view_fault first second top_a top_b map_text window_text ignored is_large old from (NotOpened name) h = absurd h
+  view_fault first second top_a top_b map_text window_text ignored is_large old from (UnreadList name) h = absurd h
+  view_fault first second top_a top_b map_text window_text ignored is_large old from (LongList name) h = absurd h
+  view_fault first second top_a top_b map_text window_text ignored is_large old from (BadLine name n) h = absurd h
   view_fault first second top_a top_b map_text window_text ignored is_large old from OutOfMemory h = keeps_same from
   view_fault first second top_a top_b map_text window_text ignored is_large old from Output h = absurd h
 
@@ -195,6 +205,9 @@ module _ {S : Type 0} (opens : S → List ℕ → Option (Option (List ℕ)) →
   no_ignore job text old from (BadView fault) bad h = absurd h
   no_ignore job text old from (BadIgnore fault) bad h = (bad h, refl, keeps_same from)
   no_ignore job text old from (NotOpened name) bad h = absurd h
+  no_ignore job text old from (UnreadList name) bad h = absurd h
+  no_ignore job text old from (LongList name) bad h = absurd h
+  no_ignore job text old from (BadLine name n) bad h = absurd h
   no_ignore job text old from OutOfMemory bad h = keeps_same from
   no_ignore job text old from Output bad h = absurd h
 
@@ -219,6 +232,6 @@ module _ {S : Type 0} (opens : S → List ℕ → Option (Option (List ℕ)) →
   digested_ignore_fault file top ignored is_large old from fault =
       no_ignore (Digest file top ignored is_large) (option_map string_bytes ignored) old from fault (λ h. h)
 
-pub cut_is : (fault : RunFault) → is_cut (Err (fault_of_run fault)) ≡ is_output {A = Outcome} (Err fault)
+pub cut_is : (fault : RunFault) → is_cut {A = Outcome} (Err (fault_of_run fault)) ≡ is_output {A = Outcome} (Err fault)
 cut_is RunOutput = refl
 cut_is RunOutOfMemory = refl

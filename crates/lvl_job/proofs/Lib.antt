@@ -1,2 +1,5 @@
 pub mod Saying
 pub mod Doing
+pub mod Telling
+pub mod Passing
+pub mod Listed

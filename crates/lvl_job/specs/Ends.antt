@@ -1,5 +1,5 @@
 -- How a job ends: its exit status, and what it writes to standard error (own rule).
-use Rattle.std.specs.Prelude.{ℕ, List, [], ◌∷◌, ◌++◌, codes, Option, Some, None, Result, Ok, Err, Bool, true, false}
+use Rattle.std.specs.Prelude.{ℕ, List, [], ◌∷◌, ◌++◌, codes, decimal, Option, Some, None, Result, Ok, Err, Bool, true, false}
 use Rattle.std.specs.Prelude.{◌||◌, ◌⊎◌, if◌then◌else◌, option_map}
 use Rattle.std.specs.Io.KnownBytes.{Appends}
 use Rattle.lvl_io.specs.Bytes.{CountsFailure}
@@ -17,12 +17,16 @@ use Rattle.lvl_report.specs.Texts.{line}
 use Rattle.lvl_report.specs.Writing.{status_code, AppendsBeginning}
 use Rattle.lvl_job.specs.declared.fault.JobFault.{JobFault}
 use Rattle.lvl_job.specs.declared.fault.JobFault.TheVariants.{BadView, BadIgnore, NotOpened, OutOfMemory, Output}
+use Rattle.lvl_job.specs.declared.fault.JobFault.TheVariants.{BadLine, LongList, UnreadList}
 
 -- the exit status of a job without an answer
 abbrev pub fault_code : JobFault → ℕ
 fault_code (BadView fault) = 3
 fault_code (BadIgnore fault) = 3
+fault_code (BadLine name n) = 3
 fault_code (NotOpened name) = 2
+fault_code (UnreadList name) = 2
+fault_code (LongList name) = 2
 fault_code OutOfMemory = 2
 fault_code Output = 4
 
@@ -36,6 +40,9 @@ abbrev pub fault_text : JobFault → List ℕ
 fault_text (BadView fault) = line (codes "lvl: bad view " ++ view_fault fault)
 fault_text (BadIgnore fault) = line (codes "lvl: bad ignore " ++ ignore_fault fault)
 fault_text (NotOpened name) = line (codes "lvl: cannot open " ++ string_bytes name)
+fault_text (UnreadList name) = codes "lvl: " ++ string_bytes name ++ codes ": cannot read\n"
+fault_text (LongList name) = codes "lvl: " ++ string_bytes name ++ codes ": too long\n"
+fault_text (BadLine name n) = codes "lvl: " ++ string_bytes name ++ codes ": bad line " ++ decimal n ++ codes "\n"
 fault_text OutOfMemory = line (codes "lvl: out of memory")
 fault_text Output = line (codes "lvl: output failed")
 
@@ -79,11 +86,14 @@ end_text (Ok outcome) = said_of outcome.hint (option_map (λ text. text.items) o
 end_text (Err fault) = fault_text fault
 
 -- whether the output of a job failed
-abbrev pub is_cut : Result Outcome JobFault → Bool
-is_cut (Ok outcome) = false
+abbrev pub is_cut : {A : Type 0} → Result A JobFault → Bool
+is_cut (Ok a) = false
 is_cut (Err (BadView fault)) = false
 is_cut (Err (BadIgnore fault)) = false
 is_cut (Err (NotOpened name)) = false
+is_cut (Err (UnreadList name)) = false
+is_cut (Err (LongList name)) = false
+is_cut (Err (BadLine name n)) = false
 is_cut (Err OutOfMemory) = false
 is_cut (Err Output) = true
 

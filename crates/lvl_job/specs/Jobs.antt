@@ -13,7 +13,7 @@ use Rattle.lvl_profile.specs.declared.profile.Profile.{Profile}
 use Rattle.lvl.specs.declared.verdict.Comparison.{Comparison}
 use Rattle.lvl.specs.declared.verdict.Refusal.{Refusal}
 use Rattle.lvl_line.specs.declared.job.Job.{Job}
-use Rattle.lvl_line.specs.declared.job.Job.TheVariants.{Compare, Digest, Show}
+use Rattle.lvl_line.specs.declared.job.Job.TheVariants.{Check, Compare, Digest, List as ListJob, Show}
 use Rattle.lvl_report.specs.declared.outcome.Outcome.{Outcome}
 use Rattle.lvl_report.specs.Runs.{Input, input, IsComparedBy, IsDigestedBy, IsViewedBy, IsShownBy, IsWritten, IsBegun}
 use Rattle.lvl_report.specs.Texts.{text_of, text_of_digested, text_of_shown}
@@ -23,6 +23,15 @@ use Rattle.lvl_view.specs.declared.fault.ViewFault.{ViewFault}
 use Rattle.lvl_view.specs.Views.{PlainView, IsViewOf, IsFaultOf}
 use Rattle.lvl_job.specs.declared.fault.JobFault.{JobFault}
 use Rattle.lvl_job.specs.declared.fault.JobFault.TheVariants.{BadView, BadIgnore, NotOpened, OutOfMemory, Output}
+use Rattle.lvl_job.specs.declared.fault.JobFault.TheVariants.{BadLine, LongList, UnreadList}
+
+-- What a job on a list does is in Done.antt.
+
+-- whether the job has one answer, and is on no list
+abbrev pub has_one_answer : Job → Bool
+has_one_answer (ListJob names top ignored is_large) = false
+has_one_answer (Check list quiet top ignored is_large) = false
+has_one_answer job = true
 
 -- the name of a file in a job, its profile, and the name of its top
 pub record Named : Type 0 where
@@ -136,6 +145,7 @@ IsAnswered opens (Show file top ignored is_large) old new from to outcome =
 IsAnswered opens (Digest file top ignored is_large) old new from to outcome =
     UnderProfile ignored is_large (λ profile. OfOne opens old new (named profile file top) (λ a.
     IsWritten (IsDigestedBy a) text_of_digested (ends_by (shown_outcome profile)) from to outcome))
+IsAnswered opens job old new from to outcome = ⊥
 
 -- a beginning of the answer to a job was written
 abbrev pub IsCut : {S : Type 0} → (S → List ℕ → Option (Option (List ℕ)) → S → Type 0) → Job → S → S
@@ -150,6 +160,7 @@ IsCut opens (Show file top ignored is_large) old new from to =
 IsCut opens (Digest file top ignored is_large) old new from to =
     UnderProfile ignored is_large (λ profile.
     OfOne opens old new (named profile file top) (λ a. IsBegun (IsDigestedBy a) text_of_digested from to))
+IsCut opens job old new from to = ⊥
 
 -- the file of this name is the first in the job that could not be opened
 abbrev pub IsNotOpened : {S : Type 0} → (S → List ℕ → Option (Option (List ℕ)) → S → Type 0) → Job → S → S → List ℕ
@@ -161,13 +172,13 @@ IsNotOpened opens (Show file top ignored is_large) old new name =
     UnderProfile ignored is_large (λ _. (name ≡ string_bytes file) × opens old name None new)
 IsNotOpened opens (Digest file top ignored is_large) old new name =
     UnderProfile ignored is_large (λ _. (name ≡ string_bytes file) × opens old name None new)
+IsNotOpened opens job old new name = ⊥
 
 -- why the texts of a map and a window give no view; a job on one file has no such texts
 abbrev pub IsBadView : Job → ViewFault → Type 0
 IsBadView (Compare first second top_a top_b map_text window_text ignored is_large) fault =
     IsFaultOf (option_map string_bytes map_text) (option_map string_bytes window_text) fault
-IsBadView (Show file top ignored is_large) fault = ⊥
-IsBadView (Digest file top ignored is_large) fault = ⊥
+IsBadView job fault = ⊥
 
 -- the text of what is ignored gives no set, but the texts of a map and a window give a view
 abbrev pub IsBadIgnore : Job → Type 0
@@ -175,6 +186,7 @@ IsBadIgnore (Compare first second top_a top_b map_text window_text ignored is_la
     UnderView map_text window_text (λ _. IsIgnoreFault (option_map string_bytes ignored))
 IsBadIgnore (Show file top ignored is_large) = IsIgnoreFault (option_map string_bytes ignored)
 IsBadIgnore (Digest file top ignored is_large) = IsIgnoreFault (option_map string_bytes ignored)
+IsBadIgnore job = ⊥
 
 -- the fault is true: if a text is bad, no file was opened; and unless the output failed, nothing was written
 abbrev pub IsFaultOfJob : {S : Type 0} → (S → List ℕ → Option (Option (List ℕ)) → S → Type 0) → Job → S → S
@@ -183,5 +195,8 @@ IsFaultOfJob opens job old new from to (BadView fault) = IsBadView job fault × 
 IsFaultOfJob opens job old new from to (BadIgnore fault) = IsBadIgnore job × (new ≡ old) × Keeps from to
 IsFaultOfJob opens job old new from to (NotOpened name) =
     IsNotOpened opens job old new (string_bytes name) × Keeps from to
+IsFaultOfJob opens job old new from to (UnreadList name) = ⊥
+IsFaultOfJob opens job old new from to (LongList name) = ⊥
+IsFaultOfJob opens job old new from to (BadLine name n) = ⊥
 IsFaultOfJob opens job old new from to OutOfMemory = Keeps from to
 IsFaultOfJob opens job old new from to Output = IsCut opens job old new from to

@@ -1,5 +1,5 @@
 -- What is done for a command line: a job, or a refusal.
-use Rattle.std.specs.Prelude.{◌≡◌, ℕ, List, Option, Result, IfOk, IfErr}
+use Rattle.std.specs.Prelude.{◌≡◌, ℕ, List, Option, Result}
 use Rattle.std.specs.Io.KnownBytes.{Keeps}
 use Rattle.lvl_line.specs.Line.{IsJob, IsRefusal}
 use Rattle.lvl_line.specs.declared.job.Job.{Job}
@@ -8,15 +8,8 @@ use Rattle.lvl_line.specs.declared.job.LineFault.TheVariants as line_fault
 use Rattle.lvl_report.specs.declared.outcome.Outcome.{Outcome}
 use Rattle.lvl_job.specs.declared.fault.JobFault.{JobFault}
 use Rattle.lvl_job.specs.declared.fault.JobFault.TheVariants.{OutOfMemory}
-use Rattle.lvl_job.specs.Ends.{IsSaid, end_code, end_text, fault_text}
-use Rattle.lvl_job.specs.Jobs.{IsAnswered, IsFaultOfJob}
-
--- a writer before and after: its bytes, if they are known, and how many errors it has returned
-pub record Change : Type 0 where
-  pub old : Option (List ℕ)
-  pub new : Option (List ℕ)
-  pub before : ℕ
-  pub after : ℕ
+use Rattle.lvl_job.specs.Done.{Change, IsDone, IsSaidOn}
+use Rattle.lvl_job.specs.Ends.{end_code, fault_text}
 
 -- the words ask for a job; it was done, and this is its exit status
 pub record IsLineDone {S : Type 0} (opens : S → List ℕ → Option (Option (List ℕ)) → S → Type 0)
@@ -24,16 +17,14 @@ pub record IsLineDone {S : Type 0} (opens : S → List ℕ → Option (Option (L
   pub job : Job
   pub asked : IsJob words job
   pub ended : Result Outcome JobFault
-  pub answered : IfOk ended (IsAnswered opens job old new out.old out.new)
-  pub fault : IfErr ended (IsFaultOfJob opens job old new out.old out.new)
-  pub said : IsSaid (end_text ended) err.old err.new err.before err.after
+  pub done : IsDone opens job old new out err ended
   pub status : code ≡ end_code ended
 
 -- what is written to standard error if the line is refused; the text of `clap`'s error is left open
 abbrev pub IsRefusalSaid : LineFault → Change → Type 0
 IsRefusalSaid (line_fault.Words error) err =
-    (text : List ℕ) × IsSaid text err.old err.new err.before err.after
-IsRefusalSaid line_fault.OutOfMemory err = IsSaid (fault_text OutOfMemory) err.old err.new err.before err.after
+    (text : List ℕ) × IsSaidOn err text
+IsRefusalSaid line_fault.OutOfMemory err = IsSaidOn err (fault_text OutOfMemory)
 
 -- the words are refused, or an allocation failed: no file was opened, nothing was written to the output, and the exit
 -- status is 3

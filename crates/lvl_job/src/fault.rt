@@ -4,6 +4,7 @@ ghost use Rattle.lvl_job.specs.Ends.{fault_code};
 
 use lvl_profile::IgnoreFault;
 use lvl_view::ViewFault;
+use std::alloc::AllocError;
 
 /// Why a job has no answer that was written whole.
 #[derive(Debug, Drop)]
@@ -14,23 +15,42 @@ pub enum JobFault {
     BadIgnore(IgnoreFault),
     /// The file of this name can't be opened.
     NotOpened(String),
-    /// An allocation failed for the view, for what is ignored, or for the text of the answer.
-    /// Nothing was written.
+    /// A read of the list in the file of this name failed. None of the files that it names was opened.
+    UnreadList(String),
+    /// The list in the file of this name has more bytes than a file may have. None of the files that it names
+    /// was opened.
+    LongList(String),
+    /// In the list in the file of this name, the line of this number, counted from 1, isn't the line of a file.
+    /// None of the files that it names was opened.
+    BadLine(String, usize),
+    /// An allocation failed for the view, for what is ignored, for a list, or for the text of an answer. Nothing
+    /// was written of that answer.
     OutOfMemory,
-    /// A write or a flush failed. A beginning of the answer's text was written.
+    /// A write or a flush failed. A beginning of an answer's text was written.
     Output,
 }
 
 impl JobFault {
-    /// The exit status of the program: 2 if a file can't be opened or for out of memory, 3 if a
-    /// text of the command line is bad, 4 if the output failed.
+    /// The exit status of the program: 2 if a file can't be opened, if a list can't be read or is too long, or
+    /// for out of memory; 3 if a text of the command line or a line of a list is bad; 4 if the output failed.
     pub fn code(&self) -> u8
         ensures { result ≡ fault_code self.now }
     {
         match self {
-            JobFault::BadView(_) | JobFault::BadIgnore(_) => 3,
-            JobFault::NotOpened(_) | JobFault::OutOfMemory => 2,
+            JobFault::BadView(_) | JobFault::BadIgnore(_) | JobFault::BadLine(..) => 3,
+            JobFault::NotOpened(_) | JobFault::UnreadList(_) | JobFault::LongList(_) => 2,
+            JobFault::OutOfMemory => 2,
             JobFault::Output => 4,
         }
+    }
+}
+
+impl From<AllocError> for JobFault {
+    ghost use Rattle.lvl_job.specs.declared.fault.JobFault.TheVariants.{OutOfMemory};
+
+    ghost from_gives = { λ _ fault. fault ≡ OutOfMemory };
+
+    fn from(_error: AllocError) -> JobFault {
+        JobFault::OutOfMemory
     }
 }

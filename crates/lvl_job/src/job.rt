@@ -1,12 +1,13 @@
 //! Does a job.
-ghost use Rattle.std.specs.Prelude.{◌≡◌, IfOk, IfErr, OnErr, Err, option_map, option_copied};
+ghost use Rattle.std.specs.Prelude.{◌≡◌, true, IfOk, IfErr, OnErr, Err, option_map, option_copied};
 ghost use Rattle.std.specs.Io.KnownBytes.{Keeps};
 ghost use Rattle.std.specs.Prelude.{string_bytes};
 ghost use Rattle.lvl.specs.Sides.{given_name};
 ghost use Rattle.lvl_io.specs.Bytes.{CountsFailure};
-ghost use Rattle.lvl_job.specs.Ends.{IsSaid, end_code, end_text, is_cut};
+ghost use Rattle.lvl_job.specs.Done.{IsDone, IsOneDone};
+ghost use Rattle.lvl_job.specs.Ends.{end_code, is_cut};
 ghost use Rattle.lvl_job.specs.Jobs.{IsAnswered, IsComparedUnder, IsFaultOfJob, IsIgnoreAsked, IsProfileAsked};
-ghost use Rattle.lvl_job.specs.Jobs.{IsViewAsked};
+ghost use Rattle.lvl_job.specs.Jobs.{IsViewAsked, has_one_answer};
 ghost use Rattle.lvl_job.specs.Opening.{held};
 ghost use Rattle.lvl_job.specs.inside.Parts.{IsOneAnswered, IsOneFault, IsPairAnswered, IsPairFault, IsViewFault};
 ghost use Rattle.lvl_job.specs.inside.Parts.{fault_of_run, IsNoIgnore};
@@ -17,6 +18,7 @@ ghost use Rattle.lvl_report.specs.Writing.{ends_by, is_output};
 
 use crate::fault::JobFault;
 use crate::files::Files;
+use crate::lists::{Asked, do_check, do_list};
 use crate::said::{say, say_outcome};
 use lvl::Tops;
 use lvl_io::{Read, Write};
@@ -40,7 +42,7 @@ fn open<F: Files>(files: &mut F, name: String) -> Result<F::File, JobFault>
 }
 
 /// The name of a top in bytes.
-fn top_of(name: Option<String>) -> Option<Vec<u8>>
+pub(crate) fn top_of(name: Option<String>) -> Option<Vec<u8>>
     ensures { given_name result ≡ option_map string_bytes name }
 {
     match name {
@@ -85,7 +87,11 @@ fn ignore_of(alloc: Global, text: &Option<String>) -> Result<Ignore, JobFault>
 
 /// The profile that is asked for: the text of what is ignored, and whether the limits are those for whole
 /// chips.
-fn profile_of(alloc: Global, ignored: &Option<String>, large: bool) -> Result<Profile, JobFault>
+pub(crate) fn profile_of(
+    alloc: Global,
+    ignored: &Option<String>,
+    large: bool,
+) -> Result<Profile, JobFault>
     ensures asked { IfOk result (IsProfileAsked (option_map string_bytes ignored.now) large) }
     ensures fault { IfErr result (IsNoIgnore (option_map string_bytes ignored.now)) }
 {
@@ -217,13 +223,14 @@ fn digest<F: Files, O: Write>(
     }
 }
 
-/// Does a job, and writes nothing to standard error.
+/// Does a job that has one answer, and writes nothing to standard error.
 fn perform<F: Files, O: Write>(
     alloc: Global,
     job: Job,
     files: &mut F,
     out: &mut O,
 ) -> Result<Outcome, JobFault>
+    requires { has_one_answer job ≡ true }
     ensures answered { IfOk result
         (IsAnswered F.opens job files.old files.new (O.contents out.old) (O.contents out.new)) }
     ensures fault { IfErr result
@@ -277,30 +284,33 @@ fn perform<F: Files, O: Write>(
             let top = top_of(top);
             digest(alloc, file, top.as_deref(), profile, files, out)
         }
+        Job::List { .. } | Job::Check { .. } => unreachable!(),
     }
 }
 
-/// Does a job: reads the texts of its view and of what is ignored, takes the limits that it asks for,
-/// opens its files by `files`, the first before the second, and writes its answer to `out`. If there is
-/// no answer, it writes one line to `err` that says why; if the answer is a refusal that something would mend, one line that says what; and if it
-/// is a verdict on files whose grid steps differ, one line that says so.
-///
-/// It writes an answer that [`run_by`], [`run_view_by`], [`run_show_by`] or [`run_digest`] may write for
-/// these files.
-pub fn do_job<F: Files, O: Write, E: Write>(
+/// Does a job that has one answer.
+fn answer<F: Files, O: Write, E: Write>(
     alloc: Global,
     job: Job,
     files: &mut F,
     out: &mut O,
     err: &mut E,
 ) -> Result<Outcome, JobFault>
-    ensures answered { IfOk result
-        (IsAnswered F.opens job files.old files.new (O.contents out.old) (O.contents out.new)) }
-    ensures fault { IfErr result
-        (IsFaultOfJob F.opens job files.old files.new (O.contents out.old) (O.contents out.new)) }
+    requires { has_one_answer job ≡ true }
+    ensures done { IsOneDone F.opens job files.old files.new
+        (record {
+          old = O.contents out.old;
+          new = O.contents out.new;
+          before = O.write_errors out.old;
+          after = O.write_errors out.new;
+        })
+        (record {
+          old = E.contents err.old;
+          new = E.contents err.new;
+          before = E.write_errors err.old;
+          after = E.write_errors err.new;
+        }) result }
     ensures errors { CountsFailure (O.write_errors out.old) (O.write_errors out.new) (is_cut result) }
-    ensures said { IsSaid (end_text result) (E.contents err.old) (E.contents err.new)
-        (E.write_errors err.old) (E.write_errors err.new) }
 {
     let ended = perform(alloc, job, files, out);
     match &ended {
@@ -308,6 +318,64 @@ pub fn do_job<F: Files, O: Write, E: Write>(
         Err(fault) => say(err, fault),
     }
     ended
+}
+
+/// Does a job: reads the texts of its view and of what is ignored, takes the limits that it asks for,
+/// opens its files by `files`, the first before the second, and writes its answer to `out`. If there is
+/// no answer, it writes one line to `err` that says why; if the answer is a refusal that something would mend, one line
+/// that says what; and if it is a verdict on files whose grid steps differ, one line that says so.
+///
+/// It writes an answer that [`run_by`], [`run_view_by`], [`run_show_by`] or [`run_digest`] may write for
+/// these files.
+///
+/// A list of digests has a line for each file that has one, in the order of the files; why a file has none is a line on
+/// `err`. To check a list it first reads the whole list. If a line of it is bad, it opens no other file. Then it hashes
+/// the files that the list names, one after another, and writes a line for each; the last line on `err` counts those
+/// that aren't the same. The status is the greatest of all files. One file is in memory at a time.
+pub fn do_job<F: Files, O: Write, E: Write>(
+    alloc: Global,
+    job: Job,
+    files: &mut F,
+    out: &mut O,
+    err: &mut E,
+) -> Result<Outcome, JobFault>
+    ensures done { IsDone F.opens job files.old files.new
+        (record {
+          old = O.contents out.old;
+          new = O.contents out.new;
+          before = O.write_errors out.old;
+          after = O.write_errors out.new;
+        })
+        (record {
+          old = E.contents err.old;
+          new = E.contents err.new;
+          before = E.write_errors err.old;
+          after = E.write_errors err.new;
+        }) result }
+    ensures errors { CountsFailure (O.write_errors out.old) (O.write_errors out.new) (is_cut result) }
+{
+    match job {
+        Job::List {
+            files: names,
+            top,
+            ignore,
+            large,
+        } => {
+            let asked = Asked { top, ignore, large };
+            do_list(alloc, &names, asked, files, out, err)
+        }
+        Job::Check {
+            list,
+            quiet,
+            top,
+            ignore,
+            large,
+        } => {
+            let asked = Asked { top, ignore, large };
+            do_check(alloc, list, quiet, asked, files, out, err)
+        }
+        job => answer(alloc, job, files, out, err),
+    }
 }
 
 /// The exit status of a job that ended in this way.

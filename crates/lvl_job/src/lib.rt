@@ -22,8 +22,13 @@ pub use files::Files;
 pub use job::{code_of, do_job};
 pub use line::do_line;
 
+mod checking;
 mod fault;
 mod files;
+mod hash;
 mod job;
 mod line;
+mod listing;
+mod lists;
 mod said;
+mod texts;

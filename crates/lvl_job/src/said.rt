@@ -1,12 +1,15 @@
 //! What a job writes to standard error.
-ghost use Rattle.std.specs.Prelude.{◌≡◌, ◌++◌, OnOk, OnErr, option_map};
+ghost use Rattle.std.specs.Prelude.{◌≡◌, ◌++◌, codes, decimal, IfErr, OnOk, OnErr, option_map};
+ghost use Rattle.std.specs.Prelude.{ℕ, List, Option};
 ghost use Rattle.std.specs.Io.KnownBytes.{Appends};
 ghost use Rattle.lvl_io.specs.Bytes.{CountsFailure, failed};
-ghost use Rattle.lvl_job.specs.Ends.{IsSaid, fault_text, hint_text, ignore_words, said_of, top_option};
+ghost use Rattle.lvl_job.specs.Ends.{IsSaid, fault_text, end_text, hint_text, ignore_words, is_cut, said_of, top_option};
+ghost use Rattle.lvl_job.specs.inside.Steps.{IsPut, IsSaidBy, Says};
 ghost use Rattle.lvl_report.specs.Texts.{line};
 ghost use Rattle.lvl_report.specs.Writing.{AppendsBeginning};
 
 use crate::fault::JobFault;
+use itoa::Buffer;
 use lvl_io::{Failure, Write};
 use lvl_profile::Ignore;
 use lvl_region::Side;
@@ -30,6 +33,33 @@ fn write_all<E: Write>(err: &mut E, text: &[u8]) -> Result<(), Failure>
     Ok(())
 }
 
+/// Whether all that was to be written to standard error so far was written. After a write has failed, nothing more
+/// is written.
+pub(crate) type Said = Result<(), Failure>;
+
+/// Writes a text, unless a write failed before.
+pub(crate) fn say_more<E: Write>(err: &mut E, said: &mut Said, text: &[u8])
+    ensures { Says text.now
+        (record { so_far = said.old; contents = E.contents err.old; errors = E.write_errors err.old })
+        (record { so_far = said.new; contents = E.contents err.new; errors = E.write_errors err.new }) }
+{
+    if said.is_ok() {
+        *said = write_all(err, text);
+    }
+}
+
+/// Writes a text to the output, and flushes it.
+pub(crate) fn put<O: Write>(out: &mut O, text: &[u8]) -> Result<(), JobFault>
+    ensures written { IsPut text.now (O.contents out.old) (O.contents out.new) result }
+    ensures output { IfErr result (λ fault. fault ≡ JobFault.Output) }
+    ensures errors { CountsFailure (O.write_errors out.old) (O.write_errors out.new) (is_cut result) }
+{
+    if write_all(out, text).is_err() || out.flush().is_err() {
+        return Err(JobFault::Output);
+    }
+    Ok(())
+}
+
 /// Writes two texts as one line.
 fn write_line<E: Write>(err: &mut E, why: &str, what: &str) -> Result<(), Failure>
     ensures whole { OnOk result (Appends (E.contents err.old) (E.contents err.new) (line (why.now ++ what.now))) }
@@ -42,17 +72,37 @@ fn write_line<E: Write>(err: &mut E, why: &str, what: &str) -> Result<(), Failur
     write_all(err, b"\n")
 }
 
-/// The text of a fault in two parts. The second is what the fault carries.
-fn words_of(fault: &JobFault) -> (&str, &str)
-    ensures { fault_text fault.now ≡ line (result.0.now ++ result.1.now) }
+/// Writes why the list in the file of a name isn't read.
+fn say_of_list<E: Write>(err: &mut E, name: &str, why: &str)
+    ensures { IsSaid (codes "lvl: " ++ name.now ++ why.now)
+        (E.contents err.old) (E.contents err.new) (E.write_errors err.old) (E.write_errors err.new) }
 {
-    match fault {
-        JobFault::BadView(fault) => ("lvl: bad view ", view_fault(*fault)),
-        JobFault::BadIgnore(fault) => ("lvl: bad ignore ", ignore_fault(*fault)),
-        JobFault::NotOpened(name) => ("lvl: cannot open ", name.as_str()),
-        JobFault::OutOfMemory => ("lvl: out of memory", ""),
-        JobFault::Output => ("lvl: output failed", ""),
-    }
+    let mut said = Ok(());
+    say_more(err, &mut said, b"lvl: ");
+    say_more(err, &mut said, name.as_bytes());
+    say_more(err, &mut said, why.as_bytes());
+}
+
+/// Writes that a line of the list in the file of a name is bad.
+fn say_bad_line<E: Write>(err: &mut E, name: &str, number: usize)
+    ensures { IsSaid (codes "lvl: " ++ name.now ++ codes ": bad line " ++ decimal number ++ codes "\n")
+        (E.contents err.old) (E.contents err.new) (E.write_errors err.old) (E.write_errors err.new) }
+{
+    let mut digits = Buffer::new();
+    let mut said = Ok(());
+    say_more(err, &mut said, b"lvl: ");
+    say_more(err, &mut said, name.as_bytes());
+    say_more(err, &mut said, b": bad line ");
+    say_more(err, &mut said, digits.format(number).as_bytes());
+    say_more(err, &mut said, b"\n");
+}
+
+/// Writes two texts as one line. If that fails, nothing more is written.
+fn say_line<E: Write>(err: &mut E, why: &str, what: &str)
+    ensures { IsSaid (line (why.now ++ what.now)) (E.contents err.old) (E.contents err.new)
+        (E.write_errors err.old) (E.write_errors err.new) }
+{
+    let _ = write_line(err, why, what);
 }
 
 /// Writes a text. If that fails, nothing more is written.
@@ -68,8 +118,16 @@ pub(crate) fn say<E: Write>(err: &mut E, fault: &JobFault)
     ensures { IsSaid (fault_text fault.now) (E.contents err.old) (E.contents err.new)
         (E.write_errors err.old) (E.write_errors err.new) }
 {
-    let (why, what) = words_of(fault);
-    let _ = write_line(err, why, what);
+    match fault {
+        JobFault::BadView(fault) => say_line(err, "lvl: bad view ", view_fault(*fault)),
+        JobFault::BadIgnore(fault) => say_line(err, "lvl: bad ignore ", ignore_fault(*fault)),
+        JobFault::NotOpened(name) => say_line(err, "lvl: cannot open ", name.as_str()),
+        JobFault::UnreadList(name) => say_of_list(err, name.as_str(), ": cannot read\n"),
+        JobFault::LongList(name) => say_of_list(err, name.as_str(), ": too long\n"),
+        JobFault::BadLine(name, line) => say_bad_line(err, name.as_str(), *line),
+        JobFault::OutOfMemory => say_line(err, "lvl: out of memory", ""),
+        JobFault::Output => say_line(err, "lvl: output failed", ""),
+    }
 }
 
 /// What is ignored, as words joined by commas.
@@ -141,7 +199,7 @@ fn say_hint<E: Write>(err: &mut E, hint: Hint)
         (E.write_errors err.old) (E.write_errors err.new) }
 {
     let (why, what) = words_of_hint(hint);
-    let _ = write_line(err, why, what);
+    say_line(err, why, what);
 }
 
 /// Writes on one line what would mend a refusal, if anything would, or that the grid steps of two files differ. If that
@@ -155,5 +213,21 @@ pub(crate) fn say_outcome<E: Write>(err: &mut E, outcome: &Outcome)
     }
     if let Some(text) = &outcome.steps {
         let _ = write_all(err, text);
+    }
+}
+
+/// Writes on one line why a job has no answer, or what [`say_outcome`] writes; nothing if a write failed before.
+pub(crate) fn say_end<E: Write>(err: &mut E, said: &Said, ended: &Result<Outcome, JobFault>)
+    ensures { (front : List ℕ) (old : Option (List ℕ)) (before : ℕ)
+        → IsSaidBy front old before
+        (record { so_far = said.now; contents = E.contents err.old; errors = E.write_errors err.old })
+        → IsSaid (front ++ end_text ended.now) old (E.contents err.new) before (E.write_errors err.new) }
+{
+    if said.is_err() {
+        return;
+    }
+    match ended {
+        Ok(outcome) => say_outcome(err, outcome),
+        Err(fault) => say(err, fault),
     }
 }

@@ -1,5 +1,6 @@
 -- What `clap` finds in a line without a fault.
-use Rattle.std.proofs.Common.{◌≡◌, ◌&&◌, ◌||◌, ℕ, Bool, cond, true, false, not, refl, subst, List, [], ◌∷◌, Option}
+use Rattle.std.proofs.Common.{◌≡◌, ◌&&◌, ◌||◌, ℕ, Bool, cond, true, false, not, refl, subst, List, [], ◌∷◌, Option, ◌⊎◌, sym}
+use Rattle.std.proofs.Common.{Result, Ok, Err, IfErr}
 use Rattle.std.proofs.Common.{Some, None, inl, inr, is_some, codes, option_map}
 use Rattle.std.specs.Prelude.{slice_get}
 use Rattle.std.specs.Option.{option_map_or}
@@ -18,8 +19,11 @@ use Rattle.clap.specs.Takes.{is_given}
 use Rattle.clap.specs.Faults.{entered_fault, fault_of, level_fault, other_fault, step_fault, turn_fault, walk_fault}
 use Rattle.clap.specs.Faults.{word_fault}
 use Rattle.clap.specs.declared.error.kind.ErrorKind.TheVariants as kind
-use Rattle.lvl_line.specs.Line.{line}
-use Rattle.lvl_line.specs.inside.Given.{HasValue, IsJobOf}
+use Rattle.lvl_line.specs.Line.{line, IsMisplaced, IsRefusal}
+use Rattle.lvl_line.specs.declared.job.Job.{Job}
+use Rattle.lvl_line.specs.declared.job.LineFault.{LineFault}
+use Rattle.lvl_line.specs.declared.job.LineFault.TheVariants as fault
+use Rattle.lvl_line.specs.inside.Given.{HasValue, IsConflictFault, IsJobOf}
 use Rattle.lvl_line.proofs.Values.{HaveValues, WantValues, given_has_first, have_finished, neither}
 
 -- ---- a level that ends without a fault
@@ -166,6 +170,9 @@ compare_gives rows have none =
 one_gives : (rows : List Row) → HaveValues rows → misses show.rules rows ≡ false → HasValue (codes "A") rows
 one_gives rows have none = given_has_first (codes "A") rows have (given_one (is_given (codes "A") rows) _ none).0
 
+digest_gives : (rows : List Row) → HaveValues rows → misses digest.rules rows ≡ false → HasValue (codes "A") rows
+digest_gives rows have none = given_has_first (codes "A") rows have (given_one (is_given (codes "A") rows) _ none).0
+
 abbrev IsAJob : Option (Text × List Row) → Type 0
 IsAJob None = Unit {0}
 IsAJob (Some p) = IsJobOf p.0 p.1
@@ -208,7 +215,7 @@ at_subcommand p name rows other =
     go false false true h is none found =
         let given = level_gives digest p.1 refl refl refl refl none in
         job_named name (codes "digest") rows (rows_after digest.rules [] p.1) found
-        (inr (inr (refl, one_gives _ given.0 given.1)))
+        (inr (inr (refl, digest_gives _ given.0 given.1)))
     go false false false true is none found = absurd (no_help is)
     go false false false false is none found = cc
 
@@ -239,3 +246,24 @@ module _ {X A B : Type 0} (f : X → A) (g : X → B) where
       → ◌≡◌ {A = Option (A × B)} (option_map both_of o) (Some (n, r))
   pair_of None n r e h = cc
   pair_of (Some x) n r e h = cc
+
+-- ---- options that don't go together
+
+-- a fault of the job of a line is one of the line
+pub conflict_refused : (words : List Text) (r : Result Job LineFault) (met : Option (Text × List Row))
+    → fault_of line words ≡ [] → subcommand_of line words ≡ met
+    → IfErr r (λ f. (f ≡ fault.OutOfMemory) ⊎ (IsMisplaced met × IsConflictFault f)) → IfErr r (IsRefusal words)
+conflict_refused words (Ok job) met none found h = tt
+conflict_refused words (Err f) met none found (inl memory) = subst (IsRefusal words) (sym memory) (tt {0})
+conflict_refused words (Err (fault.Words e)) met none found (inr h) =
+    inr (none, subst IsMisplaced (sym found) h.0, h.1)
+conflict_refused words (Err fault.OutOfMemory) met none found (inr h) = absurd h.1
+
+-- and if `clap` takes the line, its options don't go together
+pub conflict_taken : (words : List Text) (r : Result Job LineFault) (met : Option (Text × List Row))
+    → subcommand_of line words ≡ met
+    → IfErr r (λ f. (f ≡ fault.OutOfMemory) ⊎ (IsMisplaced met × IsConflictFault f))
+    → IfErr r (λ f. (f ≡ fault.OutOfMemory) ⊎ IsMisplaced (subcommand_of line words))
+conflict_taken words (Ok job) met found h = tt
+conflict_taken words (Err f) met found (inl memory) = inl memory
+conflict_taken words (Err f) met found (inr h) = inr (subst IsMisplaced (sym found) h.0)

@@ -1,14 +1,17 @@
 -- The command line of the program, as `clap` reads it, and what its words mean (own rule).
-use Rattle.std.specs.Prelude.{◌≡◌, Bool, List, Option, Some, None, true, false, codes, option_map}
+use Rattle.std.specs.Prelude.{◌≡◌, ◌⊎◌, ◌&&◌, ◌||◌, Bool, not, true, false, List, [], length, map, nat_lt, codes}
+use Rattle.std.specs.Prelude.{Option, Some, None, option_map}
 use Rattle.std.specs.Option.{option_map_or}
 use Rattle.std.specs.Str.{bytes_eq}
 use Rattle.std.specs.String.{string_bytes}
-use Rattle.clap.specs.Walk.{Row, Rule, Text, first_of}
+use Rattle.clap.specs.Walk.{Row, Rule, Text, all_of, first_of}
 use Rattle.clap.specs.Values.{kind_of}
 use Rattle.clap.specs.Kinds.{IsAmong}
 use Rattle.clap.specs.Faults.{fault_of}
 use Rattle.clap.specs.Simple.{App, new_app, new_rule, subcommand_of, with_rule, with_subcommand}
-use Rattle.clap.specs.declared.builder.action.ArgAction.TheVariants.{SetTrue}
+use Rattle.clap.specs.declared.error.Error.{Error}
+use Rattle.clap.specs.declared.error.kind.ErrorKind.TheVariants.{ArgumentConflict}
+use Rattle.clap.specs.declared.builder.action.ArgAction.TheVariants.{Append, SetTrue}
 use Rattle.lvl_line.specs.declared.job.Job.{Job}
 use Rattle.lvl_line.specs.declared.job.Job.TheVariants as job
 use Rattle.lvl_line.specs.declared.job.LineFault.{LineFault}
@@ -17,6 +20,10 @@ use Rattle.lvl_line.specs.declared.job.LineFault.TheVariants as fault
 -- a file, which must be given
 abbrev pub file_rule : Text → Rule
 file_rule id = record (new_rule id) { required = true }
+
+-- files, of which at least one must be given
+abbrev pub files_rule : Text → Rule
+files_rule id = record (new_rule id) { required = true; action = Some Append }
 
 -- an option with one value
 abbrev pub option_rule : Text → Rule
@@ -34,10 +41,17 @@ compare_app = with_rule (with_rule (with_rule (with_rule (with_rule (with_rule (
     (option_rule (codes "top-a"))) (option_rule (codes "top-b")))
     (option_rule (codes "map"))) (option_rule (codes "window"))) (option_rule (codes "ignore"))) (flag_rule (codes "large"))
 
--- `NAME A [--top NAME] [--ignore WORDS] [--large]`
-abbrev pub one_file_app : Text → App
-one_file_app name = with_rule (with_rule (with_rule (with_rule (new_app name) (file_rule (codes "A")))
+-- `show A [--top NAME] [--ignore WORDS] [--large]`
+abbrev pub show_app : App
+show_app = with_rule (with_rule (with_rule (with_rule (new_app (codes "show")) (file_rule (codes "A")))
     (option_rule (codes "top"))) (option_rule (codes "ignore"))) (flag_rule (codes "large"))
+
+-- `digest A.. [--top NAME] [--ignore WORDS] [--large] [--list] [--check] [--quiet]`
+abbrev pub digest_app : App
+digest_app = with_rule (with_rule (with_rule (with_rule (with_rule (with_rule (with_rule
+    (new_app (codes "digest")) (files_rule (codes "A")))
+    (option_rule (codes "top"))) (option_rule (codes "ignore"))) (flag_rule (codes "large")))
+    (flag_rule (codes "list"))) (flag_rule (codes "check"))) (flag_rule (codes "quiet"))
 
 -- the line without subcommands
 abbrev pub plain_line : App
@@ -47,11 +61,28 @@ plain_line = new_app (codes "lvl")
 abbrev pub line : App
 line = with_subcommand (with_subcommand (with_subcommand (record plain_line {
   top = record plain_line.top { has_version = true; subcommand_required = true };
-}) compare_app.top) (one_file_app (codes "show")).top) (one_file_app (codes "digest")).top
+}) compare_app.top) show_app.top) digest_app.top
 
 -- whether the option with no value is given: `clap` then gives it the text `true`
 abbrev pub is_set : Text → List Row → Bool
 is_set id rows = option_map_or (λ text. bytes_eq text (codes "true")) (first_of id rows) false
+
+-- whether the argument has several values
+abbrev pub is_several : Text → List Row → Bool
+is_several id rows = option_map_or (λ values. nat_lt 1 (length values)) (all_of id rows) false
+
+-- whether the options of `digest` don't go together: `--list` with `--check`, `--quiet` without `--check`, or several
+-- files without `--list`
+abbrev pub is_misplaced : List Row → Bool
+is_misplaced rows =
+    (is_set (codes "list") rows && is_set (codes "check") rows)
+    || ((is_set (codes "quiet") rows && not (is_set (codes "check") rows))
+    || (not (is_set (codes "list") rows) && is_several (codes "A") rows))
+
+-- the words are those of `digest`, and its options don't go together
+abbrev pub IsMisplaced : Option (Text × List Row) → Type 0
+IsMisplaced (Some (name, rows)) = (name ≡ codes "digest") × (is_misplaced rows ≡ true)
+IsMisplaced None = ⊥
 
 -- the job has the values that `clap` finds in the words, under the subcommand of that name
 abbrev pub IsNamed : Job → Option (Text × List Row) → Type 0
@@ -73,7 +104,28 @@ IsNamed (job.Show file top ignored large) (Some (name, rows)) =
     × (is_set (codes "large") rows ≡ large)
 IsNamed (job.Digest file top ignored large) (Some (name, rows)) =
     (name ≡ codes "digest")
+    × (is_misplaced rows ≡ false)
+    × (is_set (codes "list") rows ≡ false)
+    × (is_set (codes "check") rows ≡ false)
     × (first_of (codes "A") rows ≡ Some (string_bytes file))
+    × (first_of (codes "top") rows ≡ option_map string_bytes top)
+    × (first_of (codes "ignore") rows ≡ option_map string_bytes ignored)
+    × (is_set (codes "large") rows ≡ large)
+IsNamed (job.List files top ignored large) (Some (name, rows)) =
+    (name ≡ codes "digest")
+    × (is_misplaced rows ≡ false)
+    × (is_set (codes "list") rows ≡ true)
+    × (all_of (codes "A") rows ≡ Some (map string_bytes files.items))
+    × (first_of (codes "top") rows ≡ option_map string_bytes top)
+    × (first_of (codes "ignore") rows ≡ option_map string_bytes ignored)
+    × (is_set (codes "large") rows ≡ large)
+IsNamed (job.Check list quiet top ignored large) (Some (name, rows)) =
+    (name ≡ codes "digest")
+    × (is_misplaced rows ≡ false)
+    × (is_set (codes "list") rows ≡ false)
+    × (is_set (codes "check") rows ≡ true)
+    × (first_of (codes "A") rows ≡ Some (string_bytes list))
+    × (is_set (codes "quiet") rows ≡ quiet)
     × (first_of (codes "top") rows ≡ option_map string_bytes top)
     × (first_of (codes "ignore") rows ≡ option_map string_bytes ignored)
     × (is_set (codes "large") rows ≡ large)
@@ -83,7 +135,12 @@ IsNamed _ None = ⊥
 abbrev pub IsJob : List Text → Job → Type 0
 IsJob words j = IsNamed j (subcommand_of line words)
 
--- the error is one that `clap` has for these words; out of memory is always possible
+-- `clap` finds no fault in the words, but the options of `digest` don't go together; the error is one of a conflict
+abbrev pub IsConflict : List Text → Error → Type 0
+IsConflict words e =
+    (fault_of line words ≡ []) × IsMisplaced (subcommand_of line words) × (kind_of e ≡ ArgumentConflict)
+
+-- the error is one that `clap` has for these words, or that of a conflict; out of memory is always possible
 abbrev pub IsRefusal : List Text → LineFault → Type 0
-IsRefusal words (fault.Words e) = IsAmong (kind_of e) (fault_of line words)
+IsRefusal words (fault.Words e) = IsAmong (kind_of e) (fault_of line words) ⊎ IsConflict words e
 IsRefusal words fault.OutOfMemory = Unit {0}

@@ -1,18 +1,29 @@
 //! The command line of the program, as it is described to `clap`.
 ghost use Rattle.std.specs.Prelude.{◌≡◌, IfOk, false};
 ghost use Rattle.clap.specs.Words.{app_of, rule_of};
-ghost use Rattle.lvl_line.specs.Line.{compare_app, file_rule, flag_rule, line, one_file_app, option_rule};
-ghost use Rattle.lvl_line.specs.inside.Begun.{comparing_line, tops_app};
+ghost use Rattle.lvl_line.specs.Line.{compare_app, digest_app, file_rule, files_rule, flag_rule, line};
+ghost use Rattle.lvl_line.specs.Line.{option_rule, show_app};
+ghost use Rattle.lvl_line.specs.inside.Begun.{comparing_line, several_app, tops_app};
 
 use clap::{Arg, ArgAction, Command};
 use std::alloc::{AllocError, Global};
 
-/// The help of `show`.
-const SHOW_HELP: &str = "Shows a layout's top cell, and how many rings it places on each layer";
-
 /// The help of `digest`.
 const DIGEST_HELP: &str =
     "Hashes what a layout draws: layouts of the same mask have the same digest";
+
+/// The help of the files of `digest`.
+const LAYOUTS_HELP: &str =
+    "The layout, GDSII or OASIS; several with --list; with --check a list of digests";
+
+/// The help of `--list`.
+const LIST_HELP: &str = "Prints a line for each file: the digest of its mask, and its name";
+
+/// The help of `--check`.
+const CHECK_HELP: &str = "Reads such a list, and hashes the files that it names again";
+
+/// The help of `--quiet`.
+const QUIET_HELP: &str = "With --check, prints only the files that aren't the same";
 
 /// The help of `--map`.
 const MAP_HELP: &str = "Layers of the second layout, as those of the first: 1/0=2/0,3/1=3/0";
@@ -33,6 +44,17 @@ fn file<'a>(alloc: Global, id: &'a str, help: &'a str) -> Arg<'a>
     ensures local { result.global ≡ false }
 {
     Arg::new(alloc, id).required(true).help(help)
+}
+
+/// Files, of which at least one must be given.
+fn files<'a>(alloc: Global, id: &'a str, help: &'a str) -> Arg<'a>
+    ensures rule { rule_of result ≡ files_rule id.entry.now }
+    ensures local { result.global ≡ false }
+{
+    Arg::new(alloc, id)
+        .required(true)
+        .action(ArgAction::Append)
+        .help(help)
 }
 
 /// An option with one value.
@@ -77,16 +99,38 @@ fn compare<'a>(alloc: Global) -> Result<Command<'a>, AllocError>
         .arg(flag(alloc, "large", LARGE_HELP))
 }
 
-/// A subcommand for one file: `NAME A [--top NAME] [--ignore WORDS] [--large]`.
-fn one_file<'a>(alloc: Global, name: &'a str, about: &'a str) -> Result<Command<'a>, AllocError>
-    ensures { IfOk result (λ c. app_of c ≡ one_file_app name.entry.now) }
+/// `show A [--top NAME] [--ignore WORDS] [--large]`.
+fn show<'a>(alloc: Global) -> Result<Command<'a>, AllocError>
+    ensures { IfOk result (λ c. app_of c ≡ show_app) }
 {
-    Command::new(alloc, name)
-        .about(about)
+    Command::new(alloc, "show")
+        .about("Shows a layout's top cell, and how many rings it places on each layer")
         .arg(file(alloc, "A", "The layout, GDSII or OASIS"))?
         .arg(option(alloc, "top", "NAME", "The layout's top cell"))?
         .arg(option(alloc, "ignore", "WORDS", IGNORE_HELP))?
         .arg(flag(alloc, "large", LARGE_HELP))
+}
+
+/// `digest A.. [--top NAME] [--ignore WORDS] [--large]`.
+fn several<'a>(alloc: Global) -> Result<Command<'a>, AllocError>
+    ensures { IfOk result (λ c. app_of c ≡ several_app) }
+{
+    Command::new(alloc, "digest")
+        .about(DIGEST_HELP)
+        .arg(files(alloc, "A", LAYOUTS_HELP))?
+        .arg(option(alloc, "top", "NAME", "The top cell of each layout"))?
+        .arg(option(alloc, "ignore", "WORDS", IGNORE_HELP))?
+        .arg(flag(alloc, "large", LARGE_HELP))
+}
+
+/// The same with `[--list] [--check] [--quiet]`.
+fn digest<'a>(alloc: Global) -> Result<Command<'a>, AllocError>
+    ensures { IfOk result (λ c. app_of c ≡ digest_app) }
+{
+    several(alloc)?
+        .arg(flag(alloc, "list", LIST_HELP))?
+        .arg(flag(alloc, "check", CHECK_HELP))?
+        .arg(flag(alloc, "quiet", QUIET_HELP))
 }
 
 /// A line with the subcommand `compare` only.
@@ -105,6 +149,6 @@ pub(crate) fn program<'a>(alloc: Global) -> Result<Command<'a>, AllocError>
     ensures { IfOk result (λ c. app_of c ≡ line) }
 {
     comparing(alloc)?
-        .subcommand(one_file(alloc, "show", SHOW_HELP)?)?
-        .subcommand(one_file(alloc, "digest", DIGEST_HELP)?)
+        .subcommand(show(alloc)?)?
+        .subcommand(digest(alloc)?)
 }

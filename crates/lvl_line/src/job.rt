@@ -34,13 +34,34 @@ pub enum Job {
         /// Whether the limits are those for whole chips.
         large: bool,
     },
+    /// To list the digests of files, with the name of the top cell of each and the text of what is ignored if
+    /// they are given.
+    List {
+        files: Vec<String>,
+        top: Option<String>,
+        ignore: Option<String>,
+        /// Whether the limits are those for whole chips.
+        large: bool,
+    },
+    /// To hash the files of a list again, with the name of the top cell of each and the text of what is ignored
+    /// if they are given.
+    Check {
+        /// The file that has the list.
+        list: String,
+        /// Whether only the files that aren't the same are reported.
+        quiet: bool,
+        top: Option<String>,
+        ignore: Option<String>,
+        /// Whether the limits are those for whole chips.
+        large: bool,
+    },
 }
 
 /// Why a command line is refused.
 #[derive(Debug, Drop)]
 pub enum LineFault {
-    /// `clap` refuses the words, or they ask for help or the version. The error has the text to
-    /// print.
+    /// `clap` refuses the words, the options of `digest` don't go together, or the words ask for help or the
+    /// version. The error has the text to print.
     Words(Error),
     /// An allocation failed.
     OutOfMemory,

@@ -1,10 +1,11 @@
 //! Makes a job of the words of a command line.
-ghost use Rattle.std.specs.Prelude.{◌≡◌, ◌≢◌, ◌⊎◌, Some, true, codes, map, option_map, IfOk, IfErr};
+ghost use Rattle.std.specs.Prelude.{◌≡◌, ◌≢◌, ◌⊎◌, Some, true, false, codes, is_some, map, option_map, IfOk};
+ghost use Rattle.std.specs.Prelude.{IfErr};
 ghost use Rattle.std.specs.String.{string_bytes};
-ghost use Rattle.clap.specs.Words.{first_of, found_of, kind_of, rows_of, takes};
-ghost use Rattle.lvl_line.specs.Line.{line, is_set, IsJob, IsNamed, IsRefusal};
+ghost use Rattle.clap.specs.Words.{all_of, first_of, found_of, kind_of, rows_of, subcommand_of, takes};
+ghost use Rattle.lvl_line.specs.Line.{line, is_misplaced, is_set, is_several, IsJob, IsMisplaced, IsNamed, IsRefusal};
 ghost use Rattle.lvl_line.specs.declared.job.LineFault.TheVariants.{OutOfMemory, Words};
-ghost use Rattle.lvl_line.specs.inside.Given.{HasValue, IsJobOf};
+ghost use Rattle.lvl_line.specs.inside.Given.{HasValue, IsConflictFault, IsJobOf};
 
 use crate::command::program;
 use crate::job::{Job, LineFault};
@@ -61,21 +62,91 @@ fn compare_of(alloc: Global, matches: &ArgMatches<'_>) -> Result<Job, AllocError
     })
 }
 
-/// The job of the subcommand that `clap` has found in the line.
-fn job_of(alloc: Global, name: &str, matches: &ArgMatches<'_>) -> Result<Job, AllocError>
-    requires { IsJobOf name.now (rows_of (found_of matches.now)) }
-    ensures { IfOk result (λ job. IsNamed job (Some (name.now, rows_of (found_of matches.now)))) }
+/// The job of `show`.
+fn show_of(alloc: Global, matches: &ArgMatches<'_>) -> Result<Job, AllocError>
+    requires { HasValue (codes "A") (rows_of (found_of matches.now)) }
+    ensures { IfOk result (λ job. IsNamed job (Some (codes "show", rows_of (found_of matches.now)))) }
 {
-    if name == "compare" {
-        return compare_of(alloc, matches);
+    Ok(Job::Show {
+        file: file_of(alloc, matches, "A")?,
+        top: value_of(alloc, matches, "top")?,
+        ignore: value_of(alloc, matches, "ignore")?,
+        large: is_set(matches, "large"),
+    })
+}
+
+/// Copies of texts, in their order.
+fn copies(alloc: Global, texts: &[&str]) -> Result<Vec<String>, AllocError>
+    ensures { IfOk result (λ copies. map string_bytes copies.items ≡ map (λ s. s.now) texts.now) }
+{
+    let mut copies = Vec::new(alloc);
+    for text in texts {
+        copies.push(String::from_str(alloc, text)?)?;
     }
-    let file = file_of(alloc, matches, "A")?;
+    Ok(copies)
+}
+
+/// Copies of the names of files, which `clap` has found in the line.
+fn files_of(alloc: Global, matches: &ArgMatches<'_>, id: &str) -> Result<Vec<String>, AllocError>
+    requires { HasValue id.now (rows_of (found_of matches.now)) }
+    ensures { IfOk result (λ files. all_of id.now (rows_of (found_of matches.now)) ≡ Some (map string_bytes files.items)) }
+{
+    let Some(texts) = matches.get_strs(id) else {
+        unreachable!()
+    };
+    copies(alloc, texts)
+}
+
+/// Whether an argument has several values.
+fn is_several(matches: &ArgMatches<'_>, id: &str) -> bool
+    ensures { result ≡ is_several id.now (rows_of (found_of matches.now)) }
+{
+    match matches.get_strs(id) {
+        Some(texts) => texts.len() > 1,
+        None => false,
+    }
+}
+
+/// Why the options of `digest` don't go together; `None` if they do.
+fn misplaced(matches: &ArgMatches<'_>) -> Option<&'static str>
+    ensures { is_some result ≡ is_misplaced (rows_of (found_of matches.now)) }
+{
+    let list = is_set(matches, "list");
+    let check = is_set(matches, "check");
+    if list && check {
+        return Some("the argument '--list' cannot be used with '--check'");
+    }
+    if is_set(matches, "quiet") && !check {
+        return Some("the argument '--quiet' cannot be used without '--check'");
+    }
+    if !list && is_several(matches, "A") {
+        return Some("several files cannot be used without '--list'");
+    }
+    None
+}
+
+/// The job of `digest`, whose options go together.
+fn digest_of(alloc: Global, matches: &ArgMatches<'_>) -> Result<Job, AllocError>
+    requires file { HasValue (codes "A") (rows_of (found_of matches.now)) }
+    requires placed { is_misplaced (rows_of (found_of matches.now)) ≡ false }
+    ensures { IfOk result (λ job. IsNamed job (Some (codes "digest", rows_of (found_of matches.now)))) }
+{
     let top = value_of(alloc, matches, "top")?;
     let ignore = value_of(alloc, matches, "ignore")?;
     let large = is_set(matches, "large");
-    if name == "show" {
-        return Ok(Job::Show {
-            file,
+    if is_set(matches, "list") {
+        return Ok(Job::List {
+            files: files_of(alloc, matches, "A")?,
+            top,
+            ignore,
+            large,
+        });
+    }
+    let file = file_of(alloc, matches, "A")?;
+    if is_set(matches, "check") {
+        return Ok(Job::Check {
+            list: file,
+            quiet: is_set(matches, "quiet"),
             top,
             ignore,
             large,
@@ -87,6 +158,42 @@ fn job_of(alloc: Global, name: &str, matches: &ArgMatches<'_>) -> Result<Job, Al
         ignore,
         large,
     })
+}
+
+/// The fault of a line in which the options of `digest` don't go together. `why` says which.
+fn conflict(alloc: Global, why: &str) -> LineFault
+    ensures { (result ≡ OutOfMemory) ⊎ IsConflictFault result }
+{
+    let Ok(mut command) = program(alloc) else {
+        return LineFault::OutOfMemory;
+    };
+    match command.error(ErrorKind::ArgumentConflict, why) {
+        Ok(error) => LineFault::Words(error),
+        Err(_) => LineFault::OutOfMemory,
+    }
+}
+
+/// The job of the subcommand that `clap` has found in the line, or why its options don't go together.
+fn job_of(alloc: Global, name: &str, matches: &ArgMatches<'_>) -> Result<Job, LineFault>
+    requires { IsJobOf name.now (rows_of (found_of matches.now)) }
+    ensures job { IfOk result (λ job. IsNamed job (Some (name.now, rows_of (found_of matches.now)))) }
+    ensures fault { IfErr result (λ fault. (fault ≡ OutOfMemory)
+        ⊎ (IsMisplaced (Some (name.now, rows_of (found_of matches.now))) × IsConflictFault fault)) }
+{
+    let made = match name {
+        "compare" => compare_of(alloc, matches),
+        "show" => show_of(alloc, matches),
+        _ => {
+            if let Some(why) = misplaced(matches) {
+                return Err(conflict(alloc, why));
+            }
+            digest_of(alloc, matches)
+        }
+    };
+    match made {
+        Ok(job) => Ok(job),
+        Err(_) => Err(LineFault::OutOfMemory),
+    }
 }
 
 /// The fault for an error of `clap`, which may be a failed allocation.
@@ -103,11 +210,13 @@ fn refused(error: Error) -> LineFault
 ///
 /// The job is what the words mean by `clap` (see [`crate`]), and all files are given. `Words` is
 /// returned with `clap`'s error if the words are no line of the program, or ask for help or the
-/// version. If `clap` accepts the words, only a failed allocation is reported.
+/// version, and with an error of the kind `ArgumentConflict` if the options of `digest` don't go together. If
+/// `clap` accepts the words, only that and a failed allocation are reported.
 pub fn parse_line<'a>(alloc: Global, words: &'a [&'a str]) -> Result<Job, LineFault>
     ensures job { IfOk result (IsJob (map (λ s. s.now) words.entry.now)) }
     ensures refused { IfErr result (IsRefusal (map (λ s. s.now) words.entry.now)) }
-    ensures taken { takes line (map (λ s. s.now) words.entry.now) ≡ true → IfErr result (λ f. f ≡ OutOfMemory) }
+    ensures taken { takes line (map (λ s. s.now) words.entry.now) ≡ true → IfErr result (λ f.
+        (f ≡ OutOfMemory) ⊎ IsMisplaced (subcommand_of line (map (λ s. s.now) words.entry.now))) }
 {
     let Ok(command) = program(alloc) else {
         return Err(LineFault::OutOfMemory);
@@ -119,8 +228,5 @@ pub fn parse_line<'a>(alloc: Global, words: &'a [&'a str]) -> Result<Job, LineFa
     let Some((name, matches)) = matches.subcommand() else {
         unreachable!()
     };
-    match job_of(alloc, name, matches) {
-        Ok(job) => Ok(job),
-        Err(_) => Err(LineFault::OutOfMemory),
-    }
+    job_of(alloc, name, matches)
 }

@@ -56,15 +56,18 @@ Options:
 const DIGEST: &str = "\
 Hashes what a layout draws: layouts of the same mask have the same digest
 
-Usage: lvl digest [OPTIONS] <A>
+Usage: lvl digest [OPTIONS] <A>...
 
 Arguments:
-  <A>  The layout, GDSII or OASIS
+  <A>...  The layout, GDSII or OASIS; several with --list; with --check a list of digests
 
 Options:
-      --top <NAME>      The layout's top cell
+      --top <NAME>      The top cell of each layout
       --ignore <WORDS>  Records to read and ignore: properties, texts, names, padding or all, joined by commas
       --large           Takes the limits for whole chips
+      --list            Prints a line for each file: the digest of its mask, and its name
+      --check           Reads such a list, and hashes the files that it names again
+      --quiet           With --check, prints only the files that aren't the same
   -h, --help            Print help
 ";
 
@@ -77,7 +80,31 @@ Usage: lvl <COMMAND>
 For more information, try '--help'.
 ";
 
-static TEXTS: [(&str, &str); 9] = [
+const SEVERAL: &str = "\
+error: several files cannot be used without '--list'
+
+Usage: lvl <COMMAND>
+
+For more information, try '--help'.
+";
+
+const BOTH: &str = "\
+error: the argument '--list' cannot be used with '--check'
+
+Usage: lvl <COMMAND>
+
+For more information, try '--help'.
+";
+
+const ALONE: &str = "\
+error: the argument '--quiet' cannot be used without '--check'
+
+Usage: lvl <COMMAND>
+
+For more information, try '--help'.
+";
+
+static TEXTS: [(&str, &str); 12] = [
     ("lvl --help", LVL),
     ("lvl -h", LVL),
     ("lvl help", LVL),
@@ -87,6 +114,9 @@ static TEXTS: [(&str, &str); 9] = [
     ("lvl digest --help", DIGEST),
     ("lvl --version", "lvl 2.0.0\n"),
     ("lvl", BARE),
+    ("lvl digest a b", SEVERAL),
+    ("lvl digest --list --check a", BOTH),
+    ("lvl digest a --quiet", ALONE),
 ];
 
 #[test]

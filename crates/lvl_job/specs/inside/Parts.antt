@@ -11,6 +11,7 @@ use Rattle.lvl_report.specs.Hints.{IsOutcomeOf}
 use Rattle.lvl_view.specs.Views.{PlainView, IsFaultOf}
 use Rattle.lvl_job.specs.declared.fault.JobFault.{JobFault}
 use Rattle.lvl_job.specs.declared.fault.JobFault.TheVariants.{BadView, BadIgnore, NotOpened, OutOfMemory, Output}
+use Rattle.lvl_job.specs.declared.fault.JobFault.TheVariants.{BadLine, LongList, UnreadList}
 use Rattle.lvl_job.specs.Jobs.{IsComparedUnder, IsIgnoreFault, IsMissing, Named, OfOne, OfTwo}
 
 -- why two texts give no view
@@ -18,6 +19,9 @@ abbrev pub IsViewFault : Option (List ℕ) → Option (List ℕ) → JobFault �
 IsViewFault map_text window_text (BadView fault) = IsFaultOf map_text window_text fault
 IsViewFault map_text window_text (BadIgnore fault) = ⊥
 IsViewFault map_text window_text (NotOpened name) = ⊥
+IsViewFault map_text window_text (UnreadList name) = ⊥
+IsViewFault map_text window_text (LongList name) = ⊥
+IsViewFault map_text window_text (BadLine name n) = ⊥
 IsViewFault map_text window_text OutOfMemory = ⊤
 IsViewFault map_text window_text Output = ⊥
 
@@ -26,6 +30,9 @@ abbrev pub IsNoIgnore : Option (List ℕ) → JobFault → Type 0
 IsNoIgnore text (BadView fault) = ⊥
 IsNoIgnore text (BadIgnore fault) = IsIgnoreFault text
 IsNoIgnore text (NotOpened name) = ⊥
+IsNoIgnore text (UnreadList name) = ⊥
+IsNoIgnore text (LongList name) = ⊥
+IsNoIgnore text (BadLine name n) = ⊥
 IsNoIgnore text OutOfMemory = ⊤
 IsNoIgnore text Output = ⊥
 
@@ -48,6 +55,9 @@ IsPairFault opens view a b old new from to (BadView fault) = ⊥
 IsPairFault opens view a b old new from to (BadIgnore fault) = ⊥
 IsPairFault opens view a b old new from to (NotOpened name) =
     IsMissing opens old new a.name b.name (string_bytes name) × Keeps from to
+IsPairFault opens view a b old new from to (UnreadList name) = ⊥
+IsPairFault opens view a b old new from to (LongList name) = ⊥
+IsPairFault opens view a b old new from to (BadLine name n) = ⊥
 IsPairFault opens view a b old new from to OutOfMemory = Keeps from to
 IsPairFault opens view a b old new from to Output =
     OfTwo opens old new a b (λ x y. IsBegun (IsComparedUnder view x y) text_of from to)
@@ -67,6 +77,9 @@ IsOneFault opens IsAnswerOf text a old new from to (BadView fault) = ⊥
 IsOneFault opens IsAnswerOf text a old new from to (BadIgnore fault) = ⊥
 IsOneFault opens IsAnswerOf text a old new from to (NotOpened name) =
     (string_bytes name ≡ a.name) × opens old (string_bytes name) None new × Keeps from to
+IsOneFault opens IsAnswerOf text a old new from to (UnreadList name) = ⊥
+IsOneFault opens IsAnswerOf text a old new from to (LongList name) = ⊥
+IsOneFault opens IsAnswerOf text a old new from to (BadLine name n) = ⊥
 IsOneFault opens IsAnswerOf text a old new from to OutOfMemory = Keeps from to
 IsOneFault opens IsAnswerOf text a old new from to Output =
     OfOne opens old new a (λ x. IsBegun (IsAnswerOf x) text from to)

@@ -7,9 +7,7 @@ returns-in-Ok g c = inl (record {
   job = c.in-Ok.job;
   asked = c.in-Ok.ensures.job;
   ended = c.do_job-ended.result;
-  answered = c.do_job-ended.ensures.answered;
-  fault = c.do_job-ended.ensures.fault;
-  said = c.do_job-ended.ensures.said;
+  done = c.do_job-ended.ensures.done;
   status = c.code_of.ensures;
 })
 

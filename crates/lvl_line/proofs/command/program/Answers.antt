@@ -1,9 +1,9 @@
-use Rattle.std.proofs.Common.{◌≡◌, ◌∙◌, ◌&&◌, Bool, ap, ap₂, codes, false, not, true}
+use Rattle.std.proofs.Common.{◌≡◌, ◌∙◌, ◌&&◌, Bool, ap, ap₂, false, not, true}
 use Rattle.std.proofs.lemmas.Result.{IfOk-weaker}
 use Rattle.clap.specs.Words.{App, app_of, with_subcommand}
 use Rattle.clap.proofs.SimpleLemmas.{is_false}
 use Rattle.clap.proofs.WalkLemmas.{both}
-use Rattle.lvl_line.specs.Line.{one_file_app}
+use Rattle.lvl_line.specs.Line.{show_app}
 use Rattle.lvl_line.specs.inside.Begun.{comparing_line}
 use Rattle.lvl_line.proofs.command.program.Goals as goal
 
@@ -17,9 +17,9 @@ plain a = a.top.is_plain
 pub returns : goal.returns
 unfolding plain
 returns c =
-    let shown : app_of c.in_ok-subcommand.field-0 ≡ with_subcommand comparing_line (one_file_app (codes "show")).top =
-    c.in_ok-subcommand.ensures.shape (third_is_false _ _ _ _ (ap plain c.in_ok-one_file.ensures))
-    ∙ ap₂ with_subcommand c.in_ok-comparing.ensures (ap (λ (a : App). a.top) c.in_ok-one_file.ensures) in
+    let shown : app_of c.in_ok-subcommand.field-0 ≡ with_subcommand comparing_line show_app.top =
+    c.in_ok-subcommand.ensures.shape (third_is_false _ _ _ _ (ap plain c.in_ok-show.ensures))
+    ∙ ap₂ with_subcommand c.in_ok-comparing.ensures (ap (λ (a : App). a.top) c.in_ok-show.ensures) in
     IfOk-weaker c.subcommand-2.result _ _
-    (λ r h. h.shape (third_is_false _ _ _ _ (ap plain c.in_ok-one_file-2.ensures))
-    ∙ ap₂ with_subcommand shown (ap (λ (a : App). a.top) c.in_ok-one_file-2.ensures)) c.subcommand-2.ensures
+    (λ r h. h.shape (third_is_false _ _ _ _ (ap plain c.in_ok-digest.ensures))
+    ∙ ap₂ with_subcommand shown (ap (λ (a : App). a.top) c.in_ok-digest.ensures)) c.subcommand-2.ensures

@@ -3,19 +3,19 @@ use Rattle.std.proofs.lemmas.Result.{IfOk-weaker}
 use Rattle.clap.specs.Words.{app_of, new_app, with_rule}
 use Rattle.clap.specs.Simple.{app_of_fields}
 use Rattle.lvl_line.specs.Line.{file_rule, option_rule}
-use Rattle.lvl_line.proofs.command.one_file.Goals as goal
+use Rattle.lvl_line.proofs.command.show.Goals as goal
 
 pub returns : goal.returns
 returns c =
-    let fresh : app_of c.about.result ≡ new_app c.args.name.now =
+    let fresh : app_of c.about.result ≡ new_app (codes "show") =
     ap app_of_fields c.about.ensures ∙ c.new.ensures.app in
-    let filed : app_of c.in_ok-arg.field-0 ≡ with_rule (new_app c.args.name.now) (file_rule (codes "A")) =
+    let filed : app_of c.in_ok-arg.field-0 ≡ with_rule (new_app (codes "show")) (file_rule (codes "A")) =
     c.in_ok-arg.ensures.shape c.file.ensures.local ∙ ap₂ with_rule fresh c.file.ensures.rule in
     let topped : app_of c.in_ok-arg-2.field-0
-    ≡ with_rule (with_rule (new_app c.args.name.now) (file_rule (codes "A"))) (option_rule (codes "top")) =
+    ≡ with_rule (with_rule (new_app (codes "show")) (file_rule (codes "A"))) (option_rule (codes "top")) =
     c.in_ok-arg-2.ensures.shape c.option.ensures.local ∙ ap₂ with_rule filed c.option.ensures.rule in
     let ignored : app_of c.in_ok-arg-3.field-0
-    ≡ with_rule (with_rule (with_rule (new_app c.args.name.now) (file_rule (codes "A"))) (option_rule (codes "top")))
+    ≡ with_rule (with_rule (with_rule (new_app (codes "show")) (file_rule (codes "A"))) (option_rule (codes "top")))
     (option_rule (codes "ignore")) =
     c.in_ok-arg-3.ensures.shape c.option-2.ensures.local ∙ ap₂ with_rule topped c.option-2.ensures.rule in
     IfOk-weaker c.arg-4.result _ _
