@@ -6,14 +6,14 @@ ghost use Rattle.lvl.specs.Sides.{given_name};
 ghost use Rattle.lvl_io.specs.Bytes.{CountsFailure};
 ghost use Rattle.lvl_job.specs.Done.{IsDone, IsOneDone};
 ghost use Rattle.lvl_job.specs.Ends.{end_code, is_cut};
-ghost use Rattle.lvl_job.specs.Jobs.{IsAnswered, IsComparedUnder, IsFaultOfJob, IsIgnoreAsked, IsProfileAsked};
-ghost use Rattle.lvl_job.specs.Jobs.{IsViewAsked, has_one_answer};
+ghost use Rattle.lvl_job.specs.Jobs.{IsAnswered, IsComparedUnder, IsExplainedUnder, IsFaultOfJob, IsIgnoreAsked};
+ghost use Rattle.lvl_job.specs.Jobs.{IsPairBegun, IsPairWritten, IsProfileAsked, IsViewAsked, has_one_answer};
 ghost use Rattle.lvl_job.specs.Opening.{held};
 ghost use Rattle.lvl_job.specs.inside.Parts.{IsOneAnswered, IsOneFault, IsPairAnswered, IsPairFault, IsViewFault};
 ghost use Rattle.lvl_job.specs.inside.Parts.{fault_of_run, IsNoIgnore};
 ghost use Rattle.lvl_report.specs.Runs.{IsBegun, IsDigestedBy, IsShownBy, IsWritten, input};
-ghost use Rattle.lvl_report.specs.Texts.{text_of, text_of_digested, text_of_shown};
-ghost use Rattle.lvl_report.specs.Hints.{IsOutcomeOf, shown_outcome};
+ghost use Rattle.lvl_report.specs.Texts.{text_of, text_of_digested, text_of_explained, text_of_shown};
+ghost use Rattle.lvl_report.specs.Hints.{IsExplainedOutcome, IsOutcomeOf, shown_outcome};
 ghost use Rattle.lvl_report.specs.Writing.{ends_by, is_output};
 
 use crate::fault::JobFault;
@@ -25,7 +25,7 @@ use lvl_io::{Read, Write};
 use lvl_line::Job;
 use lvl_profile::{Ignore, Limits, Profile};
 use lvl_refusal::Cause;
-use lvl_report::{Outcome, RunFault, run_by, run_digest, run_show_by, run_view_by};
+use lvl_report::{Outcome, RunFault, run_by, run_digest, run_show_by, run_view_by, run_why};
 use lvl_view::View;
 use std::alloc::Global;
 
@@ -147,29 +147,103 @@ fn run_under<A: Read, B: Read, O: Write>(
     }
 }
 
-/// Compares the files of two names, under the view if there is one.
+/// Compares two open files, under the view if there is one, with the reason if they differ.
+fn run_explained<A: Read, B: Read, O: Write>(
+    alloc: Global,
+    first: &mut A,
+    second: &mut B,
+    tops: &Tops,
+    view: Option<&View>,
+    profile: Profile,
+    out: &mut O,
+) -> Result<Outcome, RunFault>
+    ensures written { IfOk result (IsWritten
+        (IsExplainedUnder (option_map (λ v. v.now) view.entry)
+        (input profile (A.remaining first.old) (A.remaining first.new)
+        (A.read_errors first.old) (A.read_errors first.new) (given_name tops.now.first))
+        (input profile (B.remaining second.old) (B.remaining second.new)
+        (B.read_errors second.old) (B.read_errors second.new) (given_name tops.now.second)))
+        text_of_explained (IsExplainedOutcome profile) (O.contents out.old) (O.contents out.new)) }
+    ensures begun { OnErr result (IsBegun
+        (IsExplainedUnder (option_map (λ v. v.now) view.entry)
+        (input profile (A.remaining first.old) (A.remaining first.new)
+        (A.read_errors first.old) (A.read_errors first.new) (given_name tops.now.first))
+        (input profile (B.remaining second.old) (B.remaining second.new)
+        (B.read_errors second.old) (B.read_errors second.new) (given_name tops.now.second)))
+        text_of_explained (O.contents out.old) (O.contents out.new)) }
+    ensures nothing { result ≡ Err RunFault.OutOfMemory → Keeps (O.contents out.old) (O.contents out.new) }
+    ensures errors { CountsFailure (O.write_errors out.old) (O.write_errors out.new) (is_output result) }
+{
+    match view {
+        Some(view) => run_why(alloc, first, second, tops, view, profile, out),
+        None => {
+            let view = View::whole(alloc);
+            run_why(alloc, first, second, tops, &view, profile, out)
+        }
+    }
+}
+
+/// Compares two open files, under the view if there is one, with the reason if that is asked for.
+fn run_pair<A: Read, B: Read, O: Write>(
+    alloc: Global,
+    first: &mut A,
+    second: &mut B,
+    asked: &Pair<'_>,
+    profile: Profile,
+    out: &mut O,
+) -> Result<Outcome, RunFault>
+    ensures written { IfOk result (IsPairWritten asked.now.why (option_map (λ v. v.now) asked.now.view) profile
+        (input profile (A.remaining first.old) (A.remaining first.new)
+        (A.read_errors first.old) (A.read_errors first.new) (given_name asked.now.tops.now.first))
+        (input profile (B.remaining second.old) (B.remaining second.new)
+        (B.read_errors second.old) (B.read_errors second.new) (given_name asked.now.tops.now.second))
+        (O.contents out.old) (O.contents out.new)) }
+    ensures begun { OnErr result (IsPairBegun asked.now.why (option_map (λ v. v.now) asked.now.view)
+        (input profile (A.remaining first.old) (A.remaining first.new)
+        (A.read_errors first.old) (A.read_errors first.new) (given_name asked.now.tops.now.first))
+        (input profile (B.remaining second.old) (B.remaining second.new)
+        (B.read_errors second.old) (B.read_errors second.new) (given_name asked.now.tops.now.second))
+        (O.contents out.old) (O.contents out.new)) }
+    ensures nothing { result ≡ Err RunFault.OutOfMemory → Keeps (O.contents out.old) (O.contents out.new) }
+    ensures errors { CountsFailure (O.write_errors out.old) (O.write_errors out.new) (is_output result) }
+{
+    let (tops, view) = (asked.tops, asked.view);
+    if asked.why {
+        run_explained(alloc, first, second, tops, view, profile, out)
+    } else {
+        run_under(alloc, first, second, tops, view, profile, out)
+    }
+}
+
+/// How two files are compared: their tops, the view if there is one, and whether the reason is asked for.
+struct Pair<'a> {
+    tops: &'a Tops,
+    view: Option<&'a View>,
+    why: bool,
+}
+
+/// Compares the files of two names.
 fn compare<F: Files, O: Write>(
     alloc: Global,
     names: (String, String),
-    tops: &Tops,
-    view: Option<&View>,
+    asked: &Pair<'_>,
     profile: Profile,
     files: &mut F,
     out: &mut O,
 ) -> Result<Outcome, JobFault>
-    ensures answered { IfOk result (IsPairAnswered F.opens (option_map (λ v. v.now) view.entry)
-        (record { profile = profile; name = string_bytes names.0; top = given_name tops.now.first })
-        (record { profile = profile; name = string_bytes names.1; top = given_name tops.now.second })
+    ensures answered { IfOk result (IsPairAnswered F.opens asked.now.why (option_map (λ v. v.now) asked.now.view)
+        (record { profile = profile; name = string_bytes names.0; top = given_name asked.now.tops.now.first })
+        (record { profile = profile; name = string_bytes names.1; top = given_name asked.now.tops.now.second })
         files.old files.new (O.contents out.old) (O.contents out.new)) }
-    ensures fault { IfErr result (IsPairFault F.opens (option_map (λ v. v.now) view.entry)
-        (record { profile = profile; name = string_bytes names.0; top = given_name tops.now.first })
-        (record { profile = profile; name = string_bytes names.1; top = given_name tops.now.second })
+    ensures fault { IfErr result (IsPairFault F.opens asked.now.why (option_map (λ v. v.now) asked.now.view)
+        (record { profile = profile; name = string_bytes names.0; top = given_name asked.now.tops.now.first })
+        (record { profile = profile; name = string_bytes names.1; top = given_name asked.now.tops.now.second })
         files.old files.new (O.contents out.old) (O.contents out.new)) }
     ensures errors { CountsFailure (O.write_errors out.old) (O.write_errors out.new) (is_cut result) }
 {
     let mut first = open(files, names.0)?;
     let mut second = open(files, names.1)?;
-    match run_under(alloc, &mut first, &mut second, tops, view, profile, out) {
+    match run_pair(alloc, &mut first, &mut second, asked, profile, out) {
         Ok(outcome) => Ok(outcome),
         Err(fault) => Err(fault_of(fault)),
     }
@@ -247,6 +321,7 @@ fn perform<F: Files, O: Write>(
             window,
             ignore,
             large,
+            why,
         } => {
             let view = view_of(alloc, &map, &window)?;
             let profile = profile_of(alloc, &ignore, large)?;
@@ -254,15 +329,12 @@ fn perform<F: Files, O: Write>(
                 first: top_of(top_a),
                 second: top_of(top_b),
             };
-            compare(
-                alloc,
-                (first, second),
-                &tops,
-                view.as_ref(),
-                profile,
-                files,
-                out,
-            )
+            let asked = Pair {
+                tops: &tops,
+                view: view.as_ref(),
+                why,
+            };
+            compare(alloc, (first, second), &asked, profile, files, out)
         }
         Job::Show {
             file,
@@ -325,7 +397,7 @@ fn answer<F: Files, O: Write, E: Write>(
 /// no answer, it writes one line to `err` that says why; if the answer is a refusal that something would mend, one line
 /// that says what; and if it is a verdict on files whose grid steps differ, one line that says so.
 ///
-/// It writes an answer that [`run_by`], [`run_view_by`], [`run_show_by`] or [`run_digest`] may write for
+/// It writes an answer that [`run_by`], [`run_view_by`], [`run_why`], [`run_show_by`] or [`run_digest`] may write for
 /// these files.
 ///
 /// A list of digests has a line for each file that has one, in the order of the files; why a file has none is a line on

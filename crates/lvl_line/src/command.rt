@@ -35,6 +35,9 @@ const WINDOW_HELP: &str = "The only squares to be compared, in grid steps: x=0..
 const IGNORE_HELP: &str =
     "Records to read and ignore: properties, texts, names, padding or all, joined by commas";
 
+/// The help of `--why`.
+const WHY_HELP: &str = "Of a difference, says which references lead to which shape";
+
 /// The help of `--large`.
 const LARGE_HELP: &str = "Takes the limits for whole chips";
 
@@ -88,7 +91,7 @@ fn compare_tops<'a>(alloc: Global) -> Result<Command<'a>, AllocError>
         .arg(option(alloc, "top-b", "NAME", "The second layout's top cell"))
 }
 
-/// The same with `[--map PAIRS] [--window RANGES] [--ignore WORDS] [--large]`.
+/// The same with `[--map PAIRS] [--window RANGES] [--ignore WORDS] [--large] [--why]`.
 fn compare<'a>(alloc: Global) -> Result<Command<'a>, AllocError>
     ensures { IfOk result (λ c. app_of c ≡ compare_app) }
 {
@@ -96,7 +99,8 @@ fn compare<'a>(alloc: Global) -> Result<Command<'a>, AllocError>
         .arg(option(alloc, "map", "PAIRS", MAP_HELP))?
         .arg(option(alloc, "window", "RANGES", WINDOW_HELP))?
         .arg(option(alloc, "ignore", "WORDS", IGNORE_HELP))?
-        .arg(flag(alloc, "large", LARGE_HELP))
+        .arg(flag(alloc, "large", LARGE_HELP))?
+        .arg(flag(alloc, "why", WHY_HELP))
 }
 
 /// `show A [--top NAME] [--ignore WORDS] [--large]`.

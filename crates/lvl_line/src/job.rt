@@ -16,6 +16,8 @@ pub enum Job {
         ignore: Option<String>,
         /// Whether the limits are those for whole chips.
         large: bool,
+        /// Whether the reason of a difference is asked for.
+        why: bool,
     },
     /// To show a file, with the name of its top cell and the text of what is ignored if they are given.
     Show {

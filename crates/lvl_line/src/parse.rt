@@ -59,6 +59,7 @@ fn compare_of(alloc: Global, matches: &ArgMatches<'_>) -> Result<Job, AllocError
         window: value_of(alloc, matches, "window")?,
         ignore: value_of(alloc, matches, "ignore")?,
         large: is_set(matches, "large"),
+        why: is_set(matches, "why"),
     })
 }
 

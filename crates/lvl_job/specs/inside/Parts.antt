@@ -1,18 +1,16 @@
 -- What the steps of a job return.
-use Rattle.std.specs.Prelude.{◌≡◌, ⊤, ℕ, List, Option, None}
+use Rattle.std.specs.Prelude.{◌≡◌, ⊤, ℕ, Bool, List, Option, None}
 use Rattle.std.specs.Prelude.{string_bytes}
 use Rattle.std.specs.Io.KnownBytes.{Keeps}
 use Rattle.lvl_report.specs.declared.outcome.Outcome.{Outcome}
 use Rattle.lvl_report.specs.declared.status.RunFault.{RunFault}
 use Rattle.lvl_report.specs.declared.status.RunFault.TheVariants.{Output as RunOutput, OutOfMemory as RunOutOfMemory}
 use Rattle.lvl_report.specs.Runs.{Input, IsWritten, IsBegun}
-use Rattle.lvl_report.specs.Texts.{text_of}
-use Rattle.lvl_report.specs.Hints.{IsOutcomeOf}
 use Rattle.lvl_view.specs.Views.{PlainView, IsFaultOf}
 use Rattle.lvl_job.specs.declared.fault.JobFault.{JobFault}
 use Rattle.lvl_job.specs.declared.fault.JobFault.TheVariants.{BadView, BadIgnore, NotOpened, OutOfMemory, Output}
 use Rattle.lvl_job.specs.declared.fault.JobFault.TheVariants.{BadLine, LongList, UnreadList}
-use Rattle.lvl_job.specs.Jobs.{IsComparedUnder, IsIgnoreFault, IsMissing, Named, OfOne, OfTwo}
+use Rattle.lvl_job.specs.Jobs.{IsIgnoreFault, IsMissing, IsPairBegun, IsPairWritten, Named, OfOne, OfTwo}
 
 -- why two texts give no view
 abbrev pub IsViewFault : Option (List ℕ) → Option (List ℕ) → JobFault → Type 0
@@ -42,25 +40,24 @@ fault_of_run RunOutput = Output
 fault_of_run RunOutOfMemory = OutOfMemory
 
 -- the answer to a comparison under a view was written
-abbrev pub IsPairAnswered : {S : Type 0} → (S → List ℕ → Option (Option (List ℕ)) → S → Type 0) → Option PlainView
-    → Named → Named → S → S → Option (List ℕ) → Option (List ℕ) → Outcome → Type 0
-IsPairAnswered opens view a b old new from to outcome =
-    OfTwo opens old new a b
-    (λ x y. IsWritten (IsComparedUnder view x y) text_of (IsOutcomeOf a.profile) from to outcome)
+abbrev pub IsPairAnswered : {S : Type 0} → (S → List ℕ → Option (Option (List ℕ)) → S → Type 0) → Bool
+    → Option PlainView → Named → Named → S → S → Option (List ℕ) → Option (List ℕ) → Outcome → Type 0
+IsPairAnswered opens why view a b old new from to outcome =
+    OfTwo opens old new a b (λ x y. IsPairWritten why view a.profile x y from to outcome)
 
 -- why a comparison under a view has no answer
-abbrev pub IsPairFault : {S : Type 0} → (S → List ℕ → Option (Option (List ℕ)) → S → Type 0) → Option PlainView
-    → Named → Named → S → S → Option (List ℕ) → Option (List ℕ) → JobFault → Type 0
-IsPairFault opens view a b old new from to (BadView fault) = ⊥
-IsPairFault opens view a b old new from to (BadIgnore fault) = ⊥
-IsPairFault opens view a b old new from to (NotOpened name) =
+abbrev pub IsPairFault : {S : Type 0} → (S → List ℕ → Option (Option (List ℕ)) → S → Type 0) → Bool
+    → Option PlainView → Named → Named → S → S → Option (List ℕ) → Option (List ℕ) → JobFault → Type 0
+IsPairFault opens why view a b old new from to (BadView fault) = ⊥
+IsPairFault opens why view a b old new from to (BadIgnore fault) = ⊥
+IsPairFault opens why view a b old new from to (NotOpened name) =
     IsMissing opens old new a.name b.name (string_bytes name) × Keeps from to
-IsPairFault opens view a b old new from to (UnreadList name) = ⊥
-IsPairFault opens view a b old new from to (LongList name) = ⊥
-IsPairFault opens view a b old new from to (BadLine name n) = ⊥
-IsPairFault opens view a b old new from to OutOfMemory = Keeps from to
-IsPairFault opens view a b old new from to Output =
-    OfTwo opens old new a b (λ x y. IsBegun (IsComparedUnder view x y) text_of from to)
+IsPairFault opens why view a b old new from to (UnreadList name) = ⊥
+IsPairFault opens why view a b old new from to (LongList name) = ⊥
+IsPairFault opens why view a b old new from to (BadLine name n) = ⊥
+IsPairFault opens why view a b old new from to OutOfMemory = Keeps from to
+IsPairFault opens why view a b old new from to Output =
+    OfTwo opens old new a b (λ x y. IsPairBegun why view x y from to)
 
 -- the answer of a run on one file was written
 abbrev pub IsOneAnswered : {S X : Type 0} → (S → List ℕ → Option (Option (List ℕ)) → S → Type 0)
