@@ -11,3 +11,4 @@ pub mod Searching
 pub mod Witnessing
 pub mod Multiples
 pub mod InRows
+pub mod Boxing

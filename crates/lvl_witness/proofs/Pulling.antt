@@ -9,7 +9,7 @@ use Rattle.lvl_grid.specs.declared.map.Turn.TheVariants.{R0, R90, R180, R270}
 use Rattle.lvl_grid.specs.Turn.{image_square}
 use Rattle.lvl_grid.proofs.Squares.{same_square}
 use Rattle.lvl_cells.specs.Coverage.{moved_back}
-use Rattle.lvl_witness.specs.inside.Spots.{turned_back, reflected_back}
+use Rattle.lvl_witness.specs.inside.Wide.{turned_back, reflected_back}
 
 same_x : {s t : Square} → s ≡ t → s.x ≡ t.x
 same_x e = ap (λ (u : Square). u.x) e

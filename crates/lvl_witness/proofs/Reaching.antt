@@ -16,7 +16,7 @@ use Rattle.lvl_flat.proofs.Corners.{placed_within}
 use Rattle.lvl_flat.proofs.Holding.{moved_place}
 use Rattle.lvl_flat.proofs.Outside.{square_placed}
 use Rattle.lvl_witness.specs.inside.Areas.{moved_box}
-use Rattle.lvl_witness.specs.inside.Spots.{lesser_of, greater_of}
+use Rattle.lvl_witness.specs.inside.Wide.{lesser_of, greater_of}
 
 -- a box that has a square, moved with it
 pub moved_has : (low high e : Point) (s : Square) → HasSquare (record { low = low; high = high }) s

@@ -1,2 +1,3 @@
+pub mod Boxes
 pub mod Witnesses
 pub mod inside

@@ -1,13 +1,16 @@
 -- Witnesses: why a top covers a square (own rules).
-use Rattle.std.specs.Prelude.{◌≡◌, ℕ, zero, suc, List, length, slice_get, Some, IsSomeAnd, Contains}
+use Rattle.std.specs.Prelude.{map, ◌≡◌, ℕ, zero, suc, List, length, slice_get, Some, IsSomeAnd, Contains}
 use Rattle.lvl_grid.specs.declared.point.Point.{Point}
 use Rattle.lvl_grid.specs.declared.point.Square.{Square}
 use Rattle.lvl_grid.specs.declared.map.Map.{Map}
+use Rattle.lvl_grid.specs.Turn.{shifted}
 use Rattle.lvl_grid.specs.Placed.{IsPlaceOfCovered}
 use Rattle.lvl_names.specs.declared.layer.Layer.{Layer}
 use Rattle.lvl_cells.specs.Cells.{PlainCell, PlainShape, PlainReference, Rings, map_at, cell_named}
 use Rattle.lvl_cells.specs.Chains.{IsComposed, unmoved}
 use Rattle.lvl_cells.specs.Checks.{Settled}
+use Rattle.lvl_witness.specs.Boxes.{IsBoxOf}
+use Rattle.lvl_witness.specs.inside.Wide.{as_point}
 use Rattle.lvl_witness.specs.declared.witness.Step.{Step}
 use Rattle.lvl_witness.specs.declared.witness.PlacedRing.{PlacedRing}
 
@@ -34,7 +37,7 @@ Leads cells top steps (suc n) m d =
     × IsSomeAnd (slice_get steps n) (LeadsOn cells w c m d)
 
 -- the ring is that of one of the shapes, on a Layer of the list; at that place of the shape, and then placed by the map
--- m, it covers the square q
+-- m, it covers the square q. The box is that of the ring at this place, in the coordinates of the shapes
 pub record IsCoveringRing (shapes : List (PlainShape Rings)) (m : Map) (layers : List Layer) (q : Square)
     (p : PlacedRing) : Type 0 where
   pub shape : PlainShape Rings
@@ -49,6 +52,7 @@ pub record IsCoveringRing (shapes : List (PlainShape Rings)) (m : Map) (layers :
   pub ring_is : slice_get shape.figure p.ring ≡ Some ring
   pub rings_are : p.rings ≡ length shape.figure
   pub covers : IsPlaceOfCovered m shift ring q
+  pub is_box : IsBoxOf (as_point p.low) (as_point p.high) (map (shifted shift) ring)
 
 -- the steps lead from the top to a cell, and the ring is one of this cell that covers the square as they place it
 pub record IsWitness (s : Settled) (layers : List Layer) (q : Square) (steps : List Step) (ring : PlacedRing)

@@ -1,4 +1,4 @@
-pub mod Spots
+pub mod Wide
 pub mod Areas
 pub mod Rings
 pub mod Moves

@@ -10,9 +10,9 @@ ghost use Rattle.lvl_cells.specs.Cells.{map_at};
 ghost use Rattle.lvl_flat.specs.Flattened.{CoversAt};
 ghost use Rattle.lvl_flat.specs.inside.Bounds.{HasSquare};
 ghost use Rattle.lvl_witness.specs.inside.Areas.{IsInArea, IsOnWay, IsSmallArea, moved_box};
-ghost use Rattle.lvl_witness.specs.inside.Spots.{as_point, as_square, IsSmall};
+ghost use Rattle.lvl_witness.specs.inside.Wide.{as_point, as_square, IsSmall};
 
-use crate::spot::{Spot, placed};
+use crate::wide::{WidePoint, placed};
 use lvl_cells::{KeptReference, MovedRing};
 use lvl_flat::Fitted;
 use lvl_grid::{Map, Point, Window};
@@ -20,8 +20,8 @@ use lvl_grid::{Map, Point, Window};
 /// The displacements from the lower left corner to the upper right one, borders included.
 #[derive(Clone, Copy, Debug)]
 pub(crate) struct Area {
-    pub low: Spot,
-    pub high: Spot,
+    pub low: WidePoint,
+    pub high: WidePoint,
 }
 
 /// Whether a number is at least `low` and at most `high`.
@@ -33,7 +33,7 @@ fn is_between(low: i128, number: i128, high: i128) -> bool
 
 impl Area {
     /// The displacements that move the box between two corners to where it has the square.
-    fn around(square: Spot, low: Spot, high: Spot) -> Area
+    fn around(square: WidePoint, low: WidePoint, high: WidePoint) -> Area
         requires square { IsSmall 66 square }
         requires low { IsSmall 66 low }
         requires high { IsSmall 66 high }
@@ -42,11 +42,11 @@ impl Area {
             → IsInArea result e ↔ HasSquare (moved_box (as_point low) (as_point high) e) (as_square square) }
     {
         Area {
-            low: Spot {
+            low: WidePoint {
                 x: square.x + 1 - high.x,
                 y: square.y + 1 - high.y,
             },
-            high: Spot {
+            high: WidePoint {
                 x: square.x - low.x,
                 y: square.y - low.y,
             },
@@ -64,11 +64,11 @@ impl Area {
         let x = i128::from(end.x);
         let y = i128::from(end.y);
         Area {
-            low: Spot {
+            low: WidePoint {
                 x: self.low.x - x.max(0),
                 y: self.low.y - y.max(0),
             },
-            high: Spot {
+            high: WidePoint {
                 x: self.high.x - x.min(0),
                 y: self.high.y - y.min(0),
             },
@@ -79,7 +79,7 @@ impl Area {
     pub(crate) fn has(&self, shift: Point) -> bool
         ensures { IsTrue result ↔ IsInArea self.now shift }
     {
-        let Spot { x, y } = Spot::from_point(shift);
+        let WidePoint { x, y } = WidePoint::from_point(shift);
         is_between(self.low.x, x, self.high.x) && is_between(self.low.y, y, self.high.y)
     }
 }
@@ -106,14 +106,18 @@ fn upper_right(window: Window) -> Point
 
 /// An area that has each displacement that moves the ring to where it covers the square, or None if
 /// one isn't known.
-pub(crate) fn area_of_ring(ring: &MovedRing<'_>, square: Spot) -> Option<Area>
+pub(crate) fn area_of_ring(ring: &MovedRing<'_>, square: WidePoint) -> Option<Area>
     requires { IsSmall 66 square }
     ensures small { IfSome result (IsSmallArea 70) }
     ensures has { IfSome result (λ area. (s : GridSquare) (e : GridPoint) → Covers ring.now s
         → moved_square e s ≡ as_square square → IsInArea area e) }
 {
     let (low, high) = ring.reach()?;
-    Some(Area::around(square, Spot::from_point(low), Spot::from_point(high)))
+    Some(Area::around(
+        square,
+        WidePoint::from_point(low),
+        WidePoint::from_point(high),
+    ))
 }
 
 /// An area that has each shift of the reference at which the cell at index `target` covers the
@@ -122,7 +126,7 @@ pub(crate) fn area_of_reference(
     fitted: &Fitted,
     target: usize,
     reference: &KeptReference<'_>,
-    square: Spot,
+    square: WidePoint,
 ) -> Option<Area>
     requires { IsSmall 66 square }
     ensures small { IfSome result (IsSmallArea 70) }

@@ -4,7 +4,7 @@ ghost use Rattle.lvl_witness.specs.inside.Moves.{begun, IsMove, IsReached};
 
 use crate::areas::area_of_reference;
 use crate::places::next_place;
-use crate::spot::pulled;
+use crate::wide::pulled;
 use crate::witness::Step;
 use lvl_flat::{Fitted, placing_at};
 use lvl_grid::{Map, Square};

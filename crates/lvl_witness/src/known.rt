@@ -1,9 +1,9 @@
 //! Cells that are known not to cover a square, so that each is searched once.
 ghost use Rattle.std.specs.Prelude.{◌≡◌, ◌<◌, ◌⊎◌, [], Contains, IfSome, IsTrue, OnOk, Some};
 ghost use Rattle.lvl_witness.specs.inside.Known.{seen_at, HasNoOthers, HasNoMore};
-ghost use Rattle.lvl_witness.specs.inside.Spots.{as_square};
+ghost use Rattle.lvl_witness.specs.inside.Wide.{as_square};
 
-use crate::spot::Spot;
+use crate::wide::WidePoint;
 use lvl_grid::Square;
 use std::alloc::{AllocError, Global};
 use std::hash::{FoldHasher, Hasher};
@@ -44,11 +44,11 @@ impl Model for Known {
 }
 
 /// The square, or None if a coordinate is outside 64 bits.
-fn narrowed(spot: Spot) -> Option<Square>
-    ensures { IfSome result (λ square. square ≡ as_square spot) }
+fn narrowed(wide: WidePoint) -> Option<Square>
+    ensures { IfSome result (λ square. square ≡ as_square wide) }
 {
-    let x = i64::try_from(spot.x).ok()?;
-    let y = i64::try_from(spot.y).ok()?;
+    let x = i64::try_from(wide.x).ok()?;
+    let y = i64::try_from(wide.y).ok()?;
     Some(Square { x, y })
 }
 
@@ -78,7 +78,7 @@ impl Known {
     }
 
     /// Whether the table has the cell and the square.
-    pub(crate) fn has(&self, cell: usize, square: Spot) -> bool
+    pub(crate) fn has(&self, cell: usize, square: WidePoint) -> bool
         ensures { IsTrue result → Contains self.now (Some (seen_at cell (as_square square))) }
     {
         let Some(square) = narrowed(square) else {
@@ -92,7 +92,7 @@ impl Known {
     }
 
     /// Keeps the cell and the square, unless a coordinate is outside 64 bits.
-    pub(crate) fn keep(&mut self, cell: usize, square: Spot) -> Result<(), AllocError>
+    pub(crate) fn keep(&mut self, cell: usize, square: WidePoint) -> Result<(), AllocError>
         ensures { OnOk result (HasNoOthers self.old self.new (seen_at cell (as_square square))) }
     {
         self.grow()?;

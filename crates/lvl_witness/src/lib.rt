@@ -17,15 +17,17 @@
 #![tactic(auto)]
 
 pub use search::find_witness;
+pub use wide::WidePoint;
 pub use witness::{PlacedRing, Step, Witness};
 
 mod areas;
+mod boxes;
 mod frame;
 mod known;
 mod lattice;
 mod places;
 mod rings;
 mod search;
-mod spot;
 mod stretch;
+mod wide;
 mod witness;

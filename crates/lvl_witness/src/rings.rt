@@ -6,11 +6,12 @@ ghost use Rattle.lvl_cells.specs.Cells.{shape_at};
 ghost use Rattle.lvl_flat.specs.Flattened.{FitsRing, FitShapes};
 ghost use Rattle.lvl_flat.specs.inside.Drawn.{FitsAtEach, RingPlacesCover, ShapePlacesCover};
 ghost use Rattle.lvl_witness.specs.Witnesses.{IsCoveringRing};
-ghost use Rattle.lvl_witness.specs.inside.Rings.{placed_ring, IsCoveringPlace, IsCoveringPart, ShapesCover};
+ghost use Rattle.lvl_witness.specs.inside.Rings.{IsCoveringPlace, IsCoveringPart, IsRingAt, ShapesCover};
 
 use crate::areas::area_of_ring;
+use crate::boxes::moved_box_of;
 use crate::places::next_place;
-use crate::spot::pulled;
+use crate::wide::pulled;
 use crate::witness::PlacedRing;
 use lvl_cells::{MovedRing, Shapes};
 use lvl_grid::{Map, PlaceFault, Point, Rings, Square};
@@ -115,11 +116,17 @@ fn ring_of(
     }
 }
 
-/// The ring with these indexes, with the numbers of what is beside it.
+/// The ring with these indexes, with the counts of what is beside it, and its box.
 fn placed_ring(shapes: &Shapes, shape: usize, place: u64, ring: usize) -> PlacedRing
-    requires { shape < length shapes.now }
-    ensures { result ≡ placed_ring shapes.now shape place ring }
+    requires shape { shape < length shapes.now }
+    requires place { place < length (shape_at shapes.now shape).shifts }
+    requires ring { ring < length (shape_at shapes.now shape).figure }
+    ensures { IsRingAt shapes.now shape place ring result }
 {
+    let Some(shift) = shapes.shift(shape, place) else {
+        unreachable!()
+    };
+    let (low, high) = moved_box_of(&shapes.ring(shape, ring), shift);
     PlacedRing {
         layer: shapes.layer(shape),
         shape,
@@ -128,6 +135,8 @@ fn placed_ring(shapes: &Shapes, shape: usize, place: u64, ring: usize) -> Placed
         places: shapes.shift_count(shape),
         ring,
         rings: shapes.ring_count(shape),
+        low,
+        high,
     }
 }
 

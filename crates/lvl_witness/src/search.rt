@@ -10,7 +10,7 @@ ghost use Rattle.lvl_witness.specs.inside.Searching.{HasNoRing, IsRingOfCell, Is
 use crate::frame::{Frame, Move, next_move};
 use crate::known::Known;
 use crate::rings::find_ring;
-use crate::spot::pulled;
+use crate::wide::pulled;
 use crate::witness::{PlacedRing, Step, Witness};
 use lvl_flat::Fitted;
 use lvl_grid::{Map, Point, Square, Turn};

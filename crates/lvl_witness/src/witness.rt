@@ -1,5 +1,6 @@
 //! What a witness says: a chain of references, and a ring of the cell that it leads to.
 
+use crate::wide::WidePoint;
 use lvl_grid::Map;
 use lvl_names::Layer;
 
@@ -39,6 +40,10 @@ pub struct PlacedRing {
     pub ring: usize,
     /// The number of rings of the shape.
     pub rings: usize,
+    /// The lower left corner of the box of the ring at this place, in the coordinates of the cell.
+    pub low: WidePoint,
+    /// The upper right corner of this box.
+    pub high: WidePoint,
 }
 
 /// Why a top covers a square: a chain of references from the top, and a ring of the cell that the

@@ -4,7 +4,7 @@ use Rattle.std.specs.Int.{int_min, int_max}
 use Rattle.lvl_grid.specs.declared.point.Point.{Point}
 use Rattle.lvl_grid.specs.Turn.{shifted}
 use Rattle.lvl_flat.specs.declared.bounds.Bounds.{Bounds}
-use Rattle.lvl_witness.specs.inside.Spots.{IsSmall}
+use Rattle.lvl_witness.specs.inside.Wide.{IsSmall}
 use Rattle.lvl_witness.specs.declared.areas.Area.{Area}
 
 -- the displacement is in the area, borders included

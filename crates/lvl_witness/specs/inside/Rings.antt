@@ -1,11 +1,14 @@
 -- Which rings of a cell cover a square, where the cell is placed.
-use Rattle.std.specs.Prelude.{◌≡◌, ◌<◌, ℕ, List, length, slice_get, Some, Any, Contains}
+use Rattle.std.specs.Prelude.{map, ◌≡◌, ◌<◌, ℕ, List, length, slice_get, Some, Any, Contains}
 use Rattle.lvl_grid.specs.declared.point.Point.{Point}
 use Rattle.lvl_grid.specs.declared.point.Square.{Square}
 use Rattle.lvl_grid.specs.declared.map.Map.{Map}
+use Rattle.lvl_grid.specs.Turn.{shifted}
 use Rattle.lvl_grid.specs.Placed.{IsPlaceOfCovered}
 use Rattle.lvl_names.specs.declared.layer.Layer.{Layer}
 use Rattle.lvl_cells.specs.Cells.{PlainShape, Rings, shape_at}
+use Rattle.lvl_witness.specs.Boxes.{IsBoxOf}
+use Rattle.lvl_witness.specs.inside.Wide.{as_point}
 use Rattle.lvl_witness.specs.declared.witness.PlacedRing.{PlacedRing}
 use Rattle.lvl_flat.specs.inside.Drawn.{RingPlacesCover, ShapePlacesCover}
 
@@ -41,14 +44,15 @@ NoShapeBefore m layers q shapes i =
     (k : ℕ) (h : PlainShape Rings) → k < i → slice_get shapes k ≡ Some h → Contains layers h.layer
     → ¬ ShapePlacesCover m q h
 
--- the ring with these indexes
-abbrev pub placed_ring : List (PlainShape Rings) → ℕ → ℕ → ℕ → PlacedRing
-placed_ring shapes shape place ring = record {
-  layer = (shape_at shapes shape).layer;
-  shape = shape;
-  shapes = length shapes;
-  place = place;
-  places = length (shape_at shapes shape).shifts;
-  ring = ring;
-  rings = length (shape_at shapes shape).figure;
-}
+-- the ring is the one with these indexes, with the counts of what is beside it and its box at this place
+pub record IsRingAt (shapes : List (PlainShape Rings)) (shape place ring : ℕ) (p : PlacedRing) : Type 0 where
+  pub shape_is : p.shape ≡ shape
+  pub place_is : p.place ≡ place
+  pub ring_is : p.ring ≡ ring
+  pub layer_is : p.layer ≡ (shape_at shapes shape).layer
+  pub shapes_are : p.shapes ≡ length shapes
+  pub places_are : p.places ≡ length (shape_at shapes shape).shifts
+  pub rings_are : p.rings ≡ length (shape_at shapes shape).figure
+  pub is_box : (e : Point) (points : List Point) → slice_get (shape_at shapes shape).shifts place ≡ Some e
+      → slice_get (shape_at shapes shape).figure ring ≡ Some points
+      → IsBoxOf (as_point p.low) (as_point p.high) (map (shifted e) points)

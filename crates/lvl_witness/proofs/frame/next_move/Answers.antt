@@ -9,7 +9,7 @@ use Rattle.lvl_witness.specs.declared.areas.Area.{Area}
 use Rattle.lvl_witness.specs.declared.frame.Frame.{Frame}
 use Rattle.lvl_witness.specs.inside.Areas.{AreApart}
 use Rattle.lvl_witness.specs.inside.Moves.{IsSkipped}
-use Rattle.lvl_witness.specs.inside.Spots.{as_square}
+use Rattle.lvl_witness.specs.inside.Wide.{as_square}
 use Rattle.lvl_witness.proofs.Moving.{apart_uncovered, reached_fits, target_at}
 use Rattle.lvl_witness.proofs.Skipping.{none_left, goes_past, places_skipped, past_end}
 use Rattle.lvl_witness.proofs.frame.next_move.Goals as goal

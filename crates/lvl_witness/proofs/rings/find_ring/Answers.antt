@@ -1,10 +1,13 @@
-use Rattle.std.proofs.Common.{◌≡◌, List, Some, slice_get, Contains, IfNone, sym, ap, subst, ◌∙◌, arith}
+use Rattle.std.proofs.Common.{◌≡◌, List, Some, slice_get, Contains, IfNone, sym, ap, subst, ◌∙◌, arith, ℕ, IfSome}
 use Rattle.lvl_grid.specs.declared.point.Square.{Square}
 use Rattle.lvl_grid.specs.declared.map.Map.{Map}
 use Rattle.lvl_names.specs.declared.layer.Layer.{Layer}
 use Rattle.lvl_cells.specs.Cells.{PlainShape, Rings, shape_at}
 use Rattle.lvl_cells.proofs.Sequences.{one_answer}
 use Rattle.lvl_flat.specs.inside.Drawn.{ShapePlacesCover}
+use Rattle.std.proofs.lemmas.Option.{slice_get_within}
+use Rattle.lvl_witness.specs.inside.Rings.{IsCoveringPart}
+use Rattle.lvl_witness.proofs.Boxing.{covering_ring}
 use Rattle.lvl_witness.proofs.Before.{before_more, none_any, shape_there}
 use Rattle.lvl_witness.proofs.rings.find_ring.Goals as goal
 
@@ -44,3 +47,31 @@ returns-clause-none c =
     none_any (λ h. Contains c.args.layers.now h.layer × ShapePlacesCover m q h) c.args.shapes.now c.loop-shape.shape
     (λ k h below at both. c.loop-shape.invariant k h below at both.0 both.1)
     (omega (arith, c.loop-shape-test.false, c.len-shape-end.ensures))
+
+pub placed_ring-requires : goal.placed_ring-requires
+placed_ring-requires c =
+    let shape : PlainShape Rings = shape_at c.args.shapes.now c.loop-shape.shape in
+    let part : IsCoveringPart c.args.map.now c.args.square shape (c.in-Some.ring, c.in-Some.place) =
+    subst (λ o. IfSome o (IsCoveringPart c.args.map.now c.args.square shape)) c.in-Some.is c.in_ok-ring.ensures.some in
+    record {
+      shape = omega (arith, c.loop-shape-test.true, c.len-shape-end.ensures);
+      place = slice_get_within shape.shifts c.in-Some.place part.place.shift part.place.shift_is;
+      ring = slice_get_within shape.figure c.in-Some.ring part.ring part.ring_is;
+    }
+
+pub returns-in-Some-clause-some : goal.returns-in-Some-clause-some
+returns-in-Some-clause-some c =
+    let m : Map = c.args.map.now in
+    let q : Square = c.args.square in
+    let layers : List Layer = c.args.layers.now in
+    let shapes : List (PlainShape Rings) = c.args.shapes.now in
+    let i : ℕ = c.loop-shape.shape in
+    let shape : PlainShape Rings = shape_at shapes i in
+    let at : slice_get shapes i ≡ Some shape =
+    shape_there shapes i (omega (arith, c.loop-shape-test.true, c.len-shape-end.ensures)) in
+    let part : IsCoveringPart m q shape (c.in-Some.ring, c.in-Some.place) =
+    subst (λ o. IfSome o (IsCoveringPart m q shape)) c.in-Some.is c.in_ok-ring.ensures.some in
+    let listed : Contains layers shape.layer =
+    subst (λ l. Contains layers l) c.layer.ensures (c.is_listed.ensures.0 c.if-not-is_listed.false) in
+    covering_ring shapes m layers q i c.in-Some.ring c.in-Some.place c.placed_ring.result at listed part
+    c.placed_ring.ensures

@@ -7,7 +7,7 @@ use Rattle.lvl_grid.specs.declared.point.Square.{Square}
 use Rattle.lvl_grid.specs.declared.map.Map.{Map}
 use Rattle.lvl_flat.specs.Flattened.{FitsRing}
 use Rattle.lvl_names.proofs.Elements.{contains_at}
-use Rattle.lvl_witness.specs.inside.Spots.{as_square}
+use Rattle.lvl_witness.specs.inside.Wide.{as_square}
 use Rattle.lvl_witness.proofs.Apart.{apart_uncovered, none_covers, none_more}
 use Rattle.lvl_witness.proofs.rings.place_of.Goals as goal
 

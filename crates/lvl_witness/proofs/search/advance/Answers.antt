@@ -12,7 +12,7 @@ use Rattle.lvl_cells.specs.Coverage.{CellCovers}
 use Rattle.lvl_flat.specs.Flattened.{CoversAt}
 use Rattle.lvl_witness.specs.declared.known.Seen.{Seen}
 use Rattle.lvl_witness.specs.inside.Known.{seen_at}
-use Rattle.lvl_witness.specs.inside.Spots.{as_square}
+use Rattle.lvl_witness.specs.inside.Wide.{as_square}
 use Rattle.lvl_witness.specs.inside.Moves.{begun, Enters}
 use Rattle.lvl_witness.specs.inside.Searching.{HasNoRing, IsRingOfCell, IsSearch, PlacedCovers, work_left}
 use Rattle.lvl_witness.proofs.Going.{less_into, less_known}

@@ -1,8 +1,8 @@
 use Rattle.std.proofs.Common.{◌≡◌, ap, sym, ◌∙◌}
 use Rattle.lvl_grid.specs.declared.map.Map.{Map}
-use Rattle.lvl_witness.specs.inside.Spots.{as_square, turned_back, reflected_back}
+use Rattle.lvl_witness.specs.inside.Wide.{as_square, turned_back, reflected_back}
 use Rattle.lvl_witness.proofs.Pulling.{square_before, pulls_back}
-use Rattle.lvl_witness.proofs.spot.pulled.Goals as goal
+use Rattle.lvl_witness.proofs.wide.pulled.Goals as goal
 
 pub returns-clause-square : goal.returns-clause-square
 returns-clause-square c =

@@ -5,18 +5,18 @@ use Rattle.lvl_grid.specs.declared.point.Point.{Point}
 use Rattle.lvl_grid.specs.declared.point.Square.{Square}
 use Rattle.lvl_grid.specs.declared.map.Turn.{Turn}
 use Rattle.lvl_grid.specs.declared.map.Turn.TheVariants.{R0, R90, R180, R270}
-use Rattle.lvl_witness.specs.declared.spot.Spot.{Spot}
+use Rattle.lvl_witness.specs.declared.wide.WidePoint.{WidePoint}
 
 -- the point with these coordinates
-abbrev pub as_point : Spot → Point
+abbrev pub as_point : WidePoint → Point
 as_point s = record { x = s.x; y = s.y }
 
 -- the square with this lower left corner
-abbrev pub as_square : Spot → Square
+abbrev pub as_square : WidePoint → Square
 as_square s = record { x = s.x; y = s.y }
 
 -- the absolute value of each coordinate is at most 2 to the power of `bits`
-pub record IsSmall (bits : ℕ) (s : Spot) : Type 0 where
+pub record IsSmall (bits : ℕ) (s : WidePoint) : Type 0 where
   pub x_small : unsigned_abs s.x ≤ 2 ^ bits
   pub y_small : unsigned_abs s.y ≤ 2 ^ bits
 
