@@ -28,7 +28,7 @@ pub use digested::{Digested, MaskDigest};
 pub use explained::Explained;
 pub use layout::{FileFault, Head, Layout, read_layout, read_layout_by, widening_keeps};
 pub use lvl_corners::{DigestedLayer, layer_line};
-pub use lvl_why::{Borders, NamedStep, Why};
+pub use lvl_why::{NamedStep, Why};
 pub use lvl_witness::PlacedRing;
 pub use show::show_file;
 pub use shown::Shown;

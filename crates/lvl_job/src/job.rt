@@ -19,18 +19,19 @@ ghost use Rattle.lvl_report.specs.Writing.{ends_by, is_output};
 use crate::fault::JobFault;
 use crate::files::Files;
 use crate::lists::{Asked, do_check, do_list};
+use crate::pair::{Pair, compare};
 use crate::said::{say, say_outcome};
 use lvl::Tops;
-use lvl_io::{Read, Write};
+use lvl_io::Write;
 use lvl_line::Job;
 use lvl_profile::{Ignore, Limits, Profile};
 use lvl_refusal::Cause;
-use lvl_report::{Outcome, RunFault, run_by, run_digest, run_show_by, run_view_by, run_why};
+use lvl_report::{Outcome, RunFault, run_digest, run_show_by};
 use lvl_view::View;
 use std::alloc::Global;
 
 /// Opens the file of this name.
-fn open<F: Files>(files: &mut F, name: String) -> Result<F::File, JobFault>
+pub(crate) fn open<F: Files>(files: &mut F, name: String) -> Result<F::File, JobFault>
     ensures opened { F.opens files.old (string_bytes name) (held F.File.remaining result) files.new }
     ensures fresh { IfOk result (λ file. F.File.read_errors file ≡ 0) }
     ensures missing { IfErr result (λ fault. fault ≡ JobFault.NotOpened name) }
@@ -105,147 +106,12 @@ pub(crate) fn profile_of(
 }
 
 /// The fault of a run as one of its job.
-fn fault_of(fault: RunFault) -> JobFault
+pub(crate) fn fault_of(fault: RunFault) -> JobFault
     ensures { result ≡ fault_of_run fault }
 {
     match fault {
         RunFault::Output => JobFault::Output,
         RunFault::OutOfMemory => JobFault::OutOfMemory,
-    }
-}
-
-/// Compares two open files, under the view if there is one.
-fn run_under<A: Read, B: Read, O: Write>(
-    alloc: Global,
-    first: &mut A,
-    second: &mut B,
-    tops: &Tops,
-    view: Option<&View>,
-    profile: Profile,
-    out: &mut O,
-) -> Result<Outcome, RunFault>
-    ensures written { IfOk result (IsWritten
-        (IsComparedUnder (option_map (λ v. v.now) view.entry)
-        (input profile (A.remaining first.old) (A.remaining first.new)
-        (A.read_errors first.old) (A.read_errors first.new) (given_name tops.now.first))
-        (input profile (B.remaining second.old) (B.remaining second.new)
-        (B.read_errors second.old) (B.read_errors second.new) (given_name tops.now.second)))
-        text_of (IsOutcomeOf profile) (O.contents out.old) (O.contents out.new)) }
-    ensures begun { OnErr result (IsBegun
-        (IsComparedUnder (option_map (λ v. v.now) view.entry)
-        (input profile (A.remaining first.old) (A.remaining first.new)
-        (A.read_errors first.old) (A.read_errors first.new) (given_name tops.now.first))
-        (input profile (B.remaining second.old) (B.remaining second.new)
-        (B.read_errors second.old) (B.read_errors second.new) (given_name tops.now.second)))
-        text_of (O.contents out.old) (O.contents out.new)) }
-    ensures nothing { result ≡ Err RunFault.OutOfMemory → Keeps (O.contents out.old) (O.contents out.new) }
-    ensures errors { CountsFailure (O.write_errors out.old) (O.write_errors out.new) (is_output result) }
-{
-    match view {
-        Some(view) => run_view_by(alloc, first, second, tops, view, profile, out),
-        None => run_by(alloc, first, second, tops, profile, out),
-    }
-}
-
-/// Compares two open files, under the view if there is one, with the reason if they differ.
-fn run_explained<A: Read, B: Read, O: Write>(
-    alloc: Global,
-    first: &mut A,
-    second: &mut B,
-    tops: &Tops,
-    view: Option<&View>,
-    profile: Profile,
-    out: &mut O,
-) -> Result<Outcome, RunFault>
-    ensures written { IfOk result (IsWritten
-        (IsExplainedUnder (option_map (λ v. v.now) view.entry)
-        (input profile (A.remaining first.old) (A.remaining first.new)
-        (A.read_errors first.old) (A.read_errors first.new) (given_name tops.now.first))
-        (input profile (B.remaining second.old) (B.remaining second.new)
-        (B.read_errors second.old) (B.read_errors second.new) (given_name tops.now.second)))
-        text_of_explained (IsExplainedOutcome profile) (O.contents out.old) (O.contents out.new)) }
-    ensures begun { OnErr result (IsBegun
-        (IsExplainedUnder (option_map (λ v. v.now) view.entry)
-        (input profile (A.remaining first.old) (A.remaining first.new)
-        (A.read_errors first.old) (A.read_errors first.new) (given_name tops.now.first))
-        (input profile (B.remaining second.old) (B.remaining second.new)
-        (B.read_errors second.old) (B.read_errors second.new) (given_name tops.now.second)))
-        text_of_explained (O.contents out.old) (O.contents out.new)) }
-    ensures nothing { result ≡ Err RunFault.OutOfMemory → Keeps (O.contents out.old) (O.contents out.new) }
-    ensures errors { CountsFailure (O.write_errors out.old) (O.write_errors out.new) (is_output result) }
-{
-    match view {
-        Some(view) => run_why(alloc, first, second, tops, view, profile, out),
-        None => {
-            let view = View::whole(alloc);
-            run_why(alloc, first, second, tops, &view, profile, out)
-        }
-    }
-}
-
-/// Compares two open files, under the view if there is one, with the reason if that is asked for.
-fn run_pair<A: Read, B: Read, O: Write>(
-    alloc: Global,
-    first: &mut A,
-    second: &mut B,
-    asked: &Pair<'_>,
-    profile: Profile,
-    out: &mut O,
-) -> Result<Outcome, RunFault>
-    ensures written { IfOk result (IsPairWritten asked.now.why (option_map (λ v. v.now) asked.now.view) profile
-        (input profile (A.remaining first.old) (A.remaining first.new)
-        (A.read_errors first.old) (A.read_errors first.new) (given_name asked.now.tops.now.first))
-        (input profile (B.remaining second.old) (B.remaining second.new)
-        (B.read_errors second.old) (B.read_errors second.new) (given_name asked.now.tops.now.second))
-        (O.contents out.old) (O.contents out.new)) }
-    ensures begun { OnErr result (IsPairBegun asked.now.why (option_map (λ v. v.now) asked.now.view)
-        (input profile (A.remaining first.old) (A.remaining first.new)
-        (A.read_errors first.old) (A.read_errors first.new) (given_name asked.now.tops.now.first))
-        (input profile (B.remaining second.old) (B.remaining second.new)
-        (B.read_errors second.old) (B.read_errors second.new) (given_name asked.now.tops.now.second))
-        (O.contents out.old) (O.contents out.new)) }
-    ensures nothing { result ≡ Err RunFault.OutOfMemory → Keeps (O.contents out.old) (O.contents out.new) }
-    ensures errors { CountsFailure (O.write_errors out.old) (O.write_errors out.new) (is_output result) }
-{
-    let (tops, view) = (asked.tops, asked.view);
-    if asked.why {
-        run_explained(alloc, first, second, tops, view, profile, out)
-    } else {
-        run_under(alloc, first, second, tops, view, profile, out)
-    }
-}
-
-/// How two files are compared: their tops, the view if there is one, and whether the reason is asked for.
-struct Pair<'a> {
-    tops: &'a Tops,
-    view: Option<&'a View>,
-    why: bool,
-}
-
-/// Compares the files of two names.
-fn compare<F: Files, O: Write>(
-    alloc: Global,
-    names: (String, String),
-    asked: &Pair<'_>,
-    profile: Profile,
-    files: &mut F,
-    out: &mut O,
-) -> Result<Outcome, JobFault>
-    ensures answered { IfOk result (IsPairAnswered F.opens asked.now.why (option_map (λ v. v.now) asked.now.view)
-        (record { profile = profile; name = string_bytes names.0; top = given_name asked.now.tops.now.first })
-        (record { profile = profile; name = string_bytes names.1; top = given_name asked.now.tops.now.second })
-        files.old files.new (O.contents out.old) (O.contents out.new)) }
-    ensures fault { IfErr result (IsPairFault F.opens asked.now.why (option_map (λ v. v.now) asked.now.view)
-        (record { profile = profile; name = string_bytes names.0; top = given_name asked.now.tops.now.first })
-        (record { profile = profile; name = string_bytes names.1; top = given_name asked.now.tops.now.second })
-        files.old files.new (O.contents out.old) (O.contents out.new)) }
-    ensures errors { CountsFailure (O.write_errors out.old) (O.write_errors out.new) (is_cut result) }
-{
-    let mut first = open(files, names.0)?;
-    let mut second = open(files, names.1)?;
-    match run_pair(alloc, &mut first, &mut second, asked, profile, out) {
-        Ok(outcome) => Ok(outcome),
-        Err(fault) => Err(fault_of(fault)),
     }
 }
 

@@ -30,5 +30,6 @@ mod job;
 mod line;
 mod listing;
 mod lists;
+mod pair;
 mod said;
 mod texts;

@@ -22,7 +22,6 @@ use Rattle.lvl.specs.declared.digested.Digested.{Digested}
 use Rattle.lvl.specs.declared.digested.MaskDigest.{MaskDigest}
 use Rattle.lvl.specs.declared.shown.Shown.{Shown}
 use Rattle.lvl_corners.specs.Masks.{mask_lines}
-use Rattle.lvl_why.specs.declared.borders.Borders.{Borders}
 use Rattle.lvl_why.specs.declared.why.NamedStep.{NamedStep}
 use Rattle.lvl_why.specs.declared.why.Why.{Why}
 use Rattle.lvl_witness.specs.declared.witness.PlacedRing.{PlacedRing}
@@ -105,17 +104,17 @@ ring_text p =
     ++ of_all p.ring p.rings ++ codes " on layer " ++ decimal p.layer.layer ++ codes " datatype "
     ++ decimal p.layer.datatype
 
--- the least and the greatest coordinates of a ring
-abbrev pub borders_text : Borders → List ℕ
-borders_text b =
-    codes ", box " ++ signed_decimal b.x0 ++ codes " " ++ signed_decimal b.y0 ++ codes " " ++ signed_decimal b.x1
-    ++ codes " " ++ signed_decimal b.y1
+-- the box of a ring: its least and its greatest coordinates
+abbrev pub box_text : PlacedRing → List ℕ
+box_text p =
+    codes ", box " ++ signed_decimal p.low.x ++ codes " " ++ signed_decimal p.low.y ++ codes " "
+    ++ signed_decimal p.high.x ++ codes " " ++ signed_decimal p.high.y
 
 -- why a top covers a square: the top, a line for each reference of the chain, and the ring
 abbrev pub why_text : Why → List ℕ
 why_text w =
     line (codes "why: cell" ++ spaced w.top.items) ++ flat_map step_line w.steps.items
-    ++ line (ring_text w.ring ++ borders_text w.borders)
+    ++ line (ring_text w.ring ++ box_text w.ring)
 
 -- the lines of a reason, if there is one
 abbrev pub reason_text : Option Why → List ℕ

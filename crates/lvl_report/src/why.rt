@@ -1,10 +1,10 @@
 //! The text of a reason: the chain of references and the ring that covers a square.
 ghost use Rattle.std.specs.Prelude.{◌≡◌, ◌++◌, flat_map, OnOk, IfOk};
-ghost use Rattle.lvl_report.specs.Texts.{borders_text, comparison_of, flip_text, map_text, of_all, reason_text};
+ghost use Rattle.lvl_report.specs.Texts.{box_text, comparison_of, flip_text, map_text, of_all, reason_text};
 ghost use Rattle.lvl_report.specs.Texts.{ring_text, step_line, text_of, turn_text, why_of, why_text};
 
 use crate::text::push_answer;
-use lvl::{Borders, Comparison, Explained, NamedStep, PlacedRing, Refusal, Why};
+use lvl::{Comparison, Explained, NamedStep, PlacedRing, Refusal, Why};
 use lvl_grid::{Map, Turn};
 use lvl_names::Layer;
 use lvl_text::push_name;
@@ -88,11 +88,12 @@ fn push_ring(text: &mut Vec<u8>, ring: &PlacedRing) -> io::Result<()>
     write!(text, " on layer {layer} datatype {datatype}")
 }
 
-/// Appends the least and the greatest coordinates of a ring.
-fn push_borders(text: &mut Vec<u8>, borders: &Borders) -> io::Result<()>
-    ensures { OnOk result (text.new.items ≡ text.old.items ++ borders_text borders.now) }
+/// Appends the box of a ring.
+fn push_box(text: &mut Vec<u8>, ring: &PlacedRing) -> io::Result<()>
+    ensures { OnOk result (text.new.items ≡ text.old.items ++ box_text ring.now) }
 {
-    let Borders { x0, y0, x1, y1 } = *borders;
+    let (x0, y0) = (ring.low.x, ring.low.y);
+    let (x1, y1) = (ring.high.x, ring.high.y);
     write!(text, ", box {x0} {y0} {x1} {y1}")
 }
 
@@ -105,7 +106,7 @@ fn push_why(text: &mut Vec<u8>, why: &Why) -> io::Result<()>
     writeln!(text)?;
     push_steps(text, &why.steps)?;
     push_ring(text, &why.ring)?;
-    push_borders(text, &why.borders)?;
+    push_box(text, &why.ring)?;
     writeln!(text)
 }
 

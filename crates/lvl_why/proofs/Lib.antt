@@ -1,2 +1,1 @@
-pub mod Widening
 pub mod Leading

@@ -2,16 +2,15 @@
 ghost use Rattle.std.specs.Prelude.{◌≡◌, ◌<◌, length, map, All, IfOk, IfSome, IfNone};
 ghost use Rattle.lvl_flat.specs.Flattened.{TopCovers};
 ghost use Rattle.lvl_why.specs.Whys.{IsNamed, IsNamedStep, IsWhy};
-ghost use Rattle.lvl_why.specs.inside.Widening.{AreBordersOf, IsPlacedRing, IsWithin, last_index};
+ghost use Rattle.lvl_why.specs.inside.Steps.{IsWithin};
 ghost use Rattle.lvl_witness.specs.Witnesses.{IsWitness};
 
-use crate::borders::{Borders, borders_of};
 use crate::why::{NamedStep, Why};
-use lvl_cells::{Checked, Shapes};
+use lvl_cells::Checked;
 use lvl_flat::Fitted;
 use lvl_grid::Square;
 use lvl_names::Layer;
-use lvl_witness::{PlacedRing, Step, Witness, find_witness};
+use lvl_witness::{Step, Witness, find_witness};
 use std::alloc::{AllocError, Global};
 
 /// The name of the cell at an index.
@@ -36,28 +35,7 @@ fn named(alloc: Global, checked: &Checked, steps: &[Step]) -> Result<Vec<NamedSt
     Ok(named)
 }
 
-/// The borders of a ring of some shapes.
-fn borders_in(shapes: &Shapes, placed: &PlacedRing) -> Borders
-    requires { IsPlacedRing shapes.now placed.now }
-    ensures { AreBordersOf shapes.now placed.now result }
-{
-    let Some(shift) = shapes.shift(placed.shape, placed.place) else {
-        unreachable!()
-    };
-    borders_of(&shapes.ring(placed.shape, placed.ring), shift)
-}
-
-/// The index of the cell to which a chain leads.
-fn last_cell(top: usize, steps: &[Step]) -> usize
-    ensures { result ≡ last_index top steps.now }
-{
-    match steps.last() {
-        Some(step) => step.cell,
-        None => top,
-    }
-}
-
-/// The witness with the names of the cells and the borders of the ring.
+/// The witness with the names of the cells.
 fn described(
     alloc: Global,
     fitted: &Fitted,
@@ -71,13 +49,10 @@ fn described(
     let checked = fitted.checked();
     let top = name_of(alloc, checked, checked.top())?;
     let steps = named(alloc, checked, &witness.steps)?;
-    let cell = last_cell(checked.top(), &witness.steps);
-    let borders = borders_in(&checked.cell(cell).shapes, &witness.ring);
     Ok(Why {
         top,
         steps,
         ring: witness.ring,
-        borders,
     })
 }
 

@@ -1,6 +1,5 @@
 //! What is said of a square that a top covers.
 
-use crate::borders::Borders;
 use lvl_witness::{PlacedRing, Step};
 
 /// A reference of a chain, and the name of the cell that it places.
@@ -17,6 +16,4 @@ pub struct Why {
     pub top: Vec<u8>,
     pub steps: Vec<NamedStep>,
     pub ring: PlacedRing,
-    /// The borders of the ring at its place, in the coordinates of its cell.
-    pub borders: Borders,
 }

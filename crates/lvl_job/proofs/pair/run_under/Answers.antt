@@ -1,4 +1,4 @@
-use Rattle.lvl_job.proofs.job.run_under.Goals as goal
+use Rattle.lvl_job.proofs.pair.run_under.Goals as goal
 
 pub returns-in-Some-clause-written : goal.returns-in-Some-clause-written
 returns-in-Some-clause-written g c = rw c.in-Some.is c.run_view_by.ensures.written

@@ -1,5 +1,5 @@
 use Rattle.lvl_job.proofs.Doing.{of_two, pair_fault}
-use Rattle.lvl_job.proofs.job.compare.Goals as goal
+use Rattle.lvl_job.proofs.pair.compare.Goals as goal
 
 pub returns-in-Ok-clause-answered : goal.returns-in-Ok-clause-answered
 returns-in-Ok-clause-answered g c =
