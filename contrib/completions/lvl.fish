@@ -6,6 +6,9 @@ complete -c lvl -n "__fish_seen_subcommand_from compare" -l top-b -x -d "The sec
 complete -c lvl -n "__fish_seen_subcommand_from compare" -l map -x -d "Layers of the second layout"
 complete -c lvl -n "__fish_seen_subcommand_from compare" -l window -x -d "The only squares to be compared"
 complete -c lvl -n "__fish_seen_subcommand_from show digest" -l top -x -d "The layout's top cell"
+complete -c lvl -n "__fish_seen_subcommand_from digest" -l list -d "A line for each layout"
+complete -c lvl -n "__fish_seen_subcommand_from digest" -l check -d "Checks a list"
+complete -c lvl -n "__fish_seen_subcommand_from digest" -l quiet -d "Only those that aren't the same"
 complete -c lvl -n "__fish_seen_subcommand_from compare show digest" -l large -d "The limits for whole chips"
 complete -c lvl -n "__fish_seen_subcommand_from compare show digest" -l ignore -x -d "Records that are ignored" \
     -a "(__fish_append , properties texts names padding all)"
