@@ -49,24 +49,34 @@ impl Files for Held {
     }
 }
 
+/// The job of words in order: two files, two tops, a map, a window and what is ignored.
+fn compare_of(alloc: Global, words: &[&str], why: bool) -> Result<Job, AllocError> {
+    let [first, second, top_a, top_b, map, window, ignore] = words else {
+        return Err(AllocError);
+    };
+    Ok(Job::Compare {
+        first: String::from_str(alloc, first)?,
+        second: String::from_str(alloc, second)?,
+        top_a: given(alloc, top_a)?,
+        top_b: given(alloc, top_b)?,
+        map: given(alloc, map)?,
+        window: given(alloc, window)?,
+        ignore: given(alloc, ignore)?,
+        large: false,
+        why,
+    })
+}
+
 /// The job of a line in order: two files, two tops, a map, a window and what is ignored, each `-` where it
-/// is none; or one file, a top and what is ignored, to be shown, or hashed after the word `digest`.
+/// is none, after the word `why` if the reason is asked for; or one file, a top and what is ignored, to be shown, or hashed after the word `digest`.
 fn job_of(alloc: Global, line: &str) -> Result<Job, AllocError> {
     let mut words = Vec::new(alloc);
     for word in line.split(' ') {
         words.push(word)?;
     }
     match words.as_slice() {
-        [first, second, top_a, top_b, map, window, ignore] => Ok(Job::Compare {
-            first: String::from_str(alloc, first)?,
-            second: String::from_str(alloc, second)?,
-            top_a: given(alloc, top_a)?,
-            top_b: given(alloc, top_b)?,
-            map: given(alloc, map)?,
-            window: given(alloc, window)?,
-            ignore: given(alloc, ignore)?,
-            large: false,
-        }),
+        ["why", words @ ..] => compare_of(alloc, words, true),
+        [_, _, _, _, _, _, _] => compare_of(alloc, words.as_slice(), false),
         [file, top, ignore] => Ok(Job::Show {
             file: String::from_str(alloc, file)?,
             top: given(alloc, top)?,
@@ -110,8 +120,12 @@ const NAME_TOP: &str = "lvl: several cells could be the top: name one by --top\n
 /// What is said of a bad word.
 const BAD_IGNORE: &str = "lvl: bad ignore 1 IgnoreText\n";
 
+/// Why `square` alone covers a square.
+const WHY_SQUARE: &str =
+    "why: shape 1 of 1, place 1 of 1, ring 1 of 1 on layer 1 datatype 0, box 0 0 10 10\n";
+
 /// A job, how many files are asked for, the last line of what it writes, what it says, and its status.
-static ROWS: [(&str, u8, &str, &str, u8); 33] = [
+static ROWS: [(&str, u8, &str, &str, u8); 36] = [
     ("square square - - - - -", 2, "same\n", "", 0),
     ("square two - A - - -", 2, "same\n", "", 0),
     (
@@ -128,6 +142,9 @@ static ROWS: [(&str, u8, &str, &str, u8); 33] = [
         "",
         1,
     ),
+    ("why square two - A - - -", 2, "same\n", "", 0),
+    ("why square two - B - - -", 2, WHY_SQUARE, "", 1),
+    ("why two square B - - - -", 2, WHY_SQUARE, "", 1),
     (
         "square two - B 2/0=1/0 - -",
         2,

@@ -23,6 +23,8 @@ enum Asks<'a> {
     Check(&'a str, bool, Option<&'a str>, Option<&'a str>),
     /// The limits for whole chips, and anything else.
     Large,
+    /// The reason of a difference, and anything else.
+    Why,
     Nothing(ErrorKind),
 }
 
@@ -88,6 +90,7 @@ fn is_asked(asks: Asks<'_>, answer: &Result<Job, LineFault>) -> bool {
                     window,
                     ignore,
                     large: false,
+                    why: false,
                 },
             ),
         ) => {
@@ -111,6 +114,7 @@ fn is_asked(asks: Asks<'_>, answer: &Result<Job, LineFault>) -> bool {
                     window,
                     ignore,
                     large: false,
+                    why: false,
                 },
             ),
         ) => {
@@ -154,6 +158,7 @@ fn is_asked(asks: Asks<'_>, answer: &Result<Job, LineFault>) -> bool {
                 | Job::Check { large, .. },
             ),
         ) => *large,
+        (Asks::Why, Ok(Job::Compare { why, .. })) => *why,
         (Asks::List(..) | Asks::Check(..), Ok(job)) => is_on_list(asks, job),
         (Asks::Nothing(kind), Err(LineFault::Words(error))) => error.kind() == kind,
         _ => false,
@@ -241,6 +246,7 @@ static LINES: [(&str, Asks<'static>); 54] = [
     ("lvl digest a", Asks::Digest("a", None, None)),
     ("lvl digest --top X a", Asks::Digest("a", Some("X"), None)),
     ("lvl compare a --large b --ignore all", Asks::Large),
+    ("lvl compare a --why b", Asks::Why),
     ("lvl show --large a", Asks::Large),
     ("lvl digest a --top X --large", Asks::Large),
     (

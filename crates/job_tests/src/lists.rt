@@ -89,6 +89,18 @@ fn one_list(rt: HostRuntime) -> Result<(), Fail> {
 }
 
 #[test]
+fn two_files(rt: HostRuntime) -> Result<(), Fail> {
+    let alloc = rt.alloc();
+    let mut text = Vec::new(alloc);
+    push_line(&mut text, DIGITS, b"a.gds")?;
+    push_line(&mut text, DIGITS, b"b.oas")?;
+    let entries = read_list(alloc, &text)?;
+    assert_eq!(rt; entries.len(), 2);
+    assert_eq!(rt; entries[1].name.as_str(), "b.oas");
+    Ok(())
+}
+
+#[test]
 fn names_are_written(rt: HostRuntime) -> Result<(), Fail> {
     for (name, text) in &NAMES {
         let mut written = Vec::new(rt.alloc());

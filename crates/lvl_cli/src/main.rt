@@ -3,11 +3,14 @@
 //!     lvl compare A B [--top-a NAME] [--top-b NAME] [--map PAIRS] [--window RANGES] [--ignore WORDS] [--large]
 //!     lvl show A [--top NAME] [--ignore WORDS] [--large]
 //!     lvl digest A [--top NAME] [--ignore WORDS] [--large]
+//!     lvl digest --list A.. [--top NAME] [--ignore WORDS] [--large]
+//!     lvl digest --check [--quiet] LIST [--top NAME] [--ignore WORDS] [--large]
 //!
 //! The exit status is 0 if both layouts draw the same mask, or if one was shown or hashed; 1 if
 //! they differ; 2 if a file is refused or can't be opened, or for out of memory; 3 if the command
-//! line, a map, a window or the text of `--ignore` is invalid, for help, or if memory runs out
-//! while the command line is read; and 4 if the output failed.
+//! line, a map, a window, the text of `--ignore` or a line of a list is invalid, for help, or if
+//! memory runs out while the command line is read; and 4 if the output failed. Of several files it
+//! is the greatest.
 #![tactic(auto)]
 
 use lvl_io::{Counted, Failure};

@@ -114,7 +114,9 @@ module _ {S : Type 0} (opens : S → List ℕ → Option (Option (List ℕ)) →
           bytes = read.bytes;
           new = mid;
           entries = entries;
+          errors = read.errors;
           opened = read.opened;
+          reads = read.reads;
           listed = read.listed;
           holds = h;
         };
@@ -126,7 +128,9 @@ module _ {S : Type 0} (opens : S → List ℕ → Option (Option (List ℕ)) →
           bytes = read.bytes;
           new = mid;
           entries = entries;
+          errors = read.errors;
           opened = read.opened;
+          reads = read.reads;
           listed = read.listed;
           holds = h;
         };
@@ -152,7 +156,9 @@ module _ {S : Type 0} (opens : S → List ℕ → Option (Option (List ℕ)) →
             bytes = read.bytes;
             new = mid;
             entries = entries;
+            errors = read.errors;
             opened = read.opened;
+            reads = read.reads;
             listed = read.listed;
             holds = h.checked;
           };

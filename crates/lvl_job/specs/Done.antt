@@ -74,13 +74,16 @@ pub record IsListDone {S : Type 0} (opens : S → List ℕ → Option (Option (L
 
 -- ---- `--check`
 
--- the file of the list was opened, and Holds is true of its bytes; if they are known, they are a list of these entries
+-- the file of the list was opened and no read of it failed; if its bytes are known, they are a list of these entries, and
+-- Holds is true of the entries
 pub record OfList {S : Type 0} (opens : S → List ℕ → Option (Option (List ℕ)) → S → Type 0) (list : List ℕ) (old : S)
     (Holds : S → List Entry → Type 0) : Type 0 where
   pub bytes : Option (List ℕ)
   pub new : S
   pub entries : List Entry
+  pub errors : ℕ
   pub opened : opens old list (Some bytes) new
+  pub reads : CountsFailure 0 errors false
   pub listed : (xs : List ℕ) → bytes ≡ Some xs → IsList xs entries
   pub holds : Holds new entries
 
@@ -94,11 +97,14 @@ pub record IsChecked {S : Type 0} (opens : S → List ℕ → Option (Option (Li
   pub said_is : said ≡ summary_text (count_unlike done) (length entries)
   pub ends : outcome ≡ ended_with (worst_checked done)
 
--- the file of the list was opened, and Holds is true of its bytes if they are known; no other file was opened
+-- the file of the list was opened, and no other file; `failed` says whether a read of it failed, and Holds is true of its
+-- bytes, if they are known
 pub record IsListOpened {S : Type 0} (opens : S → List ℕ → Option (Option (List ℕ)) → S → Type 0) (list : List ℕ)
-    (old new : S) (Holds : List ℕ → Type 0) : Type 0 where
+    (old new : S) (failed : Bool) (Holds : List ℕ → Type 0) : Type 0 where
   pub bytes : Option (List ℕ)
+  pub errors : ℕ
   pub opened : opens old list (Some bytes) new
+  pub reads : CountsFailure 0 errors failed
   pub holds : (xs : List ℕ) → bytes ≡ Some xs → Holds xs
 
 -- why not all files of a list were checked. BadLine, LongList, UnreadList: only the file of the list was opened.
@@ -111,12 +117,12 @@ IsCheckFault opens list quiet top ignored large old new from to said (BadIgnore 
 IsCheckFault opens list quiet top ignored large old new from to said (NotOpened name) =
     (string_bytes name ≡ list) × opens old list None new × Keeps from to × (said ≡ [])
 IsCheckFault opens list quiet top ignored large old new from to said (UnreadList name) =
-    (string_bytes name ≡ list) × IsListOpened opens list old new (λ xs. ⊤) × Keeps from to × (said ≡ [])
+    (string_bytes name ≡ list) × IsListOpened opens list old new true (λ xs. ⊤) × Keeps from to × (said ≡ [])
 IsCheckFault opens list quiet top ignored large old new from to said (LongList name) =
     (string_bytes name ≡ list) × UnderProfile ignored large (λ profile.
-    IsListOpened opens list old new (λ xs. profile.limits.file < length xs)) × Keeps from to × (said ≡ [])
+    IsListOpened opens list old new false (λ xs. profile.limits.file < length xs)) × Keeps from to × (said ≡ [])
 IsCheckFault opens list quiet top ignored large old new from to said (BadLine name n) =
-    (string_bytes name ≡ list) × IsListOpened opens list old new (λ xs. IsBadLine xs n) × Keeps from to × (said ≡ [])
+    (string_bytes name ≡ list) × IsListOpened opens list old new false (λ xs. IsBadLine xs n) × Keeps from to × (said ≡ [])
 IsCheckFault opens list quiet top ignored large old new from to said OutOfMemory = (Keeps from to × (said ≡ [])) ⊎
     UnderProfile ignored large (λ profile. OfList opens list old (λ between entries.
     IsPart opens (file_of_entry profile top) (checked_text quiet) no_note entries between from to said))

@@ -5,6 +5,9 @@
 //! [`code_of`] gives the exit status for its result. [`do_line`] does both for the words of a
 //! command line.
 //!
+//! A job has one answer, on one file or two, or is on several files: it lists their digests, or checks them against
+//! a list. Files of a list are opened, hashed and closed one after another.
+//!
 //! `Held` has one file, `square`, which draws one square:
 //!
 //! ```

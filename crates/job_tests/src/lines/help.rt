@@ -35,6 +35,7 @@ Options:
       --window <RANGES>  The only squares to be compared, in grid steps: x=0..100,y=-50..50
       --ignore <WORDS>   Records to read and ignore: properties, texts, names, padding or all, joined by commas
       --large            Takes the limits for whole chips
+      --why              Of a difference, says which references lead to which shape
   -h, --help             Print help
 ";
 

@@ -1,7 +1,8 @@
 -- What the loops over the files of a list return.
-use Rattle.std.specs.Prelude.{◌≡◌, ◌++◌, ◌<◌, ⊤, ℕ, Bool, List, [], length, Option, Some, None, Result, Ok, Err, IfOk, IfErr}
+use Rattle.std.specs.Prelude.{◌≡◌, ◌++◌, ◌<◌, ⊤, ℕ, Bool, true, false, List, [], length, Option, Some, None, Result, Ok, Err, IfOk, IfErr}
 use Rattle.std.specs.Prelude.{String, string_bytes}
 use Rattle.std.specs.Global.{Global}
+use Rattle.lvl_io.specs.Bytes.{CountsFailure}
 use Rattle.lvl_list.specs.List.{IsBadLine, IsList}
 use Rattle.lvl_list.specs.declared.entry.Entry.{Entry}
 use Rattle.lvl_profile.specs.declared.profile.Profile.{Profile}
@@ -73,11 +74,13 @@ pub record IsChecking {S : Type 0} (opens : S → List ℕ → Option (Option (L
   pub fault : IfErr r
       (IsLoopFault opens (file_of_entry profile top) (checked_text quiet) no_note entries old new from to [])
 
--- the file of the list was opened; if its bytes are known, they are a list of these entries
+-- the file of the list was opened and no read of it failed; if its bytes are known, they are a list of these entries
 pub record IsEntries {S : Type 0} (opens : S → List ℕ → Option (Option (List ℕ)) → S → Type 0) (list : List ℕ)
     (old new : S) (entries : List Entry) : Type 0 where
   pub bytes : Option (List ℕ)
+  pub errors : ℕ
   pub opened : opens old list (Some bytes) new
+  pub reads : CountsFailure 0 errors false
   pub listed : (xs : List ℕ) → bytes ≡ Some xs → IsList xs entries
 
 -- why a list has no entries
@@ -85,10 +88,10 @@ abbrev pub IsNoEntries : {S : Type 0} → (S → List ℕ → Option (Option (Li
     → JobFault → Type 0
 IsNoEntries opens list limit old new (NotOpened name) = (string_bytes name ≡ list) × opens old list None new
 IsNoEntries opens list limit old new (UnreadList name) =
-    (string_bytes name ≡ list) × IsListOpened opens list old new (λ xs. ⊤)
+    (string_bytes name ≡ list) × IsListOpened opens list old new true (λ xs. ⊤)
 IsNoEntries opens list limit old new (LongList name) =
-    (string_bytes name ≡ list) × IsListOpened opens list old new (λ xs. limit < length xs)
+    (string_bytes name ≡ list) × IsListOpened opens list old new false (λ xs. limit < length xs)
 IsNoEntries opens list limit old new (BadLine name n) =
-    (string_bytes name ≡ list) × IsListOpened opens list old new (λ xs. IsBadLine xs n)
+    (string_bytes name ≡ list) × IsListOpened opens list old new false (λ xs. IsBadLine xs n)
 IsNoEntries opens list limit old new OutOfMemory = ⊤
 IsNoEntries opens list limit old new fault = ⊥
