@@ -1,5 +1,5 @@
 -- The cells that the steps of a chain place.
-use Rattle.std.proofs.Common.{◌≡◌, ◌∙◌, ◌<◌, ◌-◌, ◌⊎◌, ⊎_elim, inl, inr, ℕ, zero, suc, List, [], length, slice_get}
+use Rattle.std.proofs.Common.{◌≡◌, ◌∙◌, ◌<◌, ◌⊎◌, ⊎_elim, inl, inr, ℕ, zero, suc, List, length, slice_get}
 use Rattle.std.proofs.Common.{get_or, Some, All, refl, sym, subst, ap, arith}
 use Rattle.std.proofs.lemmas.Option.{slice_get-get_or, slice_get_within}
 use Rattle.lvl_grid.specs.declared.map.Map.{Map}

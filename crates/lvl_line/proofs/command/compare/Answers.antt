@@ -1,7 +1,7 @@
 use Rattle.std.proofs.Common.{◌≡◌, ◌∙◌, ap₂, codes}
 use Rattle.std.proofs.lemmas.Result.{IfOk-weaker}
 use Rattle.clap.specs.Words.{App, app_of, with_rule}
-use Rattle.lvl_line.specs.Line.{option_rule}
+use Rattle.lvl_line.specs.Line.{flag_rule, option_rule}
 use Rattle.lvl_line.specs.inside.Begun.{tops_app}
 use Rattle.lvl_line.proofs.command.compare.Goals as goal
 
@@ -14,6 +14,9 @@ with_window = with_rule with_map (option_rule (codes "window"))
 abbrev with_ignore : App
 with_ignore = with_rule with_window (option_rule (codes "ignore"))
 
+abbrev with_large : App
+with_large = with_rule with_ignore (flag_rule (codes "large"))
+
 pub returns : goal.returns
 returns c =
     let layers : app_of c.in_ok-arg.field-0 ≡ with_map =
@@ -23,5 +26,7 @@ returns c =
     c.in_ok-arg-2.ensures.shape c.option-2.ensures.local ∙ ap₂ with_rule layers c.option-2.ensures.rule in
     let ignored : app_of c.in_ok-arg-3.field-0 ≡ with_ignore =
     c.in_ok-arg-3.ensures.shape c.option-3.ensures.local ∙ ap₂ with_rule window c.option-3.ensures.rule in
-    IfOk-weaker c.arg-4.result _ _
-    (λ r h. h.shape c.flag.ensures.local ∙ ap₂ with_rule ignored c.flag.ensures.rule) c.arg-4.ensures
+    let large : app_of c.in_ok-arg-4.field-0 ≡ with_large =
+    c.in_ok-arg-4.ensures.shape c.flag.ensures.local ∙ ap₂ with_rule ignored c.flag.ensures.rule in
+    IfOk-weaker c.arg-5.result _ _
+    (λ r h. h.shape c.flag-2.ensures.local ∙ ap₂ with_rule large c.flag-2.ensures.rule) c.arg-5.ensures

@@ -2,7 +2,7 @@ use Rattle.std.proofs.Common.{◌≡◌, ◌∙◌, List, length, map, All, sym,
 use Rattle.lvl_cells.specs.Checks.{Settled}
 use Rattle.lvl_witness.specs.Witnesses.{Leads}
 use Rattle.lvl_witness.specs.declared.witness.Step.{Step}
-use Rattle.lvl_why.specs.Whys.{IsNamed, IsNamedStep, IsWhy}
+use Rattle.lvl_why.specs.Whys.{IsNamed, IsNamedStep}
 use Rattle.lvl_why.specs.inside.Steps.{IsWithin}
 use Rattle.lvl_why.proofs.Leading.{steps_within}
 use Rattle.lvl_why.proofs.finding.described.Goals as goal
