@@ -149,8 +149,8 @@ first_fault a b s t first second (FlatRefusal First f) h =
 first_fault a b s t first second (FlatRefusal Second f) h = cc
 first_fault a b s t first second OutOfMemory h = tt
 
-pub first_reported : (a b : Kept) (s t : Settled) → IsCheckedAs a s → IsCheckedAs b t → (e : Refusal)
-    → IsFlattenRefusal First s e → (res : Result Verdict Refusal) → IsErr res × IsErrAnd res (λ r. r ≡ e)
+pub first_reported : {X : Type 0} (a b : Kept) (s t : Settled) → IsCheckedAs a s → IsCheckedAs b t → (e : Refusal)
+    → IsFlattenRefusal First s e → (res : Result X Refusal) → IsErr res × IsErrAnd res (λ r. r ≡ e)
     → IfErr res (IsKeptRefusal a b)
 first_reported a b s t first second e h (Ok v) is = tt
 first_reported a b s t first second e h (Err r) is =
@@ -166,8 +166,8 @@ second_fault a b s t first checked (FlatRefusal Second f) h =
     ((s, first), record { settled = t; checked = checked; reported = h.1 })
 second_fault a b s t first checked OutOfMemory h = tt
 
-pub second_reported : (a b : Kept) (s u t : Settled) → IsCheckedAs a s → u ≡ s → IsTopInRange u → IsCheckedAs b t
-    → (e : Refusal) → IsFlattenRefusal Second t e → (res : Result Verdict Refusal)
+pub second_reported : {X : Type 0} (a b : Kept) (s u t : Settled) → IsCheckedAs a s → u ≡ s → IsTopInRange u → IsCheckedAs b t
+    → (e : Refusal) → IsFlattenRefusal Second t e → (res : Result X Refusal)
     → IsErr res × IsErrAnd res (λ r. r ≡ e)
     → IfErr res (IsKeptRefusal a b)
 second_reported a b s u t first same in' second e h (Ok v) is = tt

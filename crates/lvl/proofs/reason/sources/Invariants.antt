@@ -7,6 +7,6 @@ use Rattle.lvl.proofs.reason.sources.Given as goal
 abbrev pub invariant-loop-source : goal.invariant-loop-source
 invariant-loop-source l = record {
   counted : All (λ s. target_of l.view.pairs s ≡ l.layer) l.layers.items;
-  held : (k : ℕ) (s : Layer) → k < l.source-index → slice_get l.listed.items k ≡ Some s
+  held : (k : ℕ) (s : Layer) → k < l.source-index → slice_get l.source-items k ≡ Some s
       → target_of l.view.pairs s ≡ l.layer → Contains l.layers.items s;
 }
