@@ -1,5 +1,5 @@
 -- What a run wrote, by its answer.
-use Rattle.std.proofs.Common.{◌≡◌, ℕ, List, Option, Result, Ok, Err, IfOk, OnOk, OnErr, ap}
+use Rattle.std.proofs.Common.{◌≡◌, ℕ, List, Option, Result, Ok, Err, IfOk, OnOk, OnErr, ap, subst}
 use Rattle.std.specs.Io.KnownBytes.{Appends}
 use Rattle.lvl_profile.specs.declared.profile.Profile.{Profile}
 use Rattle.lvl_report.specs.declared.status.RunFault.{RunFault}
@@ -36,6 +36,22 @@ was_begun Allowed text old new answer (Err fault) allowed begun = record {
   allowed = allowed;
   begun = begun;
 }
+
+-- the same for a text that is known in another form
+pub other_was_written : {X T : Type 0} (Allowed : X → Type 0) (text : X → List ℕ) (Ends : X → T → Type 0)
+    (old new : Option (List ℕ)) (answer : X) (r : Result T RunFault) (said : List ℕ) → said ≡ text answer
+    → Allowed answer → OnOk r (Appends old new said) → IfOk r (Ends answer)
+    → IfOk r (IsWritten Allowed text Ends old new)
+other_was_written Allowed text Ends old new answer r said is allowed whole ends =
+    was_written Allowed text Ends old new answer r allowed
+    (subst (λ t. OnOk r (Appends old new t)) is whole) ends
+
+pub other_was_begun : {X T : Type 0} (Allowed : X → Type 0) (text : X → List ℕ) (old new : Option (List ℕ)) (answer : X)
+    (r : Result T RunFault) (said : List ℕ) → said ≡ text answer → Allowed answer
+    → OnErr r (AppendsBeginning old new said) → OnErr r (IsBegun Allowed text old new)
+other_was_begun Allowed text old new answer r said is allowed begun =
+    was_begun Allowed text old new answer r allowed
+    (subst (λ t. OnErr r (AppendsBeginning old new t)) is begun)
 
 -- what is written of an answer that one set allows is allowed by a larger one
 pub written_as : {X T : Type 0} {Allowed Others : X → Type 0} (text : X → List ℕ) (Ends : X → T → Type 0)
