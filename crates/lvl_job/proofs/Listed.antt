@@ -1,5 +1,5 @@
 -- What a job on several files did, by what its loop did.
-use Rattle.std.proofs.Common.{◌≡◌, ◌∙◌, ◌++◌, ℕ, Bool, List, [], length, Option, Result, Ok, Err, refl, sym, ap, subst, inl, inr}
+use Rattle.std.proofs.Common.{◌≡◌, ◌∙◌, ℕ, Bool, List, [], length, Option, Result, Ok, Err, refl, sym, ap, subst, inl, inr}
 use Rattle.std.proofs.Common.{option_map, true}
 use Rattle.std.proofs.lemmas.List.{append-nil}
 use Rattle.std.specs.Global.{Global}

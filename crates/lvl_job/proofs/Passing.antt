@@ -1,17 +1,16 @@
 -- Files that are hashed one after another.
-use Rattle.std.proofs.Common.{◌≡◌, ◌∙◌, ◌+◌, ◌<◌, ◌≤◌, ◌++◌, ℕ, Bool, cond, List, [], ◌∷◌, Option, Result, Ok, Err, refl, sym, ap, subst}
-use Rattle.std.proofs.Common.{map, flat_map, take, drop, length, get_or, append_assoc, suc, arith}
-use Rattle.std.specs.Io.KnownBytes.{Appends, Keeps}
+use Rattle.std.proofs.Common.{◌≡◌, ◌∙◌, ◌+◌, ◌<◌, ◌≤◌, ◌++◌, ℕ, List, [], ◌∷◌, Option, Err, refl, sym, ap, subst}
+use Rattle.std.proofs.Common.{take, drop, length, get_or, suc, arith}
+use Rattle.std.specs.Io.KnownBytes.{Appends}
 use Rattle.std.proofs.KnownBytes.{Appends-kept, Appends-trans}
-use Rattle.std.proofs.lemmas.List.{append-nil, map-append, take-append-drop, take_more}
+use Rattle.std.proofs.lemmas.List.{append-nil, map-append, take_more}
 use Rattle.std.proofs.lemmas.Grind.{flat_map-append}
 use Rattle.std.proofs.Math.Seq.{split_at, take-length}
-use Rattle.lvl_report.specs.Writing.{AppendsBeginning}
 use Rattle.lvl_report.specs.declared.status.Status.{Status}
 use Rattle.lvl_job.specs.declared.fault.JobFault.{JobFault}
 use Rattle.lvl_job.specs.declared.fault.JobFault.TheVariants.{BadView, BadIgnore, NotOpened, OutOfMemory, Output}
 use Rattle.lvl_job.specs.declared.fault.JobFault.TheVariants.{BadLine, LongList, UnreadList}
-use Rattle.lvl_job.specs.Hashing.{AreHashed, Hash, IsHashed, IsPart, IsPass, IsStopped, items_of, texts_of}
+use Rattle.lvl_job.specs.Hashing.{AreHashed, Hash, IsHashed, IsPass, items_of, texts_of}
 use Rattle.lvl_job.specs.Jobs.{Named}
 use Rattle.lvl_job.specs.Listing.{no_note, worse, worst}
 use Rattle.lvl_list.specs.declared.entry.Entry.{Entry}

@@ -1,7 +1,7 @@
 -- The parts of a line, and where it ends.
-use Rattle.std.proofs.Common.{◌≡◌, ◌==◌, ◌∙◌, ◌&&◌, ◌||◌, ◌+◌, ◌≤◌, ℕ, Bool, true, false, cond, not, refl, sym, ap, subst, List, suc}
+use Rattle.std.proofs.Common.{◌≡◌, ◌==◌, ◌∙◌, ◌||◌, ◌+◌, ◌≤◌, ℕ, Bool, true, false, cond, not, refl, sym, ap, subst, List, suc}
 use Rattle.std.proofs.Common.{eqb-true, length-append}
-use Rattle.std.proofs.Common.{[], ◌∷◌, ◌++◌, length, take, drop, arith, append_assoc, get_or, flat_map, Option, Some, None}
+use Rattle.std.proofs.Common.{[], ◌∷◌, ◌++◌, length, take, drop, arith, append_assoc, get_or, Some}
 use Rattle.std.specs.Prelude.{nat_lt, string_bytes}
 use Rattle.std.specs.List.{list_all, list_any, position, position_or_len}
 use Rattle.std.proofs.lemmas.Bool.{and_parts}

@@ -1,5 +1,5 @@
 -- Why the text of a list isn't read.
-use Rattle.std.specs.Prelude.{◌≡◌, ◌<◌, ⊤, ℕ, Bool, true, false, List, length, Option, Some, Result, Ok, Err}
+use Rattle.std.specs.Prelude.{◌≡◌, ◌<◌, ⊤, ℕ, Bool, true, false, List, length, Option, Some, Result, Err}
 use Rattle.lvl_list.specs.declared.text.TextFault.{TextFault}
 use Rattle.lvl_list.specs.declared.text.TextFault.TheVariants.{TooLong, Read, OutOfMemory}
 

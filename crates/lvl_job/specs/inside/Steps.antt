@@ -1,5 +1,5 @@
 -- What the steps of a job on a list return.
-use Rattle.std.specs.Prelude.{◌≡◌, ◌++◌, ⊤, ℕ, true, false, List, Option, Result, Ok, Err, MatchResult}
+use Rattle.std.specs.Prelude.{◌≡◌, ◌++◌, ℕ, true, false, List, Option, Result, Ok, Err, MatchResult}
 use Rattle.std.specs.Io.KnownBytes.{Appends, Keeps}
 use Rattle.lvl_io.specs.Bytes.{CountsFailure}
 use Rattle.lvl_io.specs.declared.Failure.{Failure}

@@ -1,4 +1,4 @@
-use Rattle.std.proofs.Common.{◌∙◌, ◌++◌, [], ◌∷◌, drop, suc, refl, sym, ap, ap₂, subst, take}
+use Rattle.std.proofs.Common.{◌∙◌, ◌++◌, [], ◌∷◌, drop, suc, refl, sym, ap, ap₂, subst}
 use Rattle.std.specs.Prelude.{option_copied}
 use Rattle.std.proofs.KnownBytes.{Appends-nil}
 use Rattle.lvl_report.specs.declared.status.Status.TheVariants.{Shown}

@@ -1,10 +1,9 @@
-use Rattle.std.proofs.Common.{◌≡◌, ◌∙◌, sym, ap, Some, None, List, Option, map, true, is_some, option_map}
+use Rattle.std.proofs.Common.{◌≡◌, ◌∙◌, sym, ap, Some, None, Option, true, is_some, option_map}
 use Rattle.std.specs.Prelude.{slice_get, option_and_then}
-use Rattle.std.specs.String.{string_bytes}
 use Rattle.std.specs.List.{find}
 use Rattle.std.specs.Str.{bytes_eq}
-use Rattle.clap.specs.Walk.{Row, Text}
-use Rattle.clap.specs.Words.{all_of, first_of, found_of, rows_of}
+use Rattle.clap.specs.Walk.{Row}
+use Rattle.clap.specs.Words.{all_of, found_of, rows_of}
 use Rattle.clap.proofs.WalkLemmas.{raw_values-rows}
 use Rattle.std.proofs.lemmas.Result.{IfOk-weaker}
 use Rattle.lvl_line.proofs.parse.files_of.Goals as goal

@@ -1,5 +1,5 @@
 use Rattle.std.proofs.Common.{◌≡◌, ◌==◌, ◌∙◌, ◌++◌, ℕ, Bool, true, false, cond, List, [], ◌∷◌, refl, sym, ap, append_assoc}
-use Rattle.std.proofs.Common.{flat_map, length, arith, eqb-true}
+use Rattle.std.proofs.Common.{length, arith, eqb-true}
 use Rattle.std.proofs.lemmas.List.{append-nil}
 use Rattle.std.proofs.lemmas.Grind.{flat_map-append}
 use Rattle.lvl_list.specs.List.{escaped, escaped_byte}

@@ -1,8 +1,8 @@
-use Rattle.std.proofs.Common.{◌≡◌, ◌∙◌, refl, sym, ap, subst, List, ℕ, ◌++◌, ◌∷◌, Bool, true, false, not}
+use Rattle.std.proofs.Common.{◌≡◌, ◌∙◌, sym, ap, subst, Bool, true, false, not}
 use Rattle.std.specs.Prelude.{IsUtf8}
 use Rattle.std.specs.Bool.{beq}
 use Rattle.std.specs.List.{list_any}
-use Rattle.lvl_list.specs.List.{escaped, is_special, space}
+use Rattle.lvl_list.specs.List.{escaped, is_special}
 use Rattle.lvl_list.proofs.Lines.{line_parts, same_rest}
 use Rattle.lvl_list.proofs.line.read_line.Goals as goal
 

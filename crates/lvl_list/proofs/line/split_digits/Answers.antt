@@ -1,4 +1,4 @@
-use Rattle.std.proofs.Common.{◌≡◌, ◌∙◌, sym, ap, Bool, true, false}
+use Rattle.std.proofs.Common.{◌≡◌, ◌∙◌, sym, ap, true, false}
 use Rattle.lvl_list.specs.List.{is_digest}
 use Rattle.lvl_list.proofs.Lines.{cut_digits, cut_rest}
 use Rattle.lvl_list.proofs.line.split_digits.Goals as goal

@@ -1,4 +1,4 @@
-use Rattle.std.proofs.Common.{◌≡◌, ◌∙◌, sym, ap, inl, rules, ◌+◌}
+use Rattle.std.proofs.Common.{◌∙◌, sym, inl, rules, ◌+◌}
 use Rattle.std.proofs.lemmas.List.{take_rest}
 use Rattle.lvl_list.proofs.Lines.{digests_grow, first_front, first_line, list_grows, not_empty}
 use Rattle.lvl_list.proofs.list.read_list.Goals as goal
