@@ -45,12 +45,10 @@ box_moved low high e points b = record {
         below = omega (arith, ints, w.below);
         above = omega (arith, ints, w.above);
       }) points b.between);
-  reached = record {
-    left = moved_along (λ p. p.x) e e.x points low.x (λ p. refl) b.reached.left;
-    right = moved_along (λ p. p.x) e e.x points high.x (λ p. refl) b.reached.right;
-    below = moved_along (λ p. p.y) e e.y points low.y (λ p. refl) b.reached.below;
-    above = moved_along (λ p. p.y) e e.y points high.y (λ p. refl) b.reached.above;
-  };
+  left = moved_along (λ p. p.x) e e.x points low.x (λ p. refl) b.left;
+  right = moved_along (λ p. p.x) e e.x points high.x (λ p. refl) b.right;
+  below = moved_along (λ p. p.y) e e.y points low.y (λ p. refl) b.below;
+  above = moved_along (λ p. p.y) e e.y points high.y (λ p. refl) b.above;
 }
 
 -- the ring that was found, with its counts and its box

@@ -1,3 +1,4 @@
+pub mod Wide
 pub mod Boxes
 pub mod Witnesses
 pub mod inside

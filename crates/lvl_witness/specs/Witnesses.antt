@@ -10,7 +10,7 @@ use Rattle.lvl_cells.specs.Cells.{PlainCell, PlainShape, PlainReference, Rings, 
 use Rattle.lvl_cells.specs.Chains.{IsComposed, unmoved}
 use Rattle.lvl_cells.specs.Checks.{Settled}
 use Rattle.lvl_witness.specs.Boxes.{IsBoxOf}
-use Rattle.lvl_witness.specs.inside.Wide.{as_point}
+use Rattle.lvl_witness.specs.Wide.{as_point}
 use Rattle.lvl_witness.specs.declared.witness.Step.{Step}
 use Rattle.lvl_witness.specs.declared.witness.PlacedRing.{PlacedRing}
 

@@ -10,7 +10,8 @@ ghost use Rattle.lvl_cells.specs.Cells.{map_at};
 ghost use Rattle.lvl_flat.specs.Flattened.{CoversAt};
 ghost use Rattle.lvl_flat.specs.inside.Bounds.{HasSquare};
 ghost use Rattle.lvl_witness.specs.inside.Areas.{IsInArea, IsOnWay, IsSmallArea, moved_box};
-ghost use Rattle.lvl_witness.specs.inside.Wide.{as_point, as_square, IsSmall};
+ghost use Rattle.lvl_witness.specs.Wide.{as_point};
+ghost use Rattle.lvl_witness.specs.inside.Wide.{as_square, IsSmall};
 
 use crate::wide::{WidePoint, placed};
 use lvl_cells::{KeptReference, MovedRing};

@@ -4,7 +4,7 @@ ghost use Rattle.std.specs.Int.{int_max, int_min};
 ghost use Rattle.lvl_grid.specs.Turn.{shifted};
 ghost use Rattle.lvl_grid.specs.Winding.{IsRing};
 ghost use Rattle.lvl_witness.specs.Boxes.{IsBoxOf};
-ghost use Rattle.lvl_witness.specs.inside.Wide.{as_point};
+ghost use Rattle.lvl_witness.specs.Wide.{as_point};
 
 use crate::wide::WidePoint;
 use lvl_cells::MovedRing;

@@ -3,7 +3,8 @@ ghost use Rattle.std.specs.Prelude.{◌≡◌, ◌↔◌};
 ghost use Rattle.lvl_grid.specs.declared.point.Square.{Square as GridSquare};
 ghost use Rattle.lvl_grid.specs.Turn.{image, image_square, shifted, turned, reflected};
 ghost use Rattle.lvl_cells.specs.Coverage.{moved_back};
-ghost use Rattle.lvl_witness.specs.inside.Wide.{as_point, as_square, turned_back, reflected_back, IsSmall};
+ghost use Rattle.lvl_witness.specs.Wide.{as_point};
+ghost use Rattle.lvl_witness.specs.inside.Wide.{as_square, turned_back, reflected_back, IsSmall};
 ghost use Rattle.lvl_witness.specs.inside.Wide.{lesser_of, greater_of};
 
 use lvl_grid::{Map, Point, Square, Turn};

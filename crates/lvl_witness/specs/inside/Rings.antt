@@ -8,7 +8,7 @@ use Rattle.lvl_grid.specs.Placed.{IsPlaceOfCovered}
 use Rattle.lvl_names.specs.declared.layer.Layer.{Layer}
 use Rattle.lvl_cells.specs.Cells.{PlainShape, Rings, shape_at}
 use Rattle.lvl_witness.specs.Boxes.{IsBoxOf}
-use Rattle.lvl_witness.specs.inside.Wide.{as_point}
+use Rattle.lvl_witness.specs.Wide.{as_point}
 use Rattle.lvl_witness.specs.declared.witness.PlacedRing.{PlacedRing}
 use Rattle.lvl_flat.specs.inside.Drawn.{RingPlacesCover, ShapePlacesCover}
 

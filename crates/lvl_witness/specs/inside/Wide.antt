@@ -7,10 +7,6 @@ use Rattle.lvl_grid.specs.declared.map.Turn.{Turn}
 use Rattle.lvl_grid.specs.declared.map.Turn.TheVariants.{R0, R90, R180, R270}
 use Rattle.lvl_witness.specs.declared.wide.WidePoint.{WidePoint}
 
--- the point with these coordinates
-abbrev pub as_point : WidePoint → Point
-as_point s = record { x = s.x; y = s.y }
-
 -- the square with this lower left corner
 abbrev pub as_square : WidePoint → Square
 as_square s = record { x = s.x; y = s.y }

@@ -8,7 +8,8 @@ use Rattle.lvl_cells.specs.Cells.{PlainReference}
 use Rattle.lvl_flat.specs.declared.bounds.Bounds.{Bounds}
 use Rattle.lvl_flat.specs.inside.Bounds.{HasSquare}
 use Rattle.lvl_witness.specs.inside.Areas.{moved_box}
-use Rattle.lvl_witness.specs.inside.Wide.{as_point, as_square, lesser_of, greater_of}
+use Rattle.lvl_witness.specs.Wide.{as_point}
+use Rattle.lvl_witness.specs.inside.Wide.{as_square, lesser_of, greater_of}
 use Rattle.lvl_witness.proofs.Reaching.{box_of, placed_has}
 use Rattle.lvl_witness.proofs.areas.area_of_reference.Goals as goal
 

@@ -8,7 +8,8 @@ use Rattle.lvl_flat.specs.Boxes.{HoldsPoint}
 use Rattle.lvl_flat.specs.inside.Bounds.{HasSquare}
 use Rattle.lvl_flat.proofs.Outside.{ring_square}
 use Rattle.lvl_witness.specs.inside.Areas.{moved_box}
-use Rattle.lvl_witness.specs.inside.Wide.{as_point, as_square}
+use Rattle.lvl_witness.specs.Wide.{as_point}
+use Rattle.lvl_witness.specs.inside.Wide.{as_square}
 use Rattle.lvl_witness.proofs.Reaching.{moved_has}
 use Rattle.lvl_witness.proofs.areas.area_of_ring.Goals as goal
 

@@ -44,5 +44,8 @@ returns c = record {
       subst (All (IsBetween c.loop-k.low c.loop-k.high))
       (take_all c.loop-k.k c.args.ring.now (omega (arith, c.loop-k-test.false, c.len-k-end.ensures)))
       c.loop-k.invariant.between;
-  reached = c.loop-k.invariant.reached;
+  left = c.loop-k.invariant.reached.left;
+  right = c.loop-k.invariant.reached.right;
+  below = c.loop-k.invariant.reached.below;
+  above = c.loop-k.invariant.reached.above;
 }

@@ -2,7 +2,7 @@ use Rattle.std.proofs.Common.{◌≡◌, List, map, sym, ap, subst, ◌∙◌}
 use Rattle.lvl_grid.specs.declared.point.Point.{Point}
 use Rattle.lvl_grid.specs.Turn.{shifted}
 use Rattle.lvl_witness.specs.Boxes.{IsBoxOf}
-use Rattle.lvl_witness.specs.inside.Wide.{as_point}
+use Rattle.lvl_witness.specs.Wide.{as_point}
 use Rattle.lvl_witness.proofs.Boxing.{box_moved}
 use Rattle.lvl_witness.proofs.boxes.moved_box_of.Goals as goal
 
