@@ -18,3 +18,4 @@ pub mod Missing
 pub mod Boxing
 pub mod Unchanged
 pub mod Leaving
+pub mod Tops

@@ -52,4 +52,5 @@ mod rings;
 mod shapes;
 mod shifts;
 mod spots;
+mod whole;
 mod windows;
