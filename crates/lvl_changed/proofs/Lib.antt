@@ -19,3 +19,4 @@ pub mod Boxing
 pub mod Unchanged
 pub mod Leaving
 pub mod Tops
+pub mod Rowing

@@ -49,6 +49,7 @@ mod placed;
 mod placements;
 mod references;
 mod rings;
+mod rows;
 mod shapes;
 mod shifts;
 mod spots;
