@@ -215,6 +215,39 @@ fn pairs_of_libraries(rt: HostRuntime) -> Result<(), Fail> {
     Ok(())
 }
 
+/// Pairs of more places than are written out one by one, and where they may differ.
+const LARGE: &str = "\
+a lattice and its rows | T A,0,2000000,0,3; A 0..2 | \
+    T A,0,2000000,0,1 A,0,2000000,0,1,20 A,0,2000000,0,1,10; A 0..2 |
+rows and their lattice | T A,0,2000000,0,1 A,0,2000000,0,1,20 A,0,2000000,0,1,10; A 0..2 | \
+    T A,0,2000000,0,3; A 0..2 |
+a row left out | T A,0,2000000,0,3; A 0..2 | T A,0,2000000,0,1 A,0,2000000,0,1,10; A 0..2 | \
+    0,20,19999992,21 @1
+a row moved | T A,0,2000000,0,1 A,0,2000000,0,1,13; A 0..2@5 | T A,0,2000000,0,2; A 0..2@5 | \
+    0,10,19999992,11 0,13,19999992,14 @5
+a row of a cell that is changed | T A,0,2000000,0,3; A 0..2 | \
+    T A,0,2000000,0,1 A,0,2000000,0,1,20 A,0,2000000,0,1,10; A 0..2 7..8@2 | \
+    7,0,19999998,21 @2
+";
+
+/// Where the libraries of a row may differ, and where that says that they may.
+fn changes_of_row<'a>(alloc: Global, row: &'a str) -> Result<(String, &'a str), Fail> {
+    let (ours, row) = cut(row, " | ");
+    let (theirs, windows) = cut(row, " |");
+    let pair = fitted_pair(alloc, ours, theirs)?;
+    Ok((changed_text(alloc, &pair)?, windows))
+}
+
+#[test]
+fn large_pairs(rt: HostRuntime) -> Result<(), Fail> {
+    for row in LARGE.lines() {
+        let (name, row) = cut(row, " | ");
+        let (found, want) = changes_of_row(rt.alloc(), row)?;
+        assert_eq!(rt; found.as_str(), want, "{name}");
+    }
+    Ok(())
+}
+
 fn many_changed(alloc: Global) -> Result<Pair, Fail> {
     fitted_pair(alloc, "T A,0,500,0; A 0..2", "T B,0,500,0; B 0..2 5..6")
 }
