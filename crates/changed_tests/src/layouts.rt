@@ -3,7 +3,8 @@
 //! A library is a line of text: its cells, of which the first is the top, after one another with a
 //! semicolon between them. A cell is its name and then words: `0..2` is a box from 0 to 2, one high, on
 //! the layer 1, `0..2@2` one on the layer 2, and `A,5,3,90` places the cell A three times, ten steps apart
-//! from 5 on, turned by 90 degrees; `-90` reflects it first.
+//! from 5 on, turned by 90 degrees; `-90` reflects it first. `A,5,3,90,2` has two such rows, ten steps
+//! above one another, and `A,5,3,90,1,20` one row from 20 up.
 use lvl_cells::{Builder, Checked, Library, Reference, check};
 use lvl_flat::Fitted;
 use lvl_grid::{Point, Ring, Turn};
@@ -12,6 +13,23 @@ use std::alloc::Global;
 use std::test::Fail;
 
 const STEP: Point = Point { x: 10, y: 0 };
+
+/// The step from a row to the next, of so many rows, which may be given.
+fn step_up(rows: &str) -> Point {
+    match rows {
+        "" => STEP,
+        "1" => Point { x: 0, y: 0 },
+        _ => Point { x: 0, y: 10 },
+    }
+}
+
+/// A number, or another one if the text is empty.
+fn number_or(text: &str, other: i64) -> Result<i64, Fail> {
+    if text.is_empty() {
+        return Ok(other);
+    }
+    Ok(text.parse::<i64>()?)
+}
 
 /// What is before the mark, and what is after it.
 pub(crate) fn cut<'a>(text: &'a str, mark: &str) -> (&'a str, &'a str) {
@@ -49,13 +67,17 @@ fn turned(word: &str) -> (bool, Turn) {
 fn add_places(alloc: Global, cells: &mut Builder, word: &str) -> Result<(), Fail> {
     let (name, rest) = cut(word, ",");
     let (x, rest) = cut(rest, ",");
-    let (count, by) = cut(rest, ",");
+    let (count, rest) = cut(rest, ",");
+    let (by, rest) = cut(rest, ",");
+    let (rows, y) = cut(rest, ",");
     let (flip, turn) = turned(by);
     let at = Point {
         x: x.parse::<i64>()?,
-        y: 0,
+        y: number_or(y, 0)?,
     };
-    let shifts = Offsets::lattice(STEP, count.parse::<u64>()?, STEP, 1).ok_or("shifts")?;
+    let up = step_up(rows);
+    let rows = number_or(rows, 1)?.unsigned_abs();
+    let shifts = Offsets::lattice(STEP, count.parse::<u64>()?, up, rows).ok_or("shifts")?;
     let name = Name::new(Vec::from_slice(alloc, name.as_bytes())?)?;
     let reference = Reference::new(name, flip, turn, at, shifts).ok_or("places")?;
     cells.add_reference(reference)?;

@@ -109,10 +109,14 @@ a square more on a high layer, placed often | T A,0,8,0; A 0..2 | T A,0,8,0; A 0
     4,0,5,1 14,0,15,1 24,0,25,1 34,0,35,1 44,0,45,1 54,0,55,1 64,0,65,1 74,0,75,1 @9 | 9 4 0 second
 and exchanged | T A,0,8,0; A 0..2 4..5@9 | T A,0,8,0; A 0..2 | \
     4,0,5,1 14,0,15,1 24,0,25,1 34,0,35,1 44,0,45,1 54,0,55,1 64,0,65,1 74,0,75,1 @9 | 9 4 0 first
-a via drawn where it was placed | T A,0,4,0; A 0..2 V,3,1,0; V 0..1@2 0..1@3 | T A,0,4,0; A 0..2 3..4@2 3..4@3 | \
-    3,0,4,1 13,0,14,1 23,0,24,1 33,0,34,1 @2 @3 | -
-and exchanged | T A,0,4,0; A 0..2 3..4@2 3..4@3 | T A,0,4,0; A 0..2 V,3,1,0; V 0..1@2 0..1@3 | \
-    3,0,4,1 13,0,14,1 23,0,24,1 33,0,34,1 @2 @3 | -
+a via drawn where it was placed | T A,0,4,0; A 0..2 V,3,1,0; V 0..1@2 0..1@3 | T A,0,4,0; A 0..2 3..4@2 3..4@3 | | -
+and exchanged | T A,0,4,0; A 0..2 3..4@2 3..4@3 | T A,0,4,0; A 0..2 V,3,1,0; V 0..1@2 0..1@3 | | -
+and moved by a step | T A,0,4,0; A 0..2 V,3,1,0; V 0..1@2 0..1@3 | T A,0,4,0; A 0..2 3..4@2 4..5@3 | \
+    3,0,4,1 4,0,5,1 13,0,14,1 14,0,15,1 23,0,24,1 24,0,25,1 33,0,34,1 34,0,35,1 @2 @3 | 3 3 0 first
+in a cell placed once | T A,0,4,0 B,90,1,0; A 0..2; B 5..6 V,0,1,0; V 0..1@2 | T A,0,4,0 B,90,1,0; A 0..2; B 5..6 0..1@2 | \
+    90,0,91,1 @2 | -
+a level dissolved | T M,0,2,0; M A,0,4,0 B,3,1,0; A 0..2; B 5..7 C,8,1,0; C 0..1@4 | \
+    T M,0,2,0; M A,0,4,0 C,11,1,0 8..10; A 0..2; C 0..1@4 | | -
 a cell removed that draws below | T A,0,8,0 W,100,1,0; A 0..2; W 0..1@5 V,3,1,0; V 0..1@4 | T A,0,8,0; A 0..2 | \
     100,0,104,1 @4 @5 | 4 103 0 first
 and exchanged | T A,0,8,0; A 0..2 | T A,0,8,0 W,100,1,0; A 0..2; W 0..1@5 V,3,1,0; V 0..1@4 | \
@@ -207,6 +211,39 @@ fn pairs_of_libraries(rt: HostRuntime) -> Result<(), Fail> {
     for row in PAIRS.lines() {
         let (name, row) = cut(row, " | ");
         assert_eq!(rt; wrong_in_row(rt.alloc(), row)?, None, "{name}");
+    }
+    Ok(())
+}
+
+/// Pairs of more places than are written out one by one, and where they may differ.
+const LARGE: &str = "\
+a lattice and its rows | T A,0,2000000,0,3; A 0..2 | \
+    T A,0,2000000,0,1 A,0,2000000,0,1,20 A,0,2000000,0,1,10; A 0..2 |
+rows and their lattice | T A,0,2000000,0,1 A,0,2000000,0,1,20 A,0,2000000,0,1,10; A 0..2 | \
+    T A,0,2000000,0,3; A 0..2 |
+a row left out | T A,0,2000000,0,3; A 0..2 | T A,0,2000000,0,1 A,0,2000000,0,1,10; A 0..2 | \
+    0,20,19999992,21 @1
+a row moved | T A,0,2000000,0,1 A,0,2000000,0,1,13; A 0..2@5 | T A,0,2000000,0,2; A 0..2@5 | \
+    0,10,19999992,11 0,13,19999992,14 @5
+a row of a cell that is changed | T A,0,2000000,0,3; A 0..2 | \
+    T A,0,2000000,0,1 A,0,2000000,0,1,20 A,0,2000000,0,1,10; A 0..2 7..8@2 | \
+    7,0,19999998,21 @2
+";
+
+/// Where the libraries of a row may differ, and where that says that they may.
+fn changes_of_row<'a>(alloc: Global, row: &'a str) -> Result<(String, &'a str), Fail> {
+    let (ours, row) = cut(row, " | ");
+    let (theirs, windows) = cut(row, " |");
+    let pair = fitted_pair(alloc, ours, theirs)?;
+    Ok((changed_text(alloc, &pair)?, windows))
+}
+
+#[test]
+fn large_pairs(rt: HostRuntime) -> Result<(), Fail> {
+    for row in LARGE.lines() {
+        let (name, row) = cut(row, " | ");
+        let (found, want) = changes_of_row(rt.alloc(), row)?;
+        assert_eq!(rt; found.as_str(), want, "{name}");
     }
     Ok(())
 }

@@ -31,6 +31,8 @@ a square more on a mapped layer, placed often | T A,0,4,0; A 0..2@2 | T A,0,4,0;
 a cell removed that draws below, mapped | T A,0,8,0; A 0..2@2 | \
     T A,0,8,0 W,100,1,0; A 0..2; W 0..1@5 V,3,1,0; V 0..1@4 | 1/0=2/0,4/0=8/0 | 100,0,104,1 @5 @8 | \
     5 100 0 second
+a via drawn where it was placed, mapped | T A,0,4,0; A 0..2@2 V,3,1,0; V 0..1@8 | \
+    T A,0,4,0; A 0..2 3..4@4 | 1/0=2/0,4/0=8/0 | | -
 two layers exchanged | T A,0,8,0; A 0..2@2 4..5 | T A,0,8,0; A 0..2 4..5@2 | 1/0=2/0,2/0=1/0 | | -
 ";
 
@@ -103,6 +105,12 @@ x=5..200,y=0..1 | 9 14 0 second
 x=5..14,y=0..9 | -
 ";
 
+/// The same of libraries of which the second draws a via in the cell that places it in the first.
+const SHOWN_DRAWN: &str = "\
+x=0..200,y=0..1 | -
+x=3..14,y=-9..9 | -
+";
+
 fn with_one_moved(alloc: Global) -> Result<Pair, Fail> {
     let ours = "T A,0,8,0 B,100,1,0; A 0..2; B 0..2";
     fitted_pair(alloc, ours, "T A,0,8,0 3..4; A 0..2; B 0..2")
@@ -140,10 +148,17 @@ fn wrong_window_of_often(alloc: Global) -> Result<Option<&'static str>, Fail> {
     wrong_window(alloc, &pair, SHOWN_OFTEN)
 }
 
+fn wrong_window_of_drawn(alloc: Global) -> Result<Option<&'static str>, Fail> {
+    let ours = "T A,0,4,0; A 0..2 V,3,1,0; V 0..1@2";
+    let pair = fitted_pair(alloc, ours, "T A,0,4,0; A 0..2 3..4@2")?;
+    wrong_window(alloc, &pair, SHOWN_DRAWN)
+}
+
 #[test]
 fn windows_of_views(rt: HostRuntime) -> Result<(), Fail> {
     assert_eq!(rt; wrong_window_of_moved(rt.alloc())?, None);
     assert_eq!(rt; wrong_window_of_often(rt.alloc())?, None);
+    assert_eq!(rt; wrong_window_of_drawn(rt.alloc())?, None);
     Ok(())
 }
 
@@ -285,7 +300,10 @@ fn check_changes(
     let view = View::whole(alloc);
     let changes = changed(alloc, &kept, &edited, &view)?.ok_or("windows")?;
     assert_eq!(rt; changes.windows.len(), 1);
-    assert_eq!(rt; changes.layers.ok_or("layers")?.as_slice(), [METAL].as_slice());
+    assert_eq!(rt;
+        changes.layers.ok_or("layers")?.as_slice(),
+        [METAL].as_slice()
+    );
     let found = difference_by_changes(alloc, &kept, &edited, &view, 1 << 20)?;
     assert_eq!(rt; found, Some((METAL, Square { x: 3, y: 0 }, Side::Second)));
     Ok(())

@@ -18,3 +18,5 @@ pub mod Missing
 pub mod Boxing
 pub mod Unchanged
 pub mod Leaving
+pub mod Tops
+pub mod Rowing

@@ -8,3 +8,4 @@ pub mod Figures
 pub mod Layers
 pub mod Areas
 pub mod Drawing
+pub mod Rows

@@ -1,5 +1,5 @@
 //! Squares of some windows on some Layers.
-ghost use Rattle.std.specs.Prelude.{Contains, IfSome, OnOk};
+ghost use Rattle.std.specs.Prelude.{Contains, IfOk, IfSome, OnOk};
 ghost use Rattle.lvl_grid.specs.declared.point.Point.{Point as GridPoint};
 ghost use Rattle.lvl_grid.specs.declared.point.Square.{Square};
 ghost use Rattle.lvl_grid.specs.Clip.{IsInWindow};
@@ -58,6 +58,18 @@ impl Area {
         let windows = windows.into_list()?;
         let layers = layers.into_list();
         Some(Changes { windows, layers })
+    }
+
+    /// A copy of the windows and the Layers, or None if the windows are the whole grid.
+    pub(crate) fn changes(&self, alloc: Global) -> Result<Option<Changes>, AllocError>
+        ensures { IfOk result (λ copied. IfSome copied
+            (λ changes. (layer : PlainLayer) (s : Square) → IsIn self.now layer s → IsChange changes layer s)) }
+    {
+        let Some(windows) = self.windows.copied(alloc)? else {
+            return Ok(None);
+        };
+        let layers = self.layers.copied(alloc)?;
+        Ok(Some(Changes { windows, layers }))
     }
 
     /// Adds a window on a Layer.

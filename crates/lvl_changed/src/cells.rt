@@ -20,6 +20,7 @@ use crate::layers::Layers;
 use crate::partners::{partner_in, partners_of};
 use crate::references::hold_references;
 use crate::shapes::hold_shapes;
+use crate::whole::{Budget, is_same_pair, settled};
 use lvl_flat::Fitted;
 use lvl_view::View;
 use std::alloc::{AllocError, Global};
@@ -180,6 +181,10 @@ fn changes_in(mut known: Vec<Option<Found>>, cell: usize, partner: usize) -> Opt
 /// windows if it is large, on the Layers on which it draws. What is found for a cell is added to what
 /// is found for the cells that place it, at each place. A cell that isn't placed is no partner, since
 /// nothing limits how much it draws.
+///
+/// Two cells that differ shape by shape, and are placed more than once, are compared once with all
+/// that they place, where that doesn't cost too much and the view has no window. If they draw the
+/// same, nothing is found for them.
 pub fn changed(
     alloc: Global,
     first: &Fitted,
@@ -195,6 +200,7 @@ pub fn changed(
     let our_drawn = drawn_by_cells(alloc, ours)?;
     let their_drawn = drawn_by_cells(alloc, theirs)?;
     let times = ours.times();
+    let mut budget = Budget::new(ours, theirs);
     let mut known = none_known(alloc, ours.cells().len())?;
     for i in (0..ours.order().len()).rev() {
         let cell = ours.order()[i];
@@ -215,7 +221,17 @@ pub fn changed(
             &known,
             most,
         )?;
-        keep(&mut known, cell, found);
+        let is_same = is_same_pair(
+            alloc,
+            first,
+            cell,
+            second,
+            &found,
+            view,
+            times[cell],
+            &mut budget,
+        )?;
+        keep(&mut known, cell, settled(alloc, found, is_same));
     }
     Ok(changes_in(known, ours.top(), theirs.top()))
 }

@@ -7,9 +7,9 @@ ghost use Rattle.lvl_compare.specs.Tops.{DrawSame, IsFirstDifference};
 ghost use Rattle.lvl_changed.specs.Changed.{DrawSameBut};
 
 use crate::cells::changed;
-use crate::changes::Changes;
+use crate::changes::{Changes, difference_among};
 use crate::pays::pays_by_cells;
-use lvl_compare::{difference_by_strips, difference_in_windows, difference_on_layers};
+use lvl_compare::difference_by_strips;
 use lvl_flat::Fitted;
 use lvl_grid::{Square, Window};
 use lvl_names::Layer;
@@ -92,9 +92,5 @@ pub fn difference_by_changes(
     let Some(changes) = changes_to_compare(alloc, first, second, view)? else {
         return difference_by_strips(alloc, first, second, view, most);
     };
-    let Changes { windows, layers } = changes;
-    match layers {
-        Some(layers) => difference_on_layers(alloc, first, second, view, &layers, &windows, most),
-        None => difference_in_windows(alloc, first, second, view, &windows, most),
-    }
+    difference_among(alloc, first, second, view, &changes, most)
 }

@@ -1,5 +1,6 @@
 //! Lattices of shifts: their steps and counts, their sums, and the form in which they are compared.
 ghost use Rattle.std.specs.Prelude.{◌≡◌, IfOk, IfSome};
+ghost use Rattle.lvl_changed.specs.inside.Rows.{AreRowsOf, scaled};
 ghost use Rattle.lvl_changed.specs.inside.Shifts.{AreSame, AreSums, IsLatticeOf, turned_by};
 
 use crate::shifts::{are_same, shift_at};
@@ -19,8 +20,18 @@ pub(crate) struct Lattice {
     rows: u64,
 }
 
+/// The rows of a lattice: the shifts of the first, the step from one to the next, and their number.
+#[derive(Drop)]
+pub(crate) struct Rows {
+    pub line: Offsets,
+    pub up: Point,
+    pub count: u64,
+}
+
 /// The product, or None if it is outside 64 bits.
-fn times(step: Point, count: u64) -> Option<Point> {
+pub(crate) fn times(step: Point, count: u64) -> Option<Point>
+    ensures { IfSome result (λ product. product ≡ scaled step count) }
+{
     let count = i64::try_from(count).ok()?;
     Some(Point {
         x: step.x.checked_mul(count)?,
@@ -135,4 +146,20 @@ pub(crate) fn reordered(shifts: &Offsets) -> Option<Offsets>
         return None;
     }
     Offsets::lattice(found.up, found.rows, found.across, found.columns)
+}
+
+/// The rows of the shifts, or None if these aren't found to be a lattice of more than one row.
+pub(crate) fn rows_of(shifts: &Offsets) -> Option<Rows>
+    ensures { IfSome result (AreRowsOf shifts.now) }
+{
+    let found = lattice_of(shifts)?;
+    if found.rows == 1 {
+        return None;
+    }
+    let line = Offsets::lattice(found.across, found.columns, ORIGIN, 1)?;
+    Some(Rows {
+        line,
+        up: found.up,
+        count: found.rows,
+    })
 }

@@ -1,5 +1,5 @@
 //! A set of Layers.
-ghost use Rattle.std.specs.Prelude.{Contains, IsTrue, IfSome, OnOk};
+ghost use Rattle.std.specs.Prelude.{Contains, IsTrue, IfOk, IfSome, OnOk};
 ghost use Rattle.lvl_names.specs.declared.layer.Layer.{Layer as PlainLayer};
 ghost use Rattle.lvl_view.specs.Views.{target_of};
 ghost use Rattle.lvl_changed.specs.inside.Layers.{IsOn, Spreads};
@@ -89,6 +89,17 @@ impl Layers {
             self.add(view.target(*layer))?;
         }
         Ok(())
+    }
+
+    /// A copy of the Layers, or None if these are all.
+    pub(crate) fn copied(&self, alloc: Global) -> Result<Option<Vec<Layer>>, AllocError>
+        ensures { IfOk result (λ copied. IfSome copied
+            (λ list. (layer : PlainLayer) → IsOn self.now layer → Contains list.items layer)) }
+    {
+        if self.every {
+            return Ok(None);
+        }
+        Ok(Some(Vec::from_slice(alloc, &self.list)?))
     }
 
     /// The Layers, or None if these are all.

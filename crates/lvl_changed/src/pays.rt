@@ -25,6 +25,31 @@ fn shifts_of(cell: &Cell) -> u64 {
     sum
 }
 
+/// The numbers of cells and references, and of the rings that cells draw themselves, each at most
+/// `u64::MAX`.
+pub(crate) fn size_of(checked: &Checked) -> (u64, u64) {
+    let mut cells = 0u64;
+    let mut rings = 0u64;
+    for cell in checked.cells() {
+        cells = cells
+            .saturating_add(1)
+            .saturating_add(cell.references.len() as u64);
+        rings = rings.saturating_add(rings_of(cell));
+    }
+    (cells, rings)
+}
+
+/// The number of rings that are placed, at most `u64::MAX`.
+pub(crate) fn placed_rings(checked: &Checked) -> u64 {
+    let mut placed = 0u64;
+    for (cell, times) in checked.cells().iter().zip(checked.times()) {
+        if *times > 0 {
+            placed = placed.saturating_add(rings_of(cell).saturating_mul(*times));
+        }
+    }
+    placed
+}
+
 /// Whether a comparison cell by cell is likely to cost less than one of flat layouts. It is if the
 /// cells that are placed have at most a quarter as many own rings as are placed in all, and if all
 /// cells together have at most about twice as many shifts as there are placed rings, since each

@@ -6,6 +6,7 @@ ghost use Rattle.lvl_names.specs.declared.layer.Layer.{Layer};
 ghost use Rattle.lvl_cells.specs.Cells.{PlainCell, Rings, map_at};
 ghost use Rattle.lvl_view.specs.declared.map.LayerPair.{LayerPair};
 ghost use Rattle.lvl_view.specs.Moved.{IsMoved};
+ghost use Rattle.lvl_changed.specs.declared.arrays.Array.{Array as PlainArray};
 ghost use Rattle.lvl_changed.specs.inside.Arrays.{all_places, as_reference, AddsPartner};
 ghost use Rattle.lvl_view.specs.Views.{target_of};
 ghost use Rattle.lvl_changed.specs.inside.Areas.{AlikeOutside, Grows, HasImages, IsIn};
@@ -20,6 +21,7 @@ use crate::layers::Layers;
 use crate::listing::list_alone;
 use crate::placed::{Placed, placed_of};
 use crate::placements::{hold_alone, sort_places};
+use crate::rows::split_alone;
 use lvl_cells::Checked;
 use lvl_flat::Fitted;
 use lvl_view::View;
@@ -83,8 +85,8 @@ fn partners_placed(
 }
 
 /// Adds an area outside of which the first covers the same squares as the second, both with their
-/// Layers as the view maps them.
-fn hold_placed(
+/// Layers as the view maps them. Arrays that only one of both has are written out place by place.
+fn hold_listed(
     area: &mut Area,
     library: &Fitted,
     drawn: &[Option<Layers>],
@@ -138,6 +140,54 @@ fn hold_placed(
     Ok(())
 }
 
+/// What is placed, with the arrays sorted.
+fn in_order(placed: Placed) -> Placed
+    ensures singles { result.singles.items ≡ placed.singles.items }
+    ensures arrays { (array : PlainArray) → Contains placed.arrays.items array ↔ Contains result.arrays.items array }
+{
+    let Placed {
+        singles,
+        mut arrays,
+    } = placed;
+    sort_arrays(&mut arrays);
+    Placed { singles, arrays }
+}
+
+/// The same single placements, with other arrays.
+fn with_arrays(placed: Placed, arrays: Vec<Array>) -> Placed
+    ensures { result ≡ record { singles = placed.singles; arrays = arrays } }
+{
+    let Placed { singles, .. } = placed;
+    Placed { singles, arrays }
+}
+
+/// Adds an area outside of which the first covers the same squares as the second, both with their
+/// Layers as the view maps them. Arrays that only one of both has are split into rows first.
+fn hold_placed(
+    area: &mut Area,
+    alloc: Global,
+    library: &Fitted,
+    drawn: &[Option<Layers>],
+    view: &View,
+    first: Placed,
+    second: Placed,
+) -> Result<(), AllocError>
+    requires { AreDrawnOn library.now.cells drawn.now }
+    ensures held { OnOk result ((layer : Layer) (s : Square)
+        → (¬ IsIn area.new (target_of view.now.pairs layer) s)
+        → PlacedCover library.now.cells (all_places first) layer s
+        ↔ PlacedCover library.now.cells (all_places second) layer s) }
+    ensures kept { OnOk result (Grows area.old area.new) }
+{
+    let first = in_order(first);
+    let second = in_order(second);
+    let rows = split_alone(alloc, &first.arrays, &second.arrays)?;
+    let their_rows = split_alone(alloc, &second.arrays, &first.arrays)?;
+    let first = with_arrays(first, rows);
+    let second = with_arrays(second, their_rows);
+    hold_listed(area, library, drawn, view, first, second)
+}
+
 /// Adds an area outside of which the references of cell `ours` cover the same squares as those of
 /// cell `theirs` under the view's map of Layers.
 pub(crate) fn hold_references(
@@ -160,6 +210,6 @@ pub(crate) fn hold_references(
 {
     let placed = partners_placed(area, alloc, first.checked(), ours, known)?;
     let others = placed_of(alloc, second.checked(), theirs)?;
-    hold_placed(area, second, drawn, view, placed, others)?;
+    hold_placed(area, alloc, second, drawn, view, placed, others)?;
     Ok(())
 }

@@ -1,5 +1,5 @@
 //! A few windows that together have all squares of some set, and possibly more.
-ghost use Rattle.std.specs.Prelude.{◌≡◌, ◌<◌, ◌+◌, IsTrue, IfSome, OnOk, Contains, vec_len};
+ghost use Rattle.std.specs.Prelude.{◌≡◌, ◌<◌, ◌+◌, IsTrue, IfOk, IfSome, OnOk, Contains, vec_len};
 ghost use Rattle.lvl_grid.specs.declared.point.Point.{Point as GridPoint};
 ghost use Rattle.lvl_grid.specs.declared.point.Square.{Square};
 ghost use Rattle.lvl_grid.specs.Clip.{IsInWindow};
@@ -133,7 +133,7 @@ impl Windows {
     }
 
     /// Whether the set has no squares.
-    fn is_empty(&self) -> bool
+    pub(crate) fn is_empty(&self) -> bool
         ensures { IsTrue result → (s : Square) → ¬ Has self.now s }
     {
         !self.anywhere && self.list.is_empty()
@@ -154,6 +154,17 @@ impl Windows {
             .list
             .sort_unstable_by_key(|window| (window.y0, window.x0));
         Some(reduced.list)
+    }
+
+    /// A copy of the windows, or None if the set is the whole grid.
+    pub(crate) fn copied(&self, alloc: Global) -> Result<Option<Vec<Window>>, AllocError>
+        ensures { IfOk result (λ copied. IfSome copied
+            (λ list. (s : Square) → Has self.now s → SomeHas list.items s)) }
+    {
+        if self.anywhere {
+            return Ok(None);
+        }
+        Ok(Some(Vec::from_slice(alloc, &self.list)?))
     }
 
     /// Makes the set the whole grid.

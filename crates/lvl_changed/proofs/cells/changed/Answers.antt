@@ -12,7 +12,7 @@ use Rattle.lvl_view.specs.Moved.{IsMoved}
 use Rattle.lvl_changed.specs.Changed.{DrawSameBut}
 use Rattle.lvl_changed.specs.declared.found.Found.{Found}
 use Rattle.lvl_changed.specs.inside.Finding.{AreFound, IsFound}
-use Rattle.lvl_changed.proofs.Finding.{found_more, none_found, some_weaker, unknown}
+use Rattle.lvl_changed.proofs.Finding.{found_more, none_found, settled_found, some_weaker, unknown}
 use Rattle.lvl_changed.proofs.cells.changed.Goals as goal
 
 pub loop-i-init : goal.loop-i-init
@@ -65,11 +65,15 @@ loop-i-preserved c =
     let mine : AreFound pairs ours theirs c.deref-in-loop-i-3.result.now =
     subst (λ xs. AreFound pairs ours theirs xs) (sym c.deref-in-loop-i-3.ensures.value) c.loop-i.invariant.known in
     let found : IsFound pairs ours theirs k f = c.in_ok-found.ensures.found mine in
+    let g : Found = c.settled.result in
+    let last : IsFound pairs ours theirs k g =
+    settled_found pairs ours theirs k f g c.in_ok-is_same.is_same found c.in_ok-is_same.ensures
+    c.settled.ensures.partner c.settled.ensures.kept in
     record {
       long = c.keep.ensures.long ∙ c.loop-i.invariant.long;
       known =
           subst (λ xs. AreFound pairs ours theirs xs) (sym c.keep.ensures.kept)
-          (found_more pairs ours theirs known k f (get_or known k None) c.loop-i.invariant.known there found);
+          (found_more pairs ours theirs known k g (get_or known k None) c.loop-i.invariant.known there last);
     }
 
 pub changes_in-requires : goal.changes_in-requires

@@ -1,0 +1,21 @@
+use Rattle.std.proofs.Common.{◌≡◌}
+use Rattle.std.proofs.lemmas.Result.{IfOk-weaker}
+use Rattle.lvl_grid.specs.declared.point.Square.{Square}
+use Rattle.lvl_names.specs.declared.layer.Layer.{Layer}
+use Rattle.lvl_changed.specs.Changed.{IsChange}
+use Rattle.lvl_changed.specs.inside.Areas.{IsIn}
+use Rattle.lvl_changed.proofs.Tops.{rooted, tops_same}
+use Rattle.lvl_changed.proofs.whole.are_same_cells.Goals as goal
+
+pub returns : goal.returns
+returns c =
+    let first : c.in-Some-2.our_top ≡ rooted c.args.first.now c.args.ours = rw c.in-Some-2.is at c.in_ok-our_top.ensures in
+    let second : c.in-Some-3.their_top ≡ rooted c.args.second.now c.args.theirs =
+    rw c.in-Some-3.is at c.in_ok-their_top.ensures in
+    let has : (l : Layer) (s : Square) → IsIn c.args.area.now l s → IsChange c.in-Some.changes l s =
+    rw c.in-Some.is at c.in_ok-changes.ensures in
+    IfOk-weaker c.are_same_tops.result _ _
+    (λ same h is alike.
+    tops_same c.args.view.now.pairs c.args.area.now c.in-Some.changes c.args.first.now c.args.second.now
+    c.in-Some-2.our_top c.in-Some-3.their_top c.args.ours c.args.theirs first second has (h is) alike)
+    c.are_same_tops.ensures

@@ -1,0 +1,171 @@
+//! Comparison of two cells as a whole, with all that they place.
+ghost use Rattle.std.specs.Prelude.{◌≡◌, ◌↔◌, IfOk, IsTrue, false};
+ghost use Rattle.lvl_grid.specs.declared.point.Square.{Square};
+ghost use Rattle.lvl_names.specs.declared.layer.Layer.{Layer};
+ghost use Rattle.lvl_flat.specs.Flattened.{CoversAt, TopCovers};
+ghost use Rattle.lvl_view.specs.Moved.{IsMoved};
+ghost use Rattle.lvl_changed.specs.Changed.{DrawSameBut};
+ghost use Rattle.lvl_changed.specs.inside.Areas.{AlikeOutside};
+ghost use Rattle.lvl_changed.specs.inside.Finding.{IsFound, PartnerCovers};
+
+use crate::area::Area;
+use crate::changes::{Changes, difference_among};
+use crate::found::Found;
+use crate::pays::{placed_rings, size_of};
+use lvl_cells::Checked;
+use lvl_flat::Fitted;
+use lvl_view::View;
+use std::alloc::{AllocError, Global};
+
+/// The greatest number of rings that both cells place, of two cells that are compared as a whole.
+const MOST_OF_PAIR: u64 = 262_144;
+
+/// What all comparisons of whole cells may cost together, beside [`FOR_EACH`] times what is in both
+/// files.
+const MOST_OF_ALL: u64 = 1_048_576;
+
+/// How often what is in both files is added to what comparisons of whole cells may cost.
+const FOR_EACH: u64 = 4;
+
+/// The greatest number of points of a side in a part that is compared.
+const POINTS: usize = 600_000;
+
+/// What comparisons of whole cells may still cost. Each costs the rings that both cells place, and
+/// once the cells and references of both libraries, since the places of these cells are counted.
+#[derive(Clone, Copy)]
+pub(crate) struct Budget {
+    left: u64,
+    each: u64,
+}
+
+impl Budget {
+    /// What they may cost for two libraries.
+    pub(crate) fn new(first: &Checked, second: &Checked) -> Budget {
+        let (cells, rings) = size_of(first);
+        let (their_cells, their_rings) = size_of(second);
+        let each = cells.saturating_add(their_cells);
+        let all = each.saturating_add(rings).saturating_add(their_rings);
+        let left = MOST_OF_ALL.saturating_add(all.saturating_mul(FOR_EACH));
+        Budget { left, each }
+    }
+
+    /// Whether this much is left, which is then taken.
+    fn takes(&mut self, cost: u64) -> bool {
+        match self.left.checked_sub(cost) {
+            Some(left) => {
+                self.left = left;
+                true
+            }
+            None => false,
+        }
+    }
+}
+
+/// Whether two layouts draw the same, if they do so but for the changes. `false` says nothing if they
+/// place too many rings, or if the view has a window.
+fn are_same_tops(
+    alloc: Global,
+    first: &Fitted,
+    second: &Fitted,
+    view: &View,
+    changes: &Changes,
+    budget: &mut Budget,
+) -> Result<bool, AllocError>
+    ensures { IfOk result (λ same. IsTrue same
+        → DrawSameBut changes.now (TopCovers first.now) (IsMoved view.now.pairs (TopCovers second.now))
+        → (layer : Layer) (s : Square)
+        → TopCovers first.now layer s ↔ IsMoved view.now.pairs (TopCovers second.now) layer s) }
+{
+    if view.window().is_some() {
+        return Ok(false);
+    }
+    let rings = placed_rings(first.checked()).saturating_add(placed_rings(second.checked()));
+    if rings > MOST_OF_PAIR || !budget.takes(rings) {
+        return Ok(false);
+    }
+    let found = difference_among(alloc, first, second, view, changes, POINTS)?;
+    Ok(found.is_none())
+}
+
+/// Whether two cells draw the same, with all that they place, if they do so outside of the area.
+/// `false` says nothing if the comparison would cost too much.
+fn are_same_cells(
+    alloc: Global,
+    first: &Fitted,
+    ours: usize,
+    second: &Fitted,
+    theirs: usize,
+    view: &View,
+    area: &Area,
+    budget: &mut Budget,
+) -> Result<bool, AllocError>
+    ensures { IfOk result (λ same. IsTrue same
+        → AlikeOutside area.now (CoversAt first.now.cells ours)
+        (IsMoved view.now.pairs (CoversAt second.now.cells theirs))
+        → (layer : Layer) (s : Square) → CoversAt first.now.cells ours layer s
+        ↔ IsMoved view.now.pairs (CoversAt second.now.cells theirs) layer s) }
+{
+    let each = budget.each;
+    if !budget.takes(each) {
+        return Ok(false);
+    }
+    let Some(changes) = area.changes(alloc)? else {
+        return Ok(false);
+    };
+    let Some(our_top) = first.rooted(alloc, ours)? else {
+        return Ok(false);
+    };
+    let Some(their_top) = second.rooted(alloc, theirs)? else {
+        return Ok(false);
+    };
+    are_same_tops(alloc, &our_top, &their_top, view, &changes, budget)
+}
+
+/// Whether a cell draws the same as its partner, with all that they place, if it does so outside of
+/// the area that was found. `false` says nothing if nothing was found, if the cell is placed only
+/// once, or if the comparison would cost too much.
+pub(crate) fn is_same_pair(
+    alloc: Global,
+    first: &Fitted,
+    cell: usize,
+    second: &Fitted,
+    found: &Found,
+    view: &View,
+    times: u64,
+    budget: &mut Budget,
+) -> Result<bool, AllocError>
+    ensures { IfOk result (λ same. IsTrue same
+        → IsFound view.now.pairs first.now.cells second.now.cells cell found.now
+        → (layer : Layer) (s : Square) → CoversAt first.now.cells cell layer s
+        ↔ PartnerCovers view.now.pairs second.now.cells found.now.partner layer s) }
+{
+    let Some(theirs) = found.partner else {
+        return Ok(false);
+    };
+    if times < 2 || found.area.windows.is_empty() {
+        return Ok(false);
+    }
+    are_same_cells(
+        alloc,
+        first,
+        cell,
+        second,
+        theirs,
+        view,
+        &found.area,
+        budget,
+    )
+}
+
+/// What was found, with an empty area if the cell draws the same as its partner.
+pub(crate) fn settled(alloc: Global, found: Found, is_same: bool) -> Found
+    ensures partner { result.partner ≡ found.partner }
+    ensures kept { is_same ≡ false → result ≡ found }
+{
+    if !is_same {
+        return found;
+    }
+    let Found { partner, .. } = found;
+    let area = Area::none(alloc, 1);
+    Found { partner, area }
+}
