@@ -300,10 +300,8 @@ fn check_changes(
     let view = View::whole(alloc);
     let changes = changed(alloc, &kept, &edited, &view)?.ok_or("windows")?;
     assert_eq!(rt; changes.windows.len(), 1);
-    assert_eq!(rt;
-        changes.layers.ok_or("layers")?.as_slice(),
-        [METAL].as_slice()
-    );
+    let layers = changes.layers.ok_or("layers")?;
+    assert_eq!(rt; layers.as_slice(), [METAL].as_slice());
     let found = difference_by_changes(alloc, &kept, &edited, &view, 1 << 20)?;
     assert_eq!(rt; found, Some((METAL, Square { x: 3, y: 0 }, Side::Second)));
     Ok(())
