@@ -212,14 +212,15 @@ module _ {S : Type 0} (opens : S → List ℕ → Option (Option (List ℕ)) →
   no_ignore job text old from OutOfMemory bad h = keeps_same from
   no_ignore job text old from Output bad h = absurd h
 
-  pub ignore_fault : (first second : String Global) (top_a top_b map_text window_text ignored : Option (String Global)) (is_large : Bool)
-      (view : Option PlainView)
+  pub ignore_fault : (first second : String Global) (top_a top_b map_text window_text ignored : Option (String Global))
+      (is_large why : Bool) (view : Option PlainView)
       → IsViewAsked (option_map string_bytes map_text) (option_map string_bytes window_text) view
       → (old : S) (from : Option (List ℕ)) (fault : JobFault) → IsNoIgnore (option_map string_bytes ignored) fault
-      → IsFaultOfJob opens (Compare first second top_a top_b map_text window_text ignored is_large why) old old from from fault
-  ignore_fault first second top_a top_b map_text window_text ignored is_large view asked old from fault =
-      no_ignore (Compare first second top_a top_b map_text window_text ignored is_large why) (option_map string_bytes ignored) old
-      from fault (λ h. record { view = view; asked = asked; holds = h })
+      → IsFaultOfJob opens (Compare first second top_a top_b map_text window_text ignored is_large why) old old from from
+        fault
+  ignore_fault first second top_a top_b map_text window_text ignored is_large why view asked old from fault =
+      no_ignore (Compare first second top_a top_b map_text window_text ignored is_large why) (option_map string_bytes ignored)
+      old from fault (λ h. record { view = view; asked = asked; holds = h })
 
   pub shown_ignore_fault : (file : String Global) (top ignored : Option (String Global)) (is_large : Bool) (old : S)
       (from : Option (List ℕ)) (fault : JobFault) → IsNoIgnore (option_map string_bytes ignored) fault

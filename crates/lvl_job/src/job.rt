@@ -195,11 +195,7 @@ fn perform<F: Files, O: Write>(
                 first: top_of(top_a),
                 second: top_of(top_b),
             };
-            let asked = Pair {
-                tops: &tops,
-                view: view.as_ref(),
-                why,
-            };
+            let asked = Pair { tops, view, why };
             compare(alloc, (first, second), &asked, profile, files, out)
         }
         Job::Show {

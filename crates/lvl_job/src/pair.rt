@@ -23,9 +23,10 @@ use lvl_view::View;
 use std::alloc::Global;
 
 /// How two files are compared: their tops, the view if there is one, and whether the reason is asked for.
-pub(crate) struct Pair<'a> {
-    pub tops: &'a Tops,
-    pub view: Option<&'a View>,
+#[derive(Drop)]
+pub(crate) struct Pair {
+    pub tops: Tops,
+    pub view: Option<View>,
     pub why: bool,
 }
 
@@ -103,26 +104,26 @@ fn run_pair<A: Read, B: Read, O: Write>(
     alloc: Global,
     first: &mut A,
     second: &mut B,
-    asked: &Pair<'_>,
+    asked: &Pair,
     profile: Profile,
     out: &mut O,
 ) -> Result<Outcome, RunFault>
-    ensures written { IfOk result (IsPairWritten asked.now.why (option_map (λ v. v.now) asked.now.view) profile
+    ensures written { IfOk result (IsPairWritten asked.now.why asked.now.view profile
         (input profile (A.remaining first.old) (A.remaining first.new)
-        (A.read_errors first.old) (A.read_errors first.new) (given_name asked.now.tops.now.first))
+        (A.read_errors first.old) (A.read_errors first.new) (given_name asked.now.tops.first))
         (input profile (B.remaining second.old) (B.remaining second.new)
-        (B.read_errors second.old) (B.read_errors second.new) (given_name asked.now.tops.now.second))
+        (B.read_errors second.old) (B.read_errors second.new) (given_name asked.now.tops.second))
         (O.contents out.old) (O.contents out.new)) }
-    ensures begun { OnErr result (IsPairBegun asked.now.why (option_map (λ v. v.now) asked.now.view)
+    ensures begun { OnErr result (IsPairBegun asked.now.why asked.now.view
         (input profile (A.remaining first.old) (A.remaining first.new)
-        (A.read_errors first.old) (A.read_errors first.new) (given_name asked.now.tops.now.first))
+        (A.read_errors first.old) (A.read_errors first.new) (given_name asked.now.tops.first))
         (input profile (B.remaining second.old) (B.remaining second.new)
-        (B.read_errors second.old) (B.read_errors second.new) (given_name asked.now.tops.now.second))
+        (B.read_errors second.old) (B.read_errors second.new) (given_name asked.now.tops.second))
         (O.contents out.old) (O.contents out.new)) }
     ensures nothing { result ≡ Err RunFault.OutOfMemory → Keeps (O.contents out.old) (O.contents out.new) }
     ensures errors { CountsFailure (O.write_errors out.old) (O.write_errors out.new) (is_output result) }
 {
-    let (tops, view) = (asked.tops, asked.view);
+    let (tops, view) = (&asked.tops, asked.view.as_ref());
     if asked.why {
         run_explained(alloc, first, second, tops, view, profile, out)
     } else {
@@ -134,18 +135,18 @@ fn run_pair<A: Read, B: Read, O: Write>(
 pub(crate) fn compare<F: Files, O: Write>(
     alloc: Global,
     names: (String, String),
-    asked: &Pair<'_>,
+    asked: &Pair,
     profile: Profile,
     files: &mut F,
     out: &mut O,
 ) -> Result<Outcome, JobFault>
-    ensures answered { IfOk result (IsPairAnswered F.opens asked.now.why (option_map (λ v. v.now) asked.now.view)
-        (record { profile = profile; name = string_bytes names.0; top = given_name asked.now.tops.now.first })
-        (record { profile = profile; name = string_bytes names.1; top = given_name asked.now.tops.now.second })
+    ensures answered { IfOk result (IsPairAnswered F.opens asked.now.why asked.now.view
+        (record { profile = profile; name = string_bytes names.0; top = given_name asked.now.tops.first })
+        (record { profile = profile; name = string_bytes names.1; top = given_name asked.now.tops.second })
         files.old files.new (O.contents out.old) (O.contents out.new)) }
-    ensures fault { IfErr result (IsPairFault F.opens asked.now.why (option_map (λ v. v.now) asked.now.view)
-        (record { profile = profile; name = string_bytes names.0; top = given_name asked.now.tops.now.first })
-        (record { profile = profile; name = string_bytes names.1; top = given_name asked.now.tops.now.second })
+    ensures fault { IfErr result (IsPairFault F.opens asked.now.why asked.now.view
+        (record { profile = profile; name = string_bytes names.0; top = given_name asked.now.tops.first })
+        (record { profile = profile; name = string_bytes names.1; top = given_name asked.now.tops.second })
         files.old files.new (O.contents out.old) (O.contents out.new)) }
     ensures errors { CountsFailure (O.write_errors out.old) (O.write_errors out.new) (is_cut result) }
 {
