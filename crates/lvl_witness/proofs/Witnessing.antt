@@ -1,5 +1,7 @@
 -- What a witness shows: the top covers the square.
-use Rattle.std.proofs.Common.{◌≡◌, ℕ, zero, suc, List, [], length, get_or, slice_get, Option, Some, None, Result, Ok, Err, IfOk, IfNone, IsSomeAnd, All, Contains, inl, inr, refl, sym, subst}
+use Rattle.std.proofs.Common.{◌≡◌, ℕ, zero, suc, List, [], length, get_or, slice_get, Option, Some, None}
+use Rattle.std.proofs.Common.{Result, Ok, Err, IfOk, IfNone, IsSomeAnd, All, Contains, inl, inr, refl, sym}
+use Rattle.std.proofs.Common.{subst}
 use Rattle.std.proofs.lemmas.List.Elements.{Contains-get_or}
 use Rattle.lvl_grid.specs.declared.point.Point.{Point}
 use Rattle.lvl_grid.specs.declared.point.Square.{Square}

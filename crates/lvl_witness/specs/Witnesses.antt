@@ -14,8 +14,8 @@ use Rattle.lvl_witness.specs.Wide.{as_point}
 use Rattle.lvl_witness.specs.declared.witness.Step.{Step}
 use Rattle.lvl_witness.specs.declared.witness.PlacedRing.{PlacedRing}
 
--- the step names a reference of the cell c and one of its shifts, which lead to the cell d; if c is placed by the map w,
--- this places d by the map m
+-- the step names a reference of the cell c and one of its shifts, which lead to the cell d; if c is placed by the map
+-- w, this places d by the map m
 pub record LeadsOn (cells : List (PlainCell Rings)) (w : Map) (c : PlainCell Rings) (m : Map) (d : PlainCell Rings)
     (step : Step) : Type 0 where
   pub reference : PlainReference

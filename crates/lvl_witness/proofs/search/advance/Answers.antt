@@ -1,4 +1,5 @@
-use Rattle.std.proofs.Common.{◌≡◌, ◌<◌, ◌-◌, ◌++◌, ◌∷◌, [], List, suc, length, take, vec_len, IfSome, IfNone, sym, ap, subst, ◌∙◌, arith, Contains, IsSomeAnd, inl, inr, refl}
+use Rattle.std.proofs.Common.{◌≡◌, ◌<◌, ◌-◌, ◌++◌, ◌∷◌, [], List, suc, length, take, vec_len, IfSome, IfNone}
+use Rattle.std.proofs.Common.{sym, ap, subst, ◌∙◌, arith, Contains, IsSomeAnd, inl, inr, refl}
 use Rattle.std.proofs.lemmas.List.{length-append}
 use Rattle.lvl_grid.specs.declared.point.Square.{Square}
 use Rattle.lvl_grid.specs.declared.map.Map.{Map}
@@ -16,7 +17,8 @@ use Rattle.lvl_witness.specs.inside.Wide.{as_square}
 use Rattle.lvl_witness.specs.inside.Moves.{begun, Enters}
 use Rattle.lvl_witness.specs.inside.Searching.{HasNoRing, IsRingOfCell, IsSearch, PlacedCovers, work_left}
 use Rattle.lvl_witness.proofs.Going.{less_into, less_known}
-use Rattle.lvl_witness.proofs.Searching.{search_out, search_past, search_known, search_into, last_empty, leads_into, last_reached, entered_reached}
+use Rattle.lvl_witness.proofs.Searching.{search_out, search_past, search_known, search_into, last_empty}
+use Rattle.lvl_witness.proofs.Searching.{leads_into, last_reached, entered_reached}
 use Rattle.lvl_witness.proofs.search.advance.Goals as goal
 
 pub next_move-requires : goal.next_move-requires
@@ -50,7 +52,8 @@ returns-in-Some-clause-some c =
       cell = e.next;
       leads =
           subst (λ n. Leads s.cells c.requires.search.top (steps ++ step ∷ []) n m e.next) long
-          (leads_into s layers q c.args.search.now.frames.items c.args.frame steps step m c.in-Into.rest c.requires.search e);
+          (leads_into s layers q c.args.search.now.frames.items c.args.frame steps step m c.in-Into.rest
+          c.requires.search e);
       covers = ring e.next e.leads.cell_is;
     })
 
@@ -67,8 +70,8 @@ pub returns-in_ok-push-in-Past-clause-none : goal.returns-in_ok-push-in-Past-cla
 returns-in_ok-push-in-Past-clause-none c =
     subst (λ fs. IsSearch c.args.fitted.now c.args.layers.now c.args.square fs c.args.search.now.steps.items)
     (sym c.in_ok-push-in-Past.ensures.items)
-    (search_past c.args.fitted.now c.args.layers.now c.args.square c.args.search.now.frames.items c.args.frame c.in-Past.rest
-    c.args.search.now.steps.items c.requires.search c.in-Past.ensures)
+    (search_past c.args.fitted.now c.args.layers.now c.args.square c.args.search.now.frames.items c.args.frame
+    c.in-Past.rest c.args.search.now.steps.items c.requires.search c.in-Past.ensures)
 
 pub returns-in_ok-push-in-Into-3-clause-none : goal.returns-in_ok-push-in-Into-3-clause-none
 returns-in_ok-push-in-Into-3-clause-none c =
