@@ -1,5 +1,6 @@
 -- What frames cover.
-use Rattle.std.proofs.Common.{◌≡◌, ◌+◌, ℕ, List, ◌∷◌, length, sum_by, slice_get, Option, Some, Any, ◌⊎◌, inl, inr, sym, ap, subst, ◌∙◌}
+use Rattle.std.proofs.Common.{◌≡◌, ◌+◌, ℕ, List, ◌∷◌, length, sum_by, slice_get, Option, Some, Any, ◌⊎◌, inl}
+use Rattle.std.proofs.Common.{inr, sym, ap, subst, ◌∙◌}
 use Rattle.std.specs.Option.{option_map_or}
 use Rattle.std.proofs.lemmas.List.Sums.{sum_by-cons}
 use Rattle.lvl_grid.specs.declared.point.Square.{Square}

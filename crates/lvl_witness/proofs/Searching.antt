@@ -1,5 +1,6 @@
 -- The state of the search is kept by each move.
-use Rattle.std.proofs.Common.{◌≡◌, ◌<◌, ◌≤◌, ◌+◌, ◌-◌, ◌++◌, ℕ, zero, suc, List, [], ◌∷◌, length, drop, take, slice_get, Some, IsSomeAnd}
+use Rattle.std.proofs.Common.{◌≡◌, ◌<◌, ◌≤◌, ◌+◌, ◌-◌, ◌++◌, ℕ, zero, suc, List, [], ◌∷◌, length, drop, take}
+use Rattle.std.proofs.Common.{slice_get, Some, IsSomeAnd}
 use Rattle.std.proofs.Common.{Any, Contains, ◌⊎◌, inl, inr, refl, sym, ap, append_assoc, subst, ◌∙◌, arith}
 use Rattle.std.proofs.lemmas.Bool.{cases_order}
 use Rattle.std.proofs.lemmas.List.{append-nil, drop-append-le, length-append, length-take}
@@ -31,7 +32,8 @@ use Rattle.lvl_witness.proofs.Leading.{leads_alike, leads_chain}
 -- the last frames are replaced by others that cover as much
 pub left_after : (cells : List (PlainCell Rings)) (layers : List Layer) (q : Square) (front old new : List Frame)
     (k : ℕ) (m : Map) (c : PlainCell Rings) → k ≤ length front → IsLeft cells layers q (front ++ old) k m c
-    → ((layer : Layer) → Contains layers layer → Any (FrameCovers cells layer q) old → Any (FrameCovers cells layer q) new)
+    → ((layer : Layer) → Contains layers layer → Any (FrameCovers cells layer q) old
+    → Any (FrameCovers cells layer q) new)
     → IsLeft cells layers q (front ++ new) k m c
 left_after cells layers q front old new k m c on before goes = record {
   left = λ layer listed covers.
@@ -50,7 +52,8 @@ pub placed_after : (cells : List (PlainCell Rings)) (layers : List Layer) (q : S
     (front old new : List Frame) (steps others : List Step) (k : ℕ) (f g : Frame) → k ≤ length front
     → ((j : ℕ) → j < k → slice_get steps j ≡ slice_get others j) → g.cell ≡ f.cell → g.map ≡ f.map
     → IsPlaced cells layers q top (front ++ old) steps k f
-    → ((layer : Layer) → Contains layers layer → Any (FrameCovers cells layer q) old → Any (FrameCovers cells layer q) new)
+    → ((layer : Layer) → Contains layers layer → Any (FrameCovers cells layer q) old
+    → Any (FrameCovers cells layer q) new)
     → IsPlaced cells layers q top (front ++ new) others k g
 placed_after cells layers q top front old new steps others k f g on same cell map before goes = record {
   cell = before.cell;
@@ -251,7 +254,8 @@ search_into s layers q front f steps step m rest w e own =
     elim (Any-uncons P f [] a) [
       | inl u ↦
           elim (covers_entered cells layer q f step m rest e u) [
-            | inl below ↦ Any-tail P rest (child ∷ []) (Any-head P child [] (own layer e.next listed e.leads.cell_is below))
+            | inl below ↦ Any-tail P rest (child ∷ []) (Any-head P child []
+                (own layer e.next listed e.leads.cell_is below))
             | inr later ↦ Any-head P rest (child ∷ []) later
           ]
       | inr nothing ↦ absurd (Any-nil P nothing)
@@ -306,7 +310,8 @@ search_into s layers q front f steps step m rest w e own =
                         let P : Frame → Type 0 = FrameCovers cells layer q in
                         let rest_is : drop k (lower ++ child ∷ []) ≡ child ∷ [] =
                         ap (λ n. drop n (lower ++ child ∷ [])) last.0 ∙ drop-append_seam lower (child ∷ []) in
-                        subst (Any P) (sym rest_is) (Any-head P child [] (own layer e.next listed e.leads.cell_is covers));
+                        subst (Any P) (sym rest_is) (Any-head P child []
+                        (own layer e.next listed e.leads.cell_is covers));
                   };
                 })
           ];

@@ -44,7 +44,8 @@ past_skipped cells q f c r at there past =
     let same : pending cells f ≡ pending cells next =
     pending_at cells f c at
     ∙ (pick_last c.references f.reference f.place r there past
-    ∙ (sym (pick_last c.references f.reference (f.place + 1) r there (omega (arith, past))) ∙ sym (pending_at cells next c at))) in
+    ∙ (sym (pick_last c.references f.reference (f.place + 1) r there (omega (arith, past)))
+    ∙ sym (pending_at cells next c at))) in
     record {
       on = omega arith;
       covers = λ layer u. (u.0, u.1, subst (Any (PickCovers cells layer u.0)) same u.2);
@@ -89,7 +90,8 @@ skipped_by cells q f c r zero at there none =
     let same : f.place ≡ f.place + 0 = omega arith in subst (IsSkipped cells q f) same (nothing_skipped cells q f)
 skipped_by cells q f c r (suc n) at there none =
     let before : IsSkipped cells q f (f.place + n) =
-    skipped_by cells q f c r n at there (λ layer t k e place on below. none layer t k e place on (omega (arith, below))) in
+    skipped_by cells q f c r n at there
+    (λ layer t k e place on below. none layer t k e place on (omega (arith, below))) in
     let u : Frame = at_place f (f.place + n) in
     let further : IsSkipped cells q u (f.place + n + 1) =
     elim (cases_order (length r.shifts) (f.place + n)) [

@@ -1,5 +1,7 @@
 -- What a witness shows: the top covers the square.
-use Rattle.std.proofs.Common.{◌≡◌, ℕ, zero, suc, List, [], length, get_or, slice_get, Option, Some, None, Result, Ok, Err, IfOk, IfNone, IsSomeAnd, All, Contains, inl, inr, refl, sym, subst}
+use Rattle.std.proofs.Common.{◌≡◌, ℕ, zero, suc, List, [], length, get_or, slice_get, Option, Some, None}
+use Rattle.std.proofs.Common.{Result, Ok, Err, IfOk, IfNone, IsSomeAnd, All, Contains, inl, inr, refl, sym}
+use Rattle.std.proofs.Common.{subst}
 use Rattle.std.proofs.lemmas.List.Elements.{Contains-get_or}
 use Rattle.lvl_grid.specs.declared.point.Point.{Point}
 use Rattle.lvl_grid.specs.declared.point.Square.{Square}
@@ -27,7 +29,6 @@ use Rattle.lvl_witness.specs.inside.Moves.{FrameCovers}
 use Rattle.lvl_witness.specs.inside.Rings.{ShapesCover}
 use Rattle.lvl_witness.specs.inside.Searching.{HasNoRing, IsRingOfCell, IsSearch, PlacedCovers}
 use Rattle.lvl_witness.proofs.Covering.{covers_begun}
-use Rattle.lvl_witness.proofs.Leading.{leads_chain}
 
 -- what a cell covers at the end of a chain, the cell at its beginning covers
 chain_covers : (cells : List (PlainCell Rings)) (top : PlainCell Rings) (layer : Layer) (q : Square) (n : ℕ) (m : Map)
@@ -71,8 +72,7 @@ pub witness_covers : (s : Settled) (layers : List Layer) (q : Square) (steps : L
     → IsWitness s layers q steps p → TopCovers s p.layer q
 witness_covers s layers q steps p w =
     let covers : CellCovers SomeCovers s.cells p.layer w.top q =
-    chain_covers s.cells w.top p.layer q (length steps) w.map w.cell
-    (leads_chain s.cells w.top steps (length steps) w.map w.cell w.leads)
+    chain_covers s.cells w.top p.layer q (length steps) w.map w.cell w.chain
     (ring_covers s.cells w.cell w.map layers q p w.covers) in
     subst (λ o. IsSomeAnd o (λ c. CellCovers SomeCovers s.cells p.layer c q)) (sym w.is_top) covers
 
@@ -119,5 +119,6 @@ top_witness s layers q p top at ring = record {
   map = unmoved;
   cell = top;
   leads = (refl, refl);
+  chain = (refl, refl);
   covers = ring top at;
 }

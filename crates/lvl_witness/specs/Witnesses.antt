@@ -7,15 +7,15 @@ use Rattle.lvl_grid.specs.Turn.{shifted}
 use Rattle.lvl_grid.specs.Placed.{IsPlaceOfCovered}
 use Rattle.lvl_names.specs.declared.layer.Layer.{Layer}
 use Rattle.lvl_cells.specs.Cells.{PlainCell, PlainShape, PlainReference, Rings, map_at, cell_named}
-use Rattle.lvl_cells.specs.Chains.{IsComposed, unmoved}
+use Rattle.lvl_cells.specs.Chains.{Chain, IsComposed, unmoved}
 use Rattle.lvl_cells.specs.Checks.{Settled}
 use Rattle.lvl_witness.specs.Boxes.{IsBoxOf}
 use Rattle.lvl_witness.specs.Wide.{as_point}
 use Rattle.lvl_witness.specs.declared.witness.Step.{Step}
 use Rattle.lvl_witness.specs.declared.witness.PlacedRing.{PlacedRing}
 
--- the step names a reference of the cell c and one of its shifts, which lead to the cell d; if c is placed by the map w,
--- this places d by the map m
+-- the step names a reference of the cell c and one of its shifts, which lead to the cell d; if c is placed by the map
+-- w, this places d by the map m
 pub record LeadsOn (cells : List (PlainCell Rings)) (w : Map) (c : PlainCell Rings) (m : Map) (d : PlainCell Rings)
     (step : Step) : Type 0 where
   pub reference : PlainReference
@@ -54,7 +54,8 @@ pub record IsCoveringRing (shapes : List (PlainShape Rings)) (m : Map) (layers :
   pub covers : IsPlaceOfCovered m shift ring q
   pub is_box : IsBoxOf (as_point p.low) (as_point p.high) (map (shifted shift) ring)
 
--- the steps lead from the top to a cell, and the ring is one of this cell that covers the square as they place it
+-- the steps lead from the top to a cell, as a chain of references does, and the ring is one of this cell that covers the
+-- square as they place it
 pub record IsWitness (s : Settled) (layers : List Layer) (q : Square) (steps : List Step) (ring : PlacedRing)
     : Type 0 where
   pub top : PlainCell Rings
@@ -62,4 +63,5 @@ pub record IsWitness (s : Settled) (layers : List Layer) (q : Square) (steps : L
   pub map : Map
   pub cell : PlainCell Rings
   pub leads : Leads s.cells top steps (length steps) map cell
+  pub chain : Chain s.cells top (length steps) map cell
   pub covers : IsCoveringRing cell.shapes map layers q ring

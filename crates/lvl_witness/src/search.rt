@@ -95,7 +95,8 @@ fn advance(
     search: &mut Search,
     frame: Frame,
 ) -> Result<Option<PlacedRing>, AllocError>
-    requires search { IsSearch fitted.now layers.now square (search.old.frames.items ++ frame ∷ []) search.old.steps.items }
+    requires search { IsSearch fitted.now layers.now square (search.old.frames.items ++ frame ∷ [])
+        search.old.steps.items }
     requires known { AreEmpty fitted.now.cells layers.now search.old.known }
     ensures some { IfOk result (λ found. IfSome found
         (IsWitness fitted.now layers.now square search.new.steps.items)) }

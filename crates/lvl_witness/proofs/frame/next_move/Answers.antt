@@ -53,8 +53,8 @@ returns-in_default c =
     let skipped : IsSkipped s.cells c.args.square f to =
     places_skipped s.cells c.args.square f cell r to at there c.next_place-place.ensures.on
     (λ layer t k e placed from below shift covers.
-    apart_uncovered s.cells c.target_of-cell.result r target.next (as_square c.pulled.result) f.place to area target.named
-    target.there c.area_of_reference-area.ensures.has apart layer k e from below shift
+    apart_uncovered s.cells c.target_of-cell.result r target.next (as_square c.pulled.result) f.place to area
+    target.named target.there c.area_of_reference-area.ensures.has apart layer k e from below shift
     (subst (λ u. PickCovers s.cells layer u (r, e)) ((c.pulled.ensures.square t).0 placed) covers)) in
     goes_past s.cells c.args.square f cell r to at there (past_end r.shifts to c.in_default.ensures.none) skipped
 
@@ -76,8 +76,8 @@ unreachable-requires c =
     let place : IsPlacing r c.next_place-place.result c.in-Some.by = c.in-Some.ensures.some in
     let fits : FitsPoint (image f.map c.in-Some.by.at) =
     subst (λ (m : Map). FitsPoint (image f.map m.at)) (sym place.map_is)
-    (reached_fits s f c.requires cell target.next r place.shift c.next_place-place.result c.checked-checked.ensures.in_range
-    at there place.there target.named) in
+    (reached_fits s f c.requires cell target.next r place.shift c.next_place-place.result
+    c.checked-checked.ensures.in_range at there place.there target.named) in
     let no = c.in_default-then.ensures.fits.1 fits in
     cc
 
@@ -103,8 +103,8 @@ returns c =
     let skipped : IsSkipped s.cells c.args.square f to =
     places_skipped s.cells c.args.square f cell r to at there c.next_place-place.ensures.on
     (λ layer t k e placed from below shift covers.
-    apart_uncovered s.cells c.target_of-cell.result r target.next (as_square c.pulled.result) f.place to area target.named
-    target.there c.area_of_reference-area.ensures.has apart layer k e from below shift
+    apart_uncovered s.cells c.target_of-cell.result r target.next (as_square c.pulled.result) f.place to area
+    target.named target.there c.area_of_reference-area.ensures.has apart layer k e from below shift
     (subst (λ u. PickCovers s.cells layer u (r, e)) ((c.pulled.ensures.square t).0 placed) covers)) in
     let place : IsPlacing r to c.in-Some.by = c.in-Some.ensures.some in
     record {

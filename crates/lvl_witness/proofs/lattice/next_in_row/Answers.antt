@@ -3,7 +3,8 @@ use Rattle.lvl_names.specs.Shifts.{lattice, steps}
 use Rattle.lvl_witness.specs.declared.lattice.Lattice.{Lattice}
 use Rattle.lvl_witness.proofs.InRows.{at_column, row_inside}
 use Rattle.lvl_witness.proofs.lattice.next_in_row.Goals as goal
-use Rattle.lvl_witness.proofs.lattice.next_in_row.Goals.{then-column-columns-via-then-column-columns, then-column-columns-via-else-column-columns+then-column-lattice}
+use Rattle.lvl_witness.proofs.lattice.next_in_row.Goals.{then-column-columns-via-then-column-columns}
+use Rattle.lvl_witness.proofs.lattice.next_in_row.Goals.{then-column-columns-via-else-column-columns+then-column-lattice}
 
 pub unreachable-requires : goal.unreachable-requires
 unreachable-requires c =

@@ -20,5 +20,5 @@ unreachable-requires c =
 
 pub returns : goal.returns
 returns c = λ k e at inside.
-    rows_inside c.args.shifts.now c.args.lattice.now c.args.area.now c.widened.result c.steps_within.result c.in-Some.end
-    k e c.requires.lattice (sym c.at.ensures ∙ c.in-Some.is) c.widened.ensures.has c.steps_within.ensures at inside
+    rows_inside c.args.shifts.now c.args.lattice.now c.args.area.now c.widened.result c.steps_within.result
+    c.in-Some.end k e c.requires.lattice (sym c.at.ensures ∙ c.in-Some.is) c.widened.ensures.has c.steps_within.ensures at inside

@@ -20,7 +20,8 @@ loop-place-init c = λ k e below at.
 pub unreachable-requires : goal.unreachable-requires
 unreachable-requires c =
     let shifts : List Point = c.args.shifts.now in
-    let there = item_there shifts c.loop-place.place (omega (arith, c.loop-place-test.true, c.len-count.ensures.count)) in
+    let there =
+    item_there shifts c.loop-place.place (omega (arith, c.loop-place-test.true, c.len-count.ensures.count)) in
     let none : slice_get shifts c.loop-place.place ≡ None = sym c.at.ensures ∙ c.in_default.is in
     let some : slice_get shifts c.loop-place.place ≡ Some there.0 = there.1 in
     cc

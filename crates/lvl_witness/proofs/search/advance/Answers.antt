@@ -1,4 +1,5 @@
-use Rattle.std.proofs.Common.{◌≡◌, ◌<◌, ◌-◌, ◌++◌, ◌∷◌, [], List, suc, length, take, vec_len, IfSome, IfNone, sym, ap, subst, ◌∙◌, arith, Contains, IsSomeAnd, inl, inr, refl}
+use Rattle.std.proofs.Common.{◌≡◌, ◌<◌, ◌-◌, ◌++◌, ◌∷◌, [], List, suc, length, take, vec_len, IfSome, IfNone}
+use Rattle.std.proofs.Common.{sym, ap, subst, ◌∙◌, arith, Contains, IsSomeAnd, inl, inr, refl}
 use Rattle.std.proofs.lemmas.List.{length-append}
 use Rattle.lvl_grid.specs.declared.point.Square.{Square}
 use Rattle.lvl_grid.specs.declared.map.Map.{Map}
@@ -15,8 +16,11 @@ use Rattle.lvl_witness.specs.inside.Known.{seen_at}
 use Rattle.lvl_witness.specs.inside.Wide.{as_square}
 use Rattle.lvl_witness.specs.inside.Moves.{begun, Enters}
 use Rattle.lvl_witness.specs.inside.Searching.{HasNoRing, IsRingOfCell, IsSearch, PlacedCovers, work_left}
+use Rattle.lvl_cells.specs.Cells.{PlainCell, Rings}
+use Rattle.lvl_witness.proofs.Leading.{leads_chain}
 use Rattle.lvl_witness.proofs.Going.{less_into, less_known}
-use Rattle.lvl_witness.proofs.Searching.{search_out, search_past, search_known, search_into, last_empty, leads_into, last_reached, entered_reached}
+use Rattle.lvl_witness.proofs.Searching.{search_out, search_past, search_known, search_into, last_empty}
+use Rattle.lvl_witness.proofs.Searching.{leads_into, last_reached, entered_reached}
 use Rattle.lvl_witness.proofs.search.advance.Goals as goal
 
 pub next_move-requires : goal.next_move-requires
@@ -42,15 +46,19 @@ returns-in-Some-clause-some c =
     subst (λ o. IfSome o (IsRingOfCell s.cells step.cell m layers q)) c.in-Some.is c.in_ok-ring-in-Into.ensures.some in
     let long : suc (length steps) ≡ length (steps ++ step ∷ []) =
     omega (arith, length-append steps (step ∷ [])) in
+    let top : PlainCell Rings = c.requires.search.top in
+    let more : List Step = steps ++ step ∷ [] in
+    let leads : Leads s.cells top more (length more) m e.next =
+    subst (λ n. Leads s.cells top more n m e.next) long
+    (leads_into s layers q c.args.search.now.frames.items c.args.frame steps step m c.in-Into.rest c.requires.search e) in
     subst (λ ss. IsWitness s layers q ss c.in-Some.ring) (sym c.in_ok-push-in-Into-2.ensures.items)
     (record {
-      top = c.requires.search.top;
+      top = top;
       is_top = c.requires.search.is_top;
       map = m;
       cell = e.next;
-      leads =
-          subst (λ n. Leads s.cells c.requires.search.top (steps ++ step ∷ []) n m e.next) long
-          (leads_into s layers q c.args.search.now.frames.items c.args.frame steps step m c.in-Into.rest c.requires.search e);
+      leads = leads;
+      chain = leads_chain s.cells top more (length more) m e.next leads;
       covers = ring e.next e.leads.cell_is;
     })
 
@@ -67,8 +75,8 @@ pub returns-in_ok-push-in-Past-clause-none : goal.returns-in_ok-push-in-Past-cla
 returns-in_ok-push-in-Past-clause-none c =
     subst (λ fs. IsSearch c.args.fitted.now c.args.layers.now c.args.square fs c.args.search.now.steps.items)
     (sym c.in_ok-push-in-Past.ensures.items)
-    (search_past c.args.fitted.now c.args.layers.now c.args.square c.args.search.now.frames.items c.args.frame c.in-Past.rest
-    c.args.search.now.steps.items c.requires.search c.in-Past.ensures)
+    (search_past c.args.fitted.now c.args.layers.now c.args.square c.args.search.now.frames.items c.args.frame
+    c.in-Past.rest c.args.search.now.steps.items c.requires.search c.in-Past.ensures)
 
 pub returns-in_ok-push-in-Into-3-clause-none : goal.returns-in_ok-push-in-Into-3-clause-none
 returns-in_ok-push-in-Into-3-clause-none c =
