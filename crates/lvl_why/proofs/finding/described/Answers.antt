@@ -1,4 +1,5 @@
 use Rattle.std.proofs.Common.{◌≡◌, ◌∙◌, List, length, map, All, sym, subst, ap}
+use Rattle.lvl_cells.specs.Chains.{Chain}
 use Rattle.lvl_cells.specs.Checks.{Settled}
 use Rattle.lvl_witness.specs.Witnesses.{Leads}
 use Rattle.lvl_witness.specs.declared.witness.Step.{Step}
@@ -32,6 +33,8 @@ returns c =
         cell = w.cell;
         leads =
             subst (λ (others : List Step). Leads s.cells w.top others (length others) w.map w.cell) (sym steps) w.leads;
+        chain =
+            subst (λ (others : List Step). Chain s.cells w.top (length others) w.map w.cell) (sym steps) w.chain;
         covers = w.covers;
       };
       top =
