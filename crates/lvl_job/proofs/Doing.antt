@@ -217,7 +217,7 @@ module _ {S : Type 0} (opens : S → List ℕ → Option (Option (List ℕ)) →
       → IsViewAsked (option_map string_bytes map_text) (option_map string_bytes window_text) view
       → (old : S) (from : Option (List ℕ)) (fault : JobFault) → IsNoIgnore (option_map string_bytes ignored) fault
       → IsFaultOfJob opens (Compare first second top_a top_b map_text window_text ignored is_large why) old old from from
-        fault
+      fault
   ignore_fault first second top_a top_b map_text window_text ignored is_large why view asked old from fault =
       no_ignore (Compare first second top_a top_b map_text window_text ignored is_large why) (option_map string_bytes ignored)
       old from fault (λ h. record { view = view; asked = asked; holds = h })

@@ -143,7 +143,10 @@ fn push_shown(text: &mut Vec<u8>, shown: &Shown) -> io::Result<()>
 }
 
 /// Appends an answer.
-pub(crate) fn push_answer(text: &mut Vec<u8>, answer: &Result<Comparison, Refusal>) -> io::Result<()>
+pub(crate) fn push_answer(
+    text: &mut Vec<u8>,
+    answer: &Result<Comparison, Refusal>,
+) -> io::Result<()>
     ensures { OnOk result (text.new.items ≡ text.old.items ++ text_of answer.now) }
 {
     match answer {
