@@ -174,7 +174,7 @@ fn words_of(alloc: Global, line: &'static str) -> Result<Vec<&'static str>, Allo
     Ok(words)
 }
 
-static LINES: [(&str, Asks<'static>); 54] = [
+static LINES: [(&str, Asks<'static>); 55] = [
     ("lvl compare a b", Asks::Compare("a", "b", None, None)),
     (
         "lvl compare a b --top-a X --top-b Y",

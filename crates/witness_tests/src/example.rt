@@ -4,6 +4,7 @@ use lvl_cells::Builder;
 use lvl_flat::Fitted;
 use lvl_grid::Square;
 use lvl_names::Offsets;
+use lvl_why::explain;
 use lvl_witness::find_witness;
 use std::alloc::Global;
 use std::test::Fail;
@@ -27,5 +28,15 @@ fn a_ring_is_found(rt: HostRuntime) -> Result<(), Fail> {
     let witness = find_witness(alloc, &fitted, &[METAL], Square { x: 3, y: 1 })?.ok_or("none")?;
     assert_eq!(rt; witness.steps.len(), 1);
     assert_eq!(rt; witness.ring.shape, 0);
+    Ok(())
+}
+
+#[test]
+fn a_ring_is_found_with_names(rt: HostRuntime) -> Result<(), Fail> {
+    let alloc = rt.alloc();
+    let fitted = placed(alloc)?;
+    let why = explain(alloc, &fitted, &[METAL], Square { x: 3, y: 1 })?.ok_or("none")?;
+    assert_eq!(rt; why.top.as_slice(), b"TOP".as_slice());
+    assert_eq!(rt; why.steps.len(), 1);
     Ok(())
 }
