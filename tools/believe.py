@@ -25,15 +25,17 @@ SUBJECTS = {
     "OASIS": ["oasis_library", "oasis_stream", "oasis_figures", "oasis_records", "oasis_values"],
     "Views": ["lvl_view", "lvl_compare", "lvl_columns"],
     "Digests": ["lvl_corners"],
+    "Reasons": ["lvl_why", "lvl_witness"],
 }
 
 # The contracts, and of each the clauses whose names begin a part of the page.
 PARTS = [
     ("`same` and `differ`", [("compare.rt", "compare_layouts", {"same", "differ"})]),
     ("What refusals need beside that", [("compare.rt", "compare_layouts", None)]),
-    ("Views, heads and digests", [
+    ("Views, heads, reasons and digests", [
         ("compare.rt", "compare_view", None),
         ("compare.rt", "compare_files", None),
+        ("compare.rt", "explain_files", None),
         ("digest.rt", "digest_file", None),
         ("digest.rt", "digests_decide", None),
         ("layout.rt", "widening_keeps", None),
@@ -292,10 +294,10 @@ code with them, and a checker reads the proofs; the definitions themselves only 
 [PROOF.md](PROOF.md) has the clauses that name them.
 
 `tools/believe.py` writes this page, and `make check` fails if it is out of date. It begins with the names in the
-contracts of `compare_layouts`, and then of `compare_view`, `compare_files`, `digest_file`, `digests_decide` and
-`widening_keeps`, and goes from each definition to all those that it names; each is listed once, in the first part
-that needs it. A number is the line in the file, and what follows it is the comment that stands there; a file is followed by its first comment. Lines are
-counted without comments, and types of the code aren't counted. What the program prints (`lvl_text`, `lvl_report`,
+contracts of `compare_layouts`, and then of `compare_view`, `compare_files`, `explain_files`, `digest_file`,
+`digests_decide` and `widening_keeps`, and goes from each definition to all those that it names; each is listed once, in
+the first part that needs it. A number is the line in the file, and what follows it is the comment there; a file is
+followed by its first comment. Lines are counted without comments, and types of the code aren't counted. What the program prints (`lvl_text`, `lvl_report`,
 `lvl_job`, `lvl_line`) has definitions of its own, which the verdict doesn't need.
 """
 
