@@ -266,7 +266,7 @@ def layers_and_lists():
     own = [rectangle(4 * (at % 2000), 4 * (at // 2000), 1, 1, 1, listed([(2 + at % 3, 1)])) for at in range(n)]
     yield case("3,000,000 rectangles with two places each", 2 * n, one(*own))
     yield case("the same, the other way round", 4 * n, one(*own), one(*own[::-1]))
-    two = oas_cell("A", rectangle(0, 0, 1, 1)), oas_cell("B", rectangle(0, 0, 1, 1))
+    two = [*oas_cell("A", rectangle(0, 0, 1, 1)), *oas_cell("B", rectangle(0, 0, 1, 1))]
     turn = lambda n, *more: (placement("AB"[at % 2], 3 * (at % 2000), 3 * (at // 2000), *more) for at in range(n))
     yield case("5,000,000 placements of two cells in turn", 5_000_000, oas_file(*two, oas_cell("TOP", *turn(5_000_000))))
     yield case("3,000,000 such placements with two places each", 6_000_000,
