@@ -14,6 +14,9 @@ or on another layer, a cell renamed, a placement moved or turned, an array with 
 half of the second layouts are said in other words: cells renamed or with exchanged names, references dissolved, cells
 cut in two, arrays split, wrappers put in. Of one pair in five the top hides most of it.
 
+With `--why` the reason is asked for as well: all other lines must be as without it, and `why.py` checks the reason of
+each difference, as it is and with one of its numbers changed.
+
 With `--far` the coordinates are anywhere in 64 bits, and the right answer is that of `exact.py`. Then the script
 goes on after a wrong or late answer, keeps the files of each in the folder that it prints, and ends with status
 1 if there was one.
@@ -22,6 +25,7 @@ import collections
 import multiprocessing
 import os
 import random
+import re
 import resource
 import shutil
 import subprocess
@@ -37,6 +41,7 @@ import oasis
 import oasis_reader
 import options
 import spelling
+import why
 from answers import EVERYTHING, NOTHING, WORDS
 
 MOST_BYTES = 4 * 2**30
@@ -97,6 +102,40 @@ def answer_of(lvl, files, words):
     """The last line on standard output; if there is none, on standard error."""
     done = subprocess.run([*words_of(lvl, files), *words], capture_output=True, text=True)
     return (done.stdout or done.stderr).strip().split("\n")[-1]
+
+
+def said(lvl, files, words):
+    """The lines on standard output."""
+    return subprocess.run([*words_of(lvl, files), *words], capture_output=True, text=True).stdout.splitlines()
+
+
+def changed_reason(rng, lines):
+    """The lines of an answer with one number of its reason changed, and nothing if there is no number."""
+    numbers = [(at, found) for at, line in enumerate(lines) if line.startswith("why:")
+               for found in re.finditer(r"(?<= )-?\d+(?= |$|,)", line)]
+    at, found = rng.choice(numbers)
+    number = int(found[0]) + rng.choice([-1, 1])
+    return [*lines[:at], lines[at][:found.start()] + str(number) + lines[at][found.end():], *lines[at + 1:]]
+
+
+def checked_reason(rng, lvl, files, words):
+    """What is wrong with the reason that is given with these words, or how one that is changed was taken."""
+    lines, plain = said(lvl, files, [*words, "--why"]), said(lvl, files, words)
+    data = [open(name, "rb").read() for name in files]
+    mapped = "--map" in words
+    if [line for line in lines if not line.startswith("why:")] != plain:
+        return "wrong: other lines than without --why"
+    if not plain[-1].startswith("differ"):
+        return "no reason" if lines == plain else "wrong: a reason without a difference"
+    try:
+        why.check_answer(data, "\n".join(lines), ("TOP", "TOP"), mapped)
+    except why.Wrong as wrong:
+        return "wrong: %s" % wrong
+    try:
+        why.check_answer(data, "\n".join(changed_reason(rng, lines)), ("TOP", "TOP"), mapped)
+    except why.Wrong:
+        return "reason right, and refused if it is changed"
+    return "reason right, and another that is right if it is changed"
 
 
 def words_of(lvl, files):
@@ -183,7 +222,10 @@ def main():
                       help="with --far: the number of processes (default: 1)")
     line.add_argument("--decorate", action="store_true", help="add records that draw nothing, and give --ignore")
     line.add_argument("--mutate", action="store_true", help="make hierarchies that differ by one mutation")
+    line.add_argument("--why", action="store_true", help="check the reasons of differences as well")
     asked = options.parsed(line)
+    if asked.why and (asked.far or asked.decorate):
+        line.error("--why has no --far and no --decorate")
     if asked.far and (asked.decorate or asked.mutate):
         line.error("--far has no records that draw nothing, and no mutations")
     sys.exit(hunt(asked) if asked.far else compared(asked))
@@ -214,8 +256,13 @@ def compared(asked):
                       % (at, folder, " ".join(words), expected, answer))
                 return 1
             counts[expected.split(":")[0]] += 1
+            reason = asked.why and checked_reason(rng, asked.program, files, words)
+            if reason and reason.startswith("wrong"):
+                print("seed %d in %s: %s\n  %s" % (at, folder, " ".join(words), reason))
+                return 1
+            counts[reason] += bool(reason)
     shutil.rmtree(folder)
-    print("%d pairs, all answers right: %s" % (asked.count, dict(counts)))
+    print("%d pairs, all answers right: %s" % (asked.count, {word: n for word, n in counts.items() if n}))
     return 0
 
 
