@@ -13,6 +13,13 @@ OASIS:
     lines      the arrays are split into rows: each row is an array of the macro
     wrapped    the array is in a cell of its own, which a macro places once
     drawn      the via is drawn in the bit
+    quadrants  the arrays are split into four arrays
+    halves     each rectangle of the bit is drawn in two halves
+    repaired   one bit of the macro is another cell that draws the same
+    pairs      a cell places two bits, and the arrays place that cell
+    turned     the bit is drawn turned, and the arrays turn it back
+    moved      the bit is drawn at another place, and the arrays move it back
+    cut        the bit is cut into two cells, and each is placed by an array
     more       the bit has a square more
     scattered  ten squares more in the top
     one        one square more in the top
@@ -111,6 +118,70 @@ def drawn(cells):
     return changed(cells, "BIT", flat)
 
 
+def with_array(cells, change):
+    """The chip with other references in its macro, made from the array that is there."""
+    return changed(cells, "MACRO", lambda cell: cell._replace(references=change(cell.references[0])))
+
+
+def in_quadrants(cells):
+    def split(array):
+        columns, rows = array.columns // 2, array.rows // 2
+        corners = [(i * columns * array.a[0], j * rows * array.b[1]) for i in (0, 1) for j in (0, 1)]
+        return [array._replace(at=at, columns=columns, rows=rows) for at in corners]
+
+    return with_array(cells, split)
+
+
+def in_halves(cells):
+    def halves(x, y, z, w, layer):
+        return [(x, y, (x + z) // 2, w, layer), ((x + z) // 2, y, z, w, layer)]
+
+    return changed(cells, "BIT", lambda cell: cell._replace(
+        boxes=[half for box in cell.boxes for half in halves(*box)]))
+
+
+def repaired(cells):
+    def split(array):
+        last = (array.columns - 1) * array.a[0]
+        column = array._replace(at=(last, 0), columns=1, a=(0, 0), rows=array.rows - 1)
+        corner = placed("SPARE", last, (array.rows - 1) * array.b[1])
+        return [array._replace(columns=array.columns - 1), column, corner]
+
+    return with_array(cells, split) + [bit()._replace(name="SPARE")]
+
+
+def in_pairs(cells):
+    def paired(array):
+        return [array._replace(cell="PAIR", columns=array.columns // 2, a=(2 * array.a[0], 0))]
+
+    return with_array(cells, paired) + [Cell("PAIR", [], [placed("BIT", 0, 0), placed("BIT", BIT[0], 0)])]
+
+
+def turned(cells):
+    def turn(cell):
+        boxes = [(y, -z, w, -x, layer) for x, y, z, w, layer in cell.boxes]
+        return cell._replace(boxes=boxes, references=[
+            r._replace(at=(r.at[1], -r.at[0]), quarters=3) for r in cell.references])
+
+    return changed(with_array(cells, lambda array: [array._replace(quarters=1)]), "BIT", turn)
+
+
+def moved(cells):
+    def move(cell):
+        boxes = [(x - 7, y + 3, z - 7, w + 3, layer) for x, y, z, w, layer in cell.boxes]
+        return cell._replace(boxes=boxes, references=[
+            r._replace(at=(r.at[0] - 7, r.at[1] + 3)) for r in cell.references])
+
+    return changed(with_array(cells, lambda array: [array._replace(at=(7, -3))]), "BIT", move)
+
+
+def cut(cells):
+    whole = bit()
+    parts = [Cell("LEFT", whole.boxes[:4], []), Cell("RIGHT", whole.boxes[4:], whole.references)]
+    split = with_array(cells, lambda array: [array._replace(cell=part.name) for part in parts])
+    return [cell for cell in split if cell.name != "BIT"] + parts
+
+
 def with_boxes(cells, name, boxes):
     return changed(cells, name, lambda cell: cell._replace(boxes=cell.boxes + boxes))
 
@@ -129,6 +200,13 @@ WORDS = {
     "lines": in_lines,
     "wrapped": wrapped,
     "drawn": drawn,
+    "quadrants": in_quadrants,
+    "halves": in_halves,
+    "repaired": repaired,
+    "pairs": in_pairs,
+    "turned": turned,
+    "moved": moved,
+    "cut": cut,
     "more": lambda cells: with_boxes(cells, "BIT", [(55, 20, 56, 21, 6)]),
     "scattered": scattered,
     "one": lambda cells: with_boxes(cells, "TOP", [(13, 13, 14, 14, 11)]),
