@@ -297,8 +297,9 @@ code with them, and a checker reads the proofs; the definitions themselves only 
 contracts of `compare_layouts`, and then of `compare_view`, `compare_files`, `explain_files`, `digest_file`,
 `digests_decide` and `widening_keeps`, and goes from each definition to all those that it names; each is listed once, in
 the first part that needs it. A number is the line in the file, and what follows it is the comment there; a file is
-followed by its first comment. Lines are counted without comments, and types of the code aren't counted. What the program prints (`lvl_text`, `lvl_report`,
-`lvl_job`, `lvl_line`) has definitions of its own, which the verdict doesn't need.
+followed by its first comment. Lines are counted without comments, and types of the code aren't counted. What the
+program prints (`lvl_text`, `lvl_report`, `lvl_job`, `lvl_line`) has definitions of its own, which the verdict doesn't
+need.
 """
 
 

@@ -68,7 +68,8 @@ fn compare_of(alloc: Global, words: &[&str], why: bool) -> Result<Job, AllocErro
 }
 
 /// The job of a line in order: two files, two tops, a map, a window and what is ignored, each `-` where it
-/// is none, after the word `why` if the reason is asked for; or one file, a top and what is ignored, to be shown, or hashed after the word `digest`.
+/// is none, after the word `why` if the reason is asked for; or one file, a top and what is ignored, to be shown, or
+/// hashed after the word `digest`.
 fn job_of(alloc: Global, line: &str) -> Result<Job, AllocError> {
     let mut words = Vec::new(alloc);
     for word in line.split(' ') {

@@ -75,11 +75,12 @@ fn compare_checked(
 
 /// Whether two files draw the same mask.
 ///
-/// A file is accepted if its bytes spell a library that is sound for its top and within the standard limits
-/// ([`lvl_profile::Limits`]), and each coordinate as placed fits in 64 signed bits (own rule). `Same` is returned only if both files are accepted and cover the same unit squares on every
-/// Layer, through all references. `Differ` names the least Layer on which they differ, and the least square
-/// on it, by y and then x, that only one side covers. A refusal names a file that isn't accepted, unless it
-/// is out of memory or a failed read.
+/// A file is accepted if its bytes spell a library that is sound for its top and within the
+/// standard limits ([`lvl_profile::Limits`]), and each coordinate as placed fits in 64 signed bits
+/// (own rule). `Same` is returned only if both files are accepted and cover the same unit squares
+/// on every Layer, through all references. `Differ` names the least Layer on which they differ, and
+/// the least square on it, by y and then x, that only one side covers. A refusal names a file that
+/// isn't accepted, unless it is out of memory or a failed read.
 pub fn compare_layouts<A: Read, B: Read>(
     alloc: Global,
     first: &mut A,

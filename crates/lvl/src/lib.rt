@@ -1,9 +1,10 @@
 //! Compares two layouts: whether they draw the same mask.
 //!
-//! [`compare_layouts`] reads two files, checks their cells, and compares what they cover on each Layer. It
-//! returns a [`Verdict`] or a [`Refusal`]. [`compare_view`] does the same with the Layers of the second
-//! file mapped, and only within a window, and [`explain_files`] says why two files differ. [`show_file`] returns what one file has, and [`digest_file`] a
-//! digest of the mask that it draws. Each format is a variant of [`Layout`], [`Head`] and [`FileFault`].
+//! [`compare_layouts`] reads two files, checks their cells, and compares what they cover on each
+//! Layer. It returns a [`Verdict`] or a [`Refusal`]. [`compare_view`] does the same with the Layers
+//! of the second file mapped, and only within a window, and [`explain_files`] says why two files
+//! differ. [`show_file`] returns what one file has, and [`digest_file`] a digest of the mask that
+//! it draws. Each format is a variant of [`Layout`], [`Head`] and [`FileFault`].
 //!
 //! `one` and `other` are two files in memory that draw the same:
 //!

@@ -274,8 +274,8 @@ impl Checked {
         }
     }
 
-    /// The same library with the cell at an index as its top. The cells aren't copied. None if there is no such cell, or
-    /// if it places more than the limits for whole chips allow.
+    /// The same library with the cell at an index as its top. The cells aren't copied. None if
+    /// there is no such cell, or if it places more than the limits for whole chips allow.
     pub fn rooted(&self, alloc: Global, top: usize) -> Result<Option<Checked>, AllocError>
         ensures { IfOk result (λ found. IfSome found (λ rooted.
             rooted ≡ record { cells = self.now.cells; top = top; order = self.now.order })) }

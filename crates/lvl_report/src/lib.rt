@@ -1,11 +1,12 @@
 //! The answers of lvl as text: two heads and a verdict, what is shown of a layout, its digest, or a
 //! refusal.
 //!
-//! [`run`] compares two files, [`run_view`] compares them under a view, [`run_show`] shows one, and
-//! [`run_digest`] hashes what one draws, and [`run_why`] says why two differ. Each makes the whole text of the answer, writes it, and returns a
-//! [`Status`], which gives the exit status of the program. The calls that take what is ignored return an
-//! [`Outcome`], which also has a [`Hint`] if something would mend a refusal. [`form`], [`form_shown`] and
-//! [`form_digest`] only make the text.
+//! [`run`] compares two files, [`run_view`] compares them under a view, [`run_why`] also says why
+//! they differ, [`run_show`] shows one, and [`run_digest`] hashes what one draws. Each makes the
+//! whole text of the answer, writes it, and returns a [`Status`], which gives the exit status of
+//! the program. The calls that take what is ignored return an [`Outcome`], which also has a
+//! [`Hint`] if something would mend a refusal. [`form`], [`form_shown`] and [`form_digest`] only
+//! make the text.
 //!
 //! `bytes` is a file that draws one square:
 //!
