@@ -1,6 +1,6 @@
 -- What the result of a reader says about the bytes, in any format.
 use Rattle.lvl_profile.specs.declared.profile.Profile.{Profile}
-use Rattle.std.proofs.Common.{◌≡◌, ◌∙◌, [], ◌∷◌, ◌++◌, List, ℕ, Option, Ok, Err, IfErr, ap, sym, subst, length, ◌<◌}
+use Rattle.std.proofs.Common.{◌≡◌, ◌∙◌, [], ◌∷◌, ◌++◌, List, ℕ, Option, Some, None, Ok, Err, IfErr, ap, sym, subst, length, ◌<◌, ◌≤◌}
 use Rattle.std.proofs.Common.{arith, append_assoc}
 use Rattle.std.specs.Prelude.{Result}
 use Rattle.std.specs.Io.KnownBytes.{prepend_known}
@@ -14,11 +14,13 @@ use Rattle.lvl_refusal.specs.Refused.{Says}
 use Rattle.lvl_grammar.specs.Refused.{IsHopeless as IsHopelessStream}
 use Rattle.gds_library.specs.Front.{IsRead as IsReadGds, SpellsNone as SpellsNoGds, gds}
 use Rattle.gds_library.specs.Ends.{Reports as ReportsGds, IsEarly as IsEarlyGds, IsExcused as IsExcusedGds}
+use Rattle.gds_library.specs.Ends.{ReportsUnread as ReportsUnreadGds}
 use Rattle.gds_library.specs.declared.fault.GdsFault.{GdsFault}
 use Rattle.gds_library.specs.declared.head.GdsHead.{GdsHead}
 use Rattle.oasis_stream.specs.Front.{oasis}
 use Rattle.oasis_library.specs.Library.{IsRead as IsReadOasis, SpellsNone as SpellsNoOasis}
 use Rattle.oasis_library.specs.Ends.{Reports as ReportsOasis, IsEarly as IsEarlyOasis, IsExcused as IsExcusedOasis}
+use Rattle.oasis_library.specs.Ends.{ReportsUnread as ReportsUnreadOasis}
 use Rattle.oasis_library.specs.declared.fault.OasisFault.{OasisFault}
 use Rattle.oasis_library.specs.declared.head.OasisHead.{OasisHead}
 use Rattle.lvl.specs.Drawing.{Drawing}
@@ -27,7 +29,7 @@ use Rattle.lvl.specs.declared.layout.Head.TheVariants.{Gds, Oasis}
 use Rattle.lvl.specs.declared.layout.FileFault.TheVariants.{Gds as GdsFile, Oasis as OasisFile}
 use Rattle.lvl.specs.Layouts.{BeginsWith, IsOasis, Spells, SpellsSome, IsLayoutOf}
 use Rattle.lvl.specs.declared.layout.FileFault.{FileFault}
-use Rattle.lvl.specs.Answers.{IsEarlyFile, IsHopeless}
+use Rattle.lvl.specs.Answers.{IsEarlyFile, IsHopeless, IsUnreadAt, ReportsUnreadFile}
 use Rattle.lvl.specs.Sides.{IsFileFault, SpellsNothing}
 use Rattle.lvl.proofs.Formats.{gds_begins, oasis_begins, one_format, one_byte}
 
@@ -128,6 +130,35 @@ early_rest profile xs byte inner left (Ok x) h e = tt
 early_rest profile xs byte inner left (Err OutOfMemory) h e = tt
 early_rest profile xs byte inner left (Err (Breach f)) h e =
     λ soon. subst (IsHopeless profile xs) e (hopeless_rest profile xs byte inner (h soon))
+
+-- a reader that failed gave all that is missing from what it has left, but for a byte that was peeked at
+
+at_most_one : (byte : Option ℕ) → length (given_again byte) ≤ 1
+at_most_one None = omega arith
+at_most_one (Some b) = omega arith
+
+pub unread_rest : (profile : Profile) {A : Type 0} (xs : List ℕ) (byte : Option ℕ) (inner left : Option (List ℕ))
+    (r : Result A (Cause FileFault))
+    → IfErr r (λ e. Says e (ReportsUnreadFile profile xs (prepend_known (given_again byte) inner)))
+    → inner ≡ left
+    → IfErr r (λ e. Says e (IsUnreadAt profile xs left))
+unread_rest profile xs byte inner left (Ok x) h e = tt
+unread_rest profile xs byte inner left (Err OutOfMemory) h e = tt
+unread_rest profile xs byte inner left (Err (Breach f)) h e = record {
+  first = given_again byte;
+  few = at_most_one byte;
+  unread = subst (λ l. ReportsUnreadFile profile xs (prepend_known (given_again byte) l) f) e h;
+}
+
+pub gds_unread : (profile : Profile) (xs : List ℕ) (left : Option (List ℕ)) (r : Cause GdsFault) (fault : GdsFault)
+    → r ≡ Breach fault → Says r (ReportsUnreadGds profile xs left)
+    → ReportsUnreadFile profile xs left (GdsFile fault)
+gds_unread profile xs left r fault is h = said (ReportsUnreadGds profile xs left) r fault is h
+
+pub oasis_unread : (profile : Profile) (xs : List ℕ) (left : Option (List ℕ)) (r : Cause OasisFault)
+    (fault : OasisFault) → r ≡ Breach fault → Says r (ReportsUnreadOasis profile xs left)
+    → ReportsUnreadFile profile xs left (OasisFile fault)
+oasis_unread profile xs left r fault is h = said (ReportsUnreadOasis profile xs left) r fault is h
 
 -- if a file is refused early, no file of either format begins with the bytes taken: at least one was, and it decides
 -- the format

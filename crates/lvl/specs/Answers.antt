@@ -1,5 +1,6 @@
 -- What a result says about two files: a verdict, or why one of them is refused.
-use Rattle.std.specs.Prelude.{◌≡◌, ◌≢◌, ⊤, ℕ, Bool, false, List, ◌++◌, Option, Some, Result, Ok, Err}
+use Rattle.std.specs.Prelude.{◌≡◌, ◌≢◌, ◌≤◌, ⊤, ℕ, Bool, false, List, ◌++◌, length, Option, Some, Result, Ok, Err}
+use Rattle.std.specs.Io.KnownBytes.{prepend_known}
 use Rattle.lvl_profile.specs.declared.profile.Profile.{Profile}
 use Rattle.lvl_path.specs.Figure.{figure_rings}
 use Rattle.lvl_cells.specs.Cells.{kept}
@@ -9,12 +10,12 @@ use Rattle.lvl.specs.Drawing.{Drawing}
 use Rattle.lvl_refusal.specs.declared.Cause.{Cause}
 use Rattle.lvl_refusal.specs.declared.Cause.TheVariants.{Breach, OutOfMemory as NoMemory}
 use Rattle.gds_library.specs.Ends.{Reports as ReportsGds, IsExcused as IsExcusedGds, IsEarly as IsEarlyGds}
-use Rattle.gds_library.specs.Ends.{is_read_kind}
+use Rattle.gds_library.specs.Ends.{ReportsUnread as ReportsUnreadGds, is_read_kind}
 use Rattle.gds_records.specs.declared.fault.RecordFault.TheVariants.{Read}
 use Rattle.gds_library.specs.declared.fault.GdsFault.{GdsFault}
 use Rattle.gds_library.specs.declared.fault.GdsKind.TheVariants.{Record}
 use Rattle.oasis_library.specs.Ends.{Reports as ReportsOasis, IsExcused as IsExcusedOasis, IsEarly as IsEarlyOasis}
-use Rattle.oasis_library.specs.Ends.{is_read_error}
+use Rattle.oasis_library.specs.Ends.{ReportsUnread as ReportsUnreadOasis, is_read_error}
 use Rattle.lvl.specs.declared.layout.Head.{Head}
 use Rattle.lvl.specs.declared.layout.FileFault.{FileFault}
 use Rattle.lvl.specs.declared.layout.FileFault.TheVariants.{Gds, Oasis}
@@ -39,6 +40,18 @@ nothing_read = record { offset = 0; kind = Record Read }
 abbrev pub ReportsOfFile : Profile → List ℕ → FileFault → Type 0
 ReportsOfFile profile bytes (Gds f) = (f ≢ nothing_read → ¬ IsOasis bytes) × ReportsGds profile bytes f
 ReportsOfFile profile bytes (Oasis f) = IsOasis bytes × ReportsOasis profile bytes f
+
+-- if the fault is a failed read, the bytes before its offset are a front; of those from it on, the ones that the reader
+-- gave are none or an unfinished beginning of a record, and it has the others left
+abbrev pub ReportsUnreadFile : Profile → List ℕ → Option (List ℕ) → FileFault → Type 0
+ReportsUnreadFile profile bytes left (Gds f) = ReportsUnreadGds profile bytes left f
+ReportsUnreadFile profile bytes left (Oasis f) = ReportsUnreadOasis profile bytes left f
+
+-- the same, though the first byte of the file, which says its format, may not be counted as given
+pub record IsUnreadAt (profile : Profile) (bytes : List ℕ) (left : Option (List ℕ)) (fault : FileFault) : Type 0 where
+  pub first : List ℕ
+  pub few : length first ≤ 1
+  pub unread : ReportsUnreadFile profile bytes (prepend_known first left) fault
 
 -- the refusal is of that side's file, and neither out of memory nor a failed read
 abbrev pub Blames : Side → Refusal → Type 0

@@ -12,7 +12,8 @@ ghost use Rattle.lvl.specs.declared.verdict.Verdict.TheVariants.{Same, Differ};
 ghost use Rattle.lvl.specs.declared.verdict.Refusal.TheVariants.{File as FileRefused};
 ghost use Rattle.lvl.specs.Accepted.{AreSame, AreDifferent, IsUnaccepted, IsVerdict};
 ghost use Rattle.lvl.specs.Kept.{Kept, IsCheckedAs, IsKeptVerdict, IsKeptRefusal};
-ghost use Rattle.lvl.specs.Answers.{Blames, HasPassed, IsEarlyOf, IsHopeless, IsRefusalOf, IsReported, is_read_of};
+ghost use Rattle.lvl.specs.Answers.{Blames, HasPassed, IsEarlyOf, IsHopeless, IsRefusalOf, IsReported, IsUnreadAt};
+ghost use Rattle.lvl.specs.Answers.{is_read_of};
 ghost use Rattle.lvl.specs.Sides.{file, library_of};
 ghost use Rattle.lvl.specs.Reasons.{IsExplainedIn, IsKeptReason, IsReasonIn};
 ghost use Rattle.lvl.specs.Views.{IsComparedIn, IsViewVerdict};
@@ -109,6 +110,12 @@ pub fn compare_layouts<A: Read, B: Read>(
         → IfErr result (λ r. IsEarlyOf First r → IsHopeless strict xs (A.remaining first.new)) }
     ensures second_early { (ys : List ℕ) → B.remaining second.old ≡ Some ys
         → IfErr result (λ r. IsEarlyOf Second r → IsHopeless strict ys (B.remaining second.new)) }
+    ensures first_unread { (xs : List ℕ) → A.remaining first.old ≡ Some xs
+        → (fault : FaultOfFile) → result ≡ Err (FileRefused First fault)
+        → IsUnreadAt strict xs (A.remaining first.new) fault }
+    ensures second_unread { (ys : List ℕ) → B.remaining second.old ≡ Some ys
+        → (fault : FaultOfFile) → result ≡ Err (FileRefused Second fault)
+        → IsUnreadAt strict ys (B.remaining second.new) fault }
     ensures second_kept { (fault : FaultOfFile) → result ≡ Err (FileRefused First fault) → second.new ≡ second.old }
     ensures first_reads { CountsFailure (A.read_errors first.old) (A.read_errors first.new) (is_read_of First result) }
     ensures second_reads { CountsFailure (B.read_errors second.old) (B.read_errors second.new)
@@ -154,6 +161,12 @@ pub fn compare_view<A: Read, B: Read>(
         → IfErr result (λ r. IsEarlyOf First r → IsHopeless strict xs (A.remaining first.new)) }
     ensures second_early { (ys : List ℕ) → B.remaining second.old ≡ Some ys
         → IfErr result (λ r. IsEarlyOf Second r → IsHopeless strict ys (B.remaining second.new)) }
+    ensures first_unread { (xs : List ℕ) → A.remaining first.old ≡ Some xs
+        → (fault : FaultOfFile) → result ≡ Err (FileRefused First fault)
+        → IsUnreadAt strict xs (A.remaining first.new) fault }
+    ensures second_unread { (ys : List ℕ) → B.remaining second.old ≡ Some ys
+        → (fault : FaultOfFile) → result ≡ Err (FileRefused Second fault)
+        → IsUnreadAt strict ys (B.remaining second.new) fault }
     ensures second_kept { (fault : FaultOfFile) → result ≡ Err (FileRefused First fault) → second.new ≡ second.old }
     ensures first_reads { CountsFailure (A.read_errors first.old) (A.read_errors first.new) (is_read_of First result) }
     ensures second_reads { CountsFailure (B.read_errors second.old) (B.read_errors second.new)
@@ -189,6 +202,12 @@ fn compare_both<A: Read, B: Read>(
         → IfErr result (λ r. IsEarlyOf First r → IsHopeless profile xs (A.remaining first.new)) }
     ensures second_early { (ys : List ℕ) → B.remaining second.old ≡ Some ys
         → IfErr result (λ r. IsEarlyOf Second r → IsHopeless profile ys (B.remaining second.new)) }
+    ensures first_unread { (xs : List ℕ) → A.remaining first.old ≡ Some xs
+        → (fault : FaultOfFile) → result ≡ Err (FileRefused First fault)
+        → IsUnreadAt profile xs (A.remaining first.new) fault }
+    ensures second_unread { (ys : List ℕ) → B.remaining second.old ≡ Some ys
+        → (fault : FaultOfFile) → result ≡ Err (FileRefused Second fault)
+        → IsUnreadAt profile ys (B.remaining second.new) fault }
     ensures second_kept { (fault : FaultOfFile) → result ≡ Err (FileRefused First fault) → second.new ≡ second.old }
     ensures first_reads { CountsFailure (A.read_errors first.old) (A.read_errors first.new) (is_read_of First result) }
     ensures second_reads { CountsFailure (B.read_errors second.old) (B.read_errors second.new)
@@ -232,6 +251,12 @@ pub fn compare_files<A: Read, B: Read>(
         → IfErr result (λ r. IsEarlyOf First r → IsHopeless profile xs (A.remaining first.new)) }
     ensures second_early { (ys : List ℕ) → B.remaining second.old ≡ Some ys
         → IfErr result (λ r. IsEarlyOf Second r → IsHopeless profile ys (B.remaining second.new)) }
+    ensures first_unread { (xs : List ℕ) → A.remaining first.old ≡ Some xs
+        → (fault : FaultOfFile) → result ≡ Err (FileRefused First fault)
+        → IsUnreadAt profile xs (A.remaining first.new) fault }
+    ensures second_unread { (ys : List ℕ) → B.remaining second.old ≡ Some ys
+        → (fault : FaultOfFile) → result ≡ Err (FileRefused Second fault)
+        → IsUnreadAt profile ys (B.remaining second.new) fault }
     ensures second_kept { (fault : FaultOfFile) → result ≡ Err (FileRefused First fault) → second.new ≡ second.old }
     ensures first_reads { CountsFailure (A.read_errors first.old) (A.read_errors first.new) (is_read_of First result) }
     ensures second_reads { CountsFailure (B.read_errors second.old) (B.read_errors second.new)
@@ -264,6 +289,12 @@ pub fn explain_files<A: Read, B: Read>(
         → IfErr result (λ r. IsEarlyOf First r → IsHopeless profile xs (A.remaining first.new)) }
     ensures second_early { (ys : List ℕ) → B.remaining second.old ≡ Some ys
         → IfErr result (λ r. IsEarlyOf Second r → IsHopeless profile ys (B.remaining second.new)) }
+    ensures first_unread { (xs : List ℕ) → A.remaining first.old ≡ Some xs
+        → (fault : FaultOfFile) → result ≡ Err (FileRefused First fault)
+        → IsUnreadAt profile xs (A.remaining first.new) fault }
+    ensures second_unread { (ys : List ℕ) → B.remaining second.old ≡ Some ys
+        → (fault : FaultOfFile) → result ≡ Err (FileRefused Second fault)
+        → IsUnreadAt profile ys (B.remaining second.new) fault }
     ensures second_kept { (fault : FaultOfFile) → result ≡ Err (FileRefused First fault) → second.new ≡ second.old }
     ensures first_reads { CountsFailure (A.read_errors first.old) (A.read_errors first.new) (is_read_of First result) }
     ensures second_reads { CountsFailure (B.read_errors second.old) (B.read_errors second.new)

@@ -2,11 +2,12 @@
 ghost use Rattle.std.specs.Prelude.{◌≡◌, ◌≢◌, List, ℕ, Some, Err, IfOk, IfErr, option_copied};
 ghost use Rattle.lvl_io.specs.Bytes.{CountsFailure};
 ghost use Rattle.lvl_region.specs.declared.region.Side.TheVariants.{First};
-ghost use Rattle.lvl.specs.Answers.{IsEarlyOf, IsHopeless, IsRefusalOf, is_read_of};
+ghost use Rattle.lvl.specs.Answers.{IsEarlyOf, IsHopeless, IsRefusalOf, IsUnreadAt, is_read_of};
 ghost use Rattle.lvl.specs.Digested.{DigestsDecide, IsDigestedFile, IsDigestedKept};
 ghost use Rattle.lvl.specs.Shown.{IsOfFirst, IsShowRefusal};
 ghost use Rattle.lvl.specs.Sides.{file_named, kept_named};
-ghost use Rattle.lvl.specs.declared.verdict.Refusal.TheVariants.{OutOfMemory};
+ghost use Rattle.lvl.specs.declared.layout.FileFault.{FileFault as FaultOfFile};
+ghost use Rattle.lvl.specs.declared.verdict.Refusal.TheVariants.{File as FileRefused, OutOfMemory};
 
 use crate::digested::{Digested, digest_fitted};
 use crate::layout::Head;
@@ -73,6 +74,9 @@ pub fn digest_file<R: Read>(
         → IfErr result (IsRefusalOf First (file_named profile xs (option_copied top.entry))) }
     ensures early { (xs : List ℕ) → R.remaining reader.old ≡ Some xs
         → IfErr result (λ r. IsEarlyOf First r → IsHopeless profile xs (R.remaining reader.new)) }
+    ensures unread { (xs : List ℕ) → R.remaining reader.old ≡ Some xs
+        → (fault : FaultOfFile) → result ≡ Err (FileRefused First fault)
+        → IsUnreadAt profile xs (R.remaining reader.new) fault }
     ensures side { IfErr result IsOfFirst }
     ensures reads { CountsFailure (R.read_errors reader.old) (R.read_errors reader.new) (is_read_of First result) }
 {

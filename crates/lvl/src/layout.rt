@@ -1,5 +1,5 @@
 //! Reads a file by its format.
-ghost use Rattle.std.specs.Prelude.{◌≡◌, ◌↔◌, List, [], ℕ, true, false, Some, IsTrue, IfOk, IfErr};
+ghost use Rattle.std.specs.Prelude.{◌≡◌, ◌↔◌, List, [], ℕ, Option, true, false, Some, IsTrue, IfOk, IfErr, OnErr};
 ghost use Rattle.std.specs.Io.KnownBytes.{prepend_known};
 ghost use Rattle.lvl_io.specs.Bytes.{CountsFailure, failed};
 ghost use Rattle.lvl_io.specs.Peeked.{given_again};
@@ -8,7 +8,7 @@ ghost use Rattle.lvl_profile.specs.Profiles.{strict};
 ghost use Rattle.lvl_profile.specs.declared.profile.Profile.{Profile as PlainProfile};
 ghost use Rattle.lvl.specs.Accepted.{WideningKeeps};
 ghost use Rattle.lvl.specs.Layouts.{HasFirst, IsLayoutOf, IsOasis};
-ghost use Rattle.lvl.specs.Answers.{IsEarlyFile, IsHopeless, is_failed_read, read_failed};
+ghost use Rattle.lvl.specs.Answers.{IsEarlyFile, IsHopeless, IsUnreadAt, ReportsUnreadFile, is_failed_read, read_failed};
 ghost use Rattle.lvl.specs.Sides.{layout_parts, IsFileFault};
 
 use gds_library::{GdsFault, GdsHead, GdsKind, RecordFault, read_gds_by};
@@ -69,6 +69,8 @@ fn take_first<R: Read>(reader: &mut R) -> Result<Option<u8>, Failure>
     ensures first { (xs : List ℕ) → R.remaining reader.old ≡ Some xs → IfOk result (λ byte. HasFirst byte xs) }
     ensures left { (xs : List ℕ) → R.remaining reader.old ≡ Some xs
         → IfOk result (λ byte. prepend_known (given_again byte) (R.remaining reader.new) ≡ Some xs) }
+    ensures kept { (xs : List ℕ) → R.remaining reader.old ≡ Some xs
+        → OnErr result (R.remaining reader.new ≡ Some xs) }
     ensures errors { CountsFailure (R.read_errors reader.old) (R.read_errors reader.new) (failed result) }
 {
     let mut bytes = [0];
@@ -91,6 +93,8 @@ fn read_as_gds<R: Read>(
     ensures early { (xs : List ℕ) → R.remaining reader.old ≡ Some xs → (¬ IsOasis xs)
         → IfErr result (λ refusal. Says refusal (λ fault. IsEarlyFile fault
         → IsHopeless profile xs (R.remaining reader.new))) }
+    ensures unread { (xs : List ℕ) → R.remaining reader.old ≡ Some xs
+        → IfErr result (λ refusal. Says refusal (ReportsUnreadFile profile xs (R.remaining reader.new))) }
     ensures reads { CountsFailure (R.read_errors reader.old) (R.read_errors reader.new) (is_failed_read result) }
     ensures same { R.lent reader.new ≡ R.lent reader.old }
 {
@@ -114,6 +118,8 @@ fn read_as_oasis<R: Read>(
     ensures early { (xs : List ℕ) → R.remaining reader.old ≡ Some xs → IsOasis xs
         → IfErr result (λ refusal. Says refusal (λ fault. IsEarlyFile fault
         → IsHopeless profile xs (R.remaining reader.new))) }
+    ensures unread { (xs : List ℕ) → R.remaining reader.old ≡ Some xs
+        → IfErr result (λ refusal. Says refusal (ReportsUnreadFile profile xs (R.remaining reader.new))) }
     ensures reads { CountsFailure (R.read_errors reader.old) (R.read_errors reader.new) (is_failed_read result) }
     ensures same { R.lent reader.new ≡ R.lent reader.old }
 {
@@ -145,6 +151,8 @@ fn read_by<R: Read>(
     ensures early { (xs : List ℕ) → R.remaining reader.old ≡ Some xs → HasFirst first xs
         → IfErr result (λ refusal. Says refusal (λ fault. IsEarlyFile fault
         → IsHopeless profile xs (R.remaining reader.new))) }
+    ensures unread { (xs : List ℕ) → R.remaining reader.old ≡ Some xs
+        → IfErr result (λ refusal. Says refusal (ReportsUnreadFile profile xs (R.remaining reader.new))) }
     ensures reads { CountsFailure (R.read_errors reader.old) (R.read_errors reader.new) (is_failed_read result) }
     ensures same { R.lent reader.new ≡ R.lent reader.old }
 {
@@ -157,6 +165,7 @@ fn read_by<R: Read>(
 /// The fault of a read that failed before there was a byte.
 fn unread() -> FileFault
     ensures reported { (profile : PlainProfile) (xs : List ℕ) → IsFileFault profile xs result }
+    ensures unread { (profile : PlainProfile) (xs : List ℕ) → ReportsUnreadFile profile xs (Some xs) result }
     ensures late { IsEarlyFile result → ⊥ }
     ensures read { read_failed result ≡ true }
 {
@@ -169,6 +178,8 @@ fn unread() -> FileFault
 /// The fault of an empty file: it ends before its first record. It isn't read on, since its end was seen.
 fn empty() -> FileFault
     ensures reported { (profile : PlainProfile) → IsFileFault profile [] result }
+    ensures unread { (profile : PlainProfile) (xs : List ℕ) (left : Option (List ℕ))
+        → ReportsUnreadFile profile xs left result }
     ensures late { IsEarlyFile result → ⊥ }
     ensures read { read_failed result ≡ false }
 {
@@ -199,6 +210,8 @@ pub fn read_layout<R: Read>(alloc: Global, reader: &mut R) -> Result<Layout, Cau
     ensures early { (xs : List ℕ) → R.remaining reader.old ≡ Some xs
         → IfErr result (λ refusal. Says refusal (λ fault. IsEarlyFile fault
         → IsHopeless strict xs (R.remaining reader.new))) }
+    ensures unread { (xs : List ℕ) → R.remaining reader.old ≡ Some xs
+        → IfErr result (λ refusal. Says refusal (IsUnreadAt strict xs (R.remaining reader.new))) }
     ensures reads { CountsFailure (R.read_errors reader.old) (R.read_errors reader.new) (is_failed_read result) }
 {
     read_layout_by(alloc, reader, Profile::STANDARD)
@@ -218,6 +231,8 @@ pub fn read_layout_by<R: Read>(
     ensures early { (xs : List ℕ) → R.remaining reader.old ≡ Some xs
         → IfErr result (λ refusal. Says refusal (λ fault. IsEarlyFile fault
         → IsHopeless profile xs (R.remaining reader.new))) }
+    ensures unread { (xs : List ℕ) → R.remaining reader.old ≡ Some xs
+        → IfErr result (λ refusal. Says refusal (IsUnreadAt profile xs (R.remaining reader.new))) }
     ensures reads { CountsFailure (R.read_errors reader.old) (R.read_errors reader.new) (is_failed_read result) }
 {
     let Ok(first) = take_first(reader) else {

@@ -5,10 +5,11 @@ ghost use Rattle.lvl_io.specs.Bytes.{CountsFailure};
 ghost use Rattle.lvl_flat.specs.Flattened.{IsTopInRange};
 ghost use Rattle.lvl.specs.Layouts.{IsLayoutOf};
 ghost use Rattle.lvl.specs.Kept.{IsCheckedAs};
-ghost use Rattle.lvl.specs.Answers.{IsEarlyOf, IsHopeless, is_read_of};
+ghost use Rattle.lvl.specs.Answers.{IsEarlyOf, IsHopeless, IsUnreadAt, is_read_of};
 ghost use Rattle.lvl.specs.Sides.{IsOfFile, IsReadRefusal, IsCheckRefusal, IsFlattenRefusal, given_name, library_of};
 ghost use Rattle.lvl.specs.Sides.{kept_named};
-ghost use Rattle.lvl.specs.declared.verdict.Refusal.TheVariants.{OutOfMemory};
+ghost use Rattle.lvl.specs.declared.layout.FileFault.{FileFault as FaultOfFile};
+ghost use Rattle.lvl.specs.declared.verdict.Refusal.TheVariants.{File as FileRefused, OutOfMemory};
 
 use crate::layout::{Head, read_layout_by};
 use crate::verdict::Refusal;
@@ -33,6 +34,9 @@ pub(crate) fn read_side<R: Read>(
         → IfErr result (IsReadRefusal side profile xs) }
     ensures early { (xs : List ℕ) → R.remaining reader.old ≡ Some xs
         → IfErr result (λ r. IsEarlyOf side r → IsHopeless profile xs (R.remaining reader.new)) }
+    ensures unread { (xs : List ℕ) → R.remaining reader.old ≡ Some xs
+        → (fault : FaultOfFile) → result ≡ Err (FileRefused side fault)
+        → IsUnreadAt profile xs (R.remaining reader.new) fault }
     ensures own { IfErr result (IsOfFile side) }
     ensures reads { CountsFailure (R.read_errors reader.old) (R.read_errors reader.new) (is_read_of side result) }
 {

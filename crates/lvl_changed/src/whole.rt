@@ -17,15 +17,15 @@ use lvl_flat::Fitted;
 use lvl_view::View;
 use std::alloc::{AllocError, Global};
 
-/// The greatest number of rings that both cells place, of two cells that are compared as a whole.
-const MOST_OF_PAIR: u64 = 262_144;
-
-/// What all comparisons of whole cells may cost together, beside [`FOR_EACH`] times what is in both
-/// files.
+/// What all comparisons of whole cells may cost together in any case.
 const MOST_OF_ALL: u64 = 1_048_576;
 
 /// How often what is in both files is added to what comparisons of whole cells may cost.
 const FOR_EACH: u64 = 4;
+
+/// Which part of what both tops place is added to what comparisons of whole cells may cost: if these
+/// show nothing, they take an eighth of what a comparison of flat layouts takes.
+const PART_OF_PLACED: u64 = 8;
 
 /// The greatest number of points of a side in a part that is compared.
 const POINTS: usize = 600_000;
@@ -45,7 +45,10 @@ impl Budget {
         let (their_cells, their_rings) = size_of(second);
         let each = cells.saturating_add(their_cells);
         let all = each.saturating_add(rings).saturating_add(their_rings);
-        let left = MOST_OF_ALL.saturating_add(all.saturating_mul(FOR_EACH));
+        let placed = placed_rings(first).saturating_add(placed_rings(second));
+        let left = MOST_OF_ALL
+            .saturating_add(all.saturating_mul(FOR_EACH))
+            .saturating_add(placed / PART_OF_PLACED);
         Budget { left, each }
     }
 
@@ -80,7 +83,7 @@ fn are_same_tops(
         return Ok(false);
     }
     let rings = placed_rings(first.checked()).saturating_add(placed_rings(second.checked()));
-    if rings > MOST_OF_PAIR || !budget.takes(rings) {
+    if !budget.takes(rings) {
         return Ok(false);
     }
     let found = difference_among(alloc, first, second, view, changes, POINTS)?;

@@ -114,6 +114,9 @@ whole_answer view whole a b answer h = record {
   second_refused = h.second_refused;
   first_early = h.first_early;
   second_early = h.second_early;
+  first_unread = h.first_unread;
+  second_unread = h.second_unread;
+  second_kept = h.second_kept;
   first_reads = h.first_reads;
   second_reads = h.second_reads;
 }

@@ -1,5 +1,5 @@
 -- What a run may write: the text of an answer, or a beginning of it if the output fails.
-use Rattle.std.specs.Prelude.{◌≡◌, ℕ, List, Option, Some, Result, IfOk, IfErr}
+use Rattle.std.specs.Prelude.{◌≡◌, ℕ, List, Option, Some, Result, Err, IfOk, IfErr}
 use Rattle.std.specs.Io.KnownBytes.{Appends}
 use Rattle.lvl_profile.specs.declared.profile.Profile.{Profile}
 use Rattle.lvl_io.specs.Bytes.{CountsFailure}
@@ -8,14 +8,16 @@ use Rattle.lvl.specs.Digested.{IsDigestedFile}
 use Rattle.lvl.specs.declared.digested.Digested.{Digested}
 use Rattle.lvl.specs.declared.shown.Shown.{Shown}
 use Rattle.lvl.specs.declared.verdict.Comparison.{Comparison}
+use Rattle.lvl.specs.declared.layout.FileFault.{FileFault}
 use Rattle.lvl.specs.declared.verdict.Refusal.{Refusal}
+use Rattle.lvl.specs.declared.verdict.Refusal.TheVariants.{File as FileRefusal}
 use Rattle.lvl.specs.Sides.{file_named}
 use Rattle.lvl.specs.Layouts.{File}
 use Rattle.lvl.specs.Reasons.{IsExplainedIn}
 use Rattle.lvl.specs.Views.{IsComparedIn}
 use Rattle.lvl.specs.declared.explained.Explained.{Explained}
 use Rattle.lvl_view.specs.Views.{PlainView}
-use Rattle.lvl.specs.Answers.{IsCompared, IsEarlyOf, IsHopeless, IsRefusalOf, is_read_of}
+use Rattle.lvl.specs.Answers.{IsCompared, IsEarlyOf, IsHopeless, IsRefusalOf, IsUnreadAt, is_read_of}
 use Rattle.lvl.specs.Shown.{IsShownFile, IsOfFirst}
 use Rattle.lvl_report.specs.Writing.{AppendsBeginning}
 
@@ -33,8 +35,12 @@ abbrev pub input : Profile → Option (List ℕ) → Option (List ℕ) → ℕ �
 input profile bytes left before after top =
     record { profile = profile; bytes = bytes; left = left; before = before; after = after; top = top }
 
+-- nothing was read from it
+abbrev pub IsUntouched : Input → Type 0
+IsUntouched a = (a.left ≡ a.bytes) × (a.after ≡ a.before)
+
 -- the answer is possible for the comparison of two files: what was found satisfies `Says`, and a refusal is true of the
--- files
+-- files; the second isn't read if the first is refused while it is read
 pub record IsAnswerBy {X : Type 0} (Says : File → File → X → Type 0) (a b : Input)
     (answer : Result X Refusal) : Type 0 where
   pub compared : (xs ys : List ℕ) → a.bytes ≡ Some xs → b.bytes ≡ Some ys
@@ -47,6 +53,11 @@ pub record IsAnswerBy {X : Type 0} (Says : File → File → X → Type 0) (a b 
       → IfErr answer (λ r. IsEarlyOf First r → IsHopeless a.profile xs a.left)
   pub second_early : (ys : List ℕ) → b.bytes ≡ Some ys
       → IfErr answer (λ r. IsEarlyOf Second r → IsHopeless b.profile ys b.left)
+  pub first_unread : (xs : List ℕ) → a.bytes ≡ Some xs → (fault : FileFault) → answer ≡ Err (FileRefusal First fault)
+      → IsUnreadAt a.profile xs a.left fault
+  pub second_unread : (ys : List ℕ) → b.bytes ≡ Some ys → (fault : FileFault) → answer ≡ Err (FileRefusal Second fault)
+      → IsUnreadAt b.profile ys b.left fault
+  pub second_kept : (fault : FileFault) → answer ≡ Err (FileRefusal First fault) → IsUntouched b
   pub first_reads : CountsFailure a.before a.after (is_read_of First answer)
   pub second_reads : CountsFailure b.before b.after (is_read_of Second answer)
 
@@ -67,6 +78,8 @@ pub record IsFoundBy {X : Type 0} (Says : File → X → Type 0) (a : Input) (an
   pub found : (xs : List ℕ) → a.bytes ≡ Some xs → IfOk answer (Says (file_named a.profile xs a.top))
   pub refused : (xs : List ℕ) → a.bytes ≡ Some xs → IfErr answer (IsRefusalOf First (file_named a.profile xs a.top))
   pub early : (xs : List ℕ) → a.bytes ≡ Some xs → IfErr answer (λ r. IsEarlyOf First r → IsHopeless a.profile xs a.left)
+  pub unread : (xs : List ℕ) → a.bytes ≡ Some xs → (fault : FileFault) → answer ≡ Err (FileRefusal First fault)
+      → IsUnreadAt a.profile xs a.left fault
   pub side : IfErr answer IsOfFirst
   pub reads : CountsFailure a.before a.after (is_read_of First answer)
 

@@ -1,7 +1,7 @@
-use Rattle.std.proofs.Common.{rules, sym, subst, ap, not, ◌∙◌}
+use Rattle.std.proofs.Common.{[], rules, sym, subst, ap, not, arith, ◌∙◌}
 use Rattle.lvl.specs.Sides.{IsFileFault}
-use Rattle.lvl.proofs.Spelling.{early_rest}
-use Rattle.lvl.proofs.Unbegun.{no_bytes}
+use Rattle.lvl.proofs.Spelling.{early_rest, unread_rest}
+use Rattle.lvl.proofs.Unbegun.{no_bytes, none_given}
 use Rattle.lvl.proofs.layout.read_layout_by.Goals as goal
 
 pub returns-in_default-clause-refused : goal.returns-in_default-clause-refused
@@ -17,3 +17,20 @@ pub returns-clause-early : goal.returns-clause-early
 returns-clause-early g c xs known =
     early_rest c.args.profile xs _ _ _ c.read_by-read.result
     (c.read_by-read.ensures.early xs (search rules) (c.in-Ok.ensures.first xs known)) (search rules)
+
+pub returns-in_default-clause-unread : goal.returns-in_default-clause-unread
+returns-in_default-clause-unread g c xs known =
+    none_given c.args.profile xs _ c.unread.result (c.in_default.ensures.kept xs known)
+    (c.unread.ensures.unread c.args.profile xs)
+
+pub returns-then-is_none-clause-unread : goal.returns-then-is_none-clause-unread
+returns-then-is_none-clause-unread g c xs known = record {
+  first = [];
+  few = omega arith;
+  unread = c.empty.ensures.unread c.args.profile xs _;
+}
+
+pub returns-clause-unread : goal.returns-clause-unread
+returns-clause-unread g c xs known =
+    unread_rest c.args.profile xs _ _ _ c.read_by-read.result
+    (c.read_by-read.ensures.unread xs (search rules)) (search rules)

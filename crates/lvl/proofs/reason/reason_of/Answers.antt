@@ -1,4 +1,4 @@
-use Rattle.std.proofs.Common.{◌≡◌, ◌∙◌, Result, Option, IfOk, sym, subst, ap}
+use Rattle.std.proofs.Common.{◌≡◌, ◌∙◌, IfOk, sym, subst, ap}
 use Rattle.lvl_columns.specs.Windows.{IsShown}
 use Rattle.lvl_flat.specs.Flattened.{TopCovers}
 use Rattle.lvl_region.specs.declared.region.Side.TheVariants.{First, Second}

@@ -12,6 +12,7 @@ returns-clause-written g c =
       found = found.digested;
       refused = found.refused;
       early = found.early;
+      unread = found.unread;
       side = found.side;
       reads = found.reads;
     })
@@ -25,6 +26,7 @@ returns-clause-begun g c =
       found = found.digested;
       refused = found.refused;
       early = found.early;
+      unread = found.unread;
       side = found.side;
       reads = found.reads;
     })

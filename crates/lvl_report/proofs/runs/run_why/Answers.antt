@@ -21,6 +21,9 @@ returns-clause-written g c =
       second_refused = found.second_refused;
       first_early = found.first_early;
       second_early = found.second_early;
+      first_unread = found.first_unread;
+      second_unread = found.second_unread;
+      second_kept = λ fault is. let same = found.second_kept fault is in (ap g.B.Read.remaining same, ap g.B.Read.read_errors same);
       first_reads = found.first_reads;
       second_reads = found.second_reads;
     })
@@ -42,6 +45,9 @@ returns-clause-begun g c =
       second_refused = found.second_refused;
       first_early = found.first_early;
       second_early = found.second_early;
+      first_unread = found.first_unread;
+      second_unread = found.second_unread;
+      second_kept = λ fault is. let same = found.second_kept fault is in (ap g.B.Read.remaining same, ap g.B.Read.read_errors same);
       first_reads = found.first_reads;
       second_reads = found.second_reads;
     })
