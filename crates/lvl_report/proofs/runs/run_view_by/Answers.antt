@@ -1,3 +1,4 @@
+use Rattle.std.proofs.Common.{ap}
 use Rattle.lvl_report.specs.Texts.{text_of}
 use Rattle.lvl_report.specs.Hints.{IsOutcomeOf}
 use Rattle.lvl_report.proofs.Running.{was_written, was_begun}
@@ -15,7 +16,8 @@ returns-clause-written g c =
       second_early = found.second_early;
       first_unread = found.first_unread;
       second_unread = found.second_unread;
-      second_kept = λ fault is. let same = found.second_kept fault is in (ap g.B.Read.remaining same, ap g.B.Read.read_errors same);
+      second_kept = λ fault is.
+          let same = found.second_kept fault is in (ap g.B.Read.remaining same, ap g.B.Read.read_errors same);
       first_reads = found.first_reads;
       second_reads = found.second_reads;
     })
@@ -33,7 +35,8 @@ returns-clause-begun g c =
       second_early = found.second_early;
       first_unread = found.first_unread;
       second_unread = found.second_unread;
-      second_kept = λ fault is. let same = found.second_kept fault is in (ap g.B.Read.remaining same, ap g.B.Read.read_errors same);
+      second_kept = λ fault is.
+          let same = found.second_kept fault is in (ap g.B.Read.remaining same, ap g.B.Read.read_errors same);
       first_reads = found.first_reads;
       second_reads = found.second_reads;
     })

@@ -23,7 +23,8 @@ returns-clause-written g c =
       second_early = found.second_early;
       first_unread = found.first_unread;
       second_unread = found.second_unread;
-      second_kept = λ fault is. let same = found.second_kept fault is in (ap g.B.Read.remaining same, ap g.B.Read.read_errors same);
+      second_kept = λ fault is.
+          let same = found.second_kept fault is in (ap g.B.Read.remaining same, ap g.B.Read.read_errors same);
       first_reads = found.first_reads;
       second_reads = found.second_reads;
     })
@@ -47,7 +48,8 @@ returns-clause-begun g c =
       second_early = found.second_early;
       first_unread = found.first_unread;
       second_unread = found.second_unread;
-      second_kept = λ fault is. let same = found.second_kept fault is in (ap g.B.Read.remaining same, ap g.B.Read.read_errors same);
+      second_kept = λ fault is.
+          let same = found.second_kept fault is in (ap g.B.Read.remaining same, ap g.B.Read.read_errors same);
       first_reads = found.first_reads;
       second_reads = found.second_reads;
     })
