@@ -116,7 +116,7 @@ const UNREAD_FIRST: &str = "refused: first: gds 11 Unsupported 43 at 154\n";
 const UNREAD_SECOND: &str = "refused: second: gds 11 Unsupported 43 at 154\n";
 
 /// What is said of both.
-const TRY_PROPERTIES: &str = "lvl: try --ignore properties\n";
+const TRY_PROPERTIES: &str = "lvl: try --ignore properties, or --ignore all\n";
 
 /// What is said of several cells that could be the top of the only file.
 const NAME_TOP: &str = "lvl: several cells could be the top: name one by --top\n";
@@ -206,7 +206,7 @@ static ROWS: [(&str, u8, &str, &str, u8); 44] = [
         "label - padding",
         1,
         "refused: first: oasis 24 Unsupported 19 at 36\n",
-        "lvl: try --ignore texts,padding\n",
+        "lvl: try --ignore texts,padding, or --ignore all\n",
         2,
     ),
     ("digest square - -", 1, SQUARE_DIGEST, "", 0),
@@ -284,7 +284,7 @@ static ROWS: [(&str, u8, &str, &str, u8); 44] = [
         "tagged tagged - - - - texts,names,padding",
         2,
         UNREAD_FIRST,
-        "lvl: try --ignore properties,texts,names,padding\n",
+        "lvl: try --ignore properties,texts,names,padding, or --ignore all\n",
         2,
     ),
     (
@@ -305,7 +305,7 @@ static ROWS: [(&str, u8, &str, &str, u8); 44] = [
         "tagged - names",
         1,
         UNREAD_FIRST,
-        "lvl: try --ignore properties,names\n",
+        "lvl: try --ignore properties,names, or --ignore all\n",
         2,
     ),
     ("digest tagged - all", 1, SQUARE_DIGEST, "", 0),
