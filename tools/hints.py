@@ -26,7 +26,7 @@ The table, from a refusal to its hint:
 
 Each begins with `lvl: `. The one that names --top-a or --top-b, by the side, and --top for show and digest. If
 other words were given, a hint to --ignore has them too, in the order properties, texts, names, padding, since the
-option can be given only once. If the word itself was given, there is no hint.
+option can be given only once, and goes on `, or --ignore all`. If the word itself was given, there is no hint.
 """
 
 import re
@@ -70,7 +70,7 @@ def hint(refused, option, given):
         return LIFT
     word = word_of(*fault, value)
     if word is not None and word not in given:
-        return "lvl: try --ignore %s\n" % ",".join(each for each in WORDS if each in (*given, word))
+        return "lvl: try --ignore %s, or --ignore all\n" % ",".join(each for each in WORDS if each in (*given, word))
     if refused.step == "gds" and refused.number in (2, 3, 4) and refused.at == 0:
         return "lvl: neither GDSII nor OASIS: if the file is compressed (gzip), unpack it first\n"
     if fault == ("oasis", 24) and value == 34:

@@ -331,7 +331,8 @@ def lines(program, knows_words):
 
 def hinted(program):
     for form, added, before, words, hint in HINTS:
-        expected = "lvl: %s\n" % hint if hint else ""
+        more = ", or --ignore all" if hint and "--ignore" in hint else ""
+        expected = "lvl: %s%s\n" % (hint, more) if hint else ""
         data = file_of(form, added, before)
         what = "the hint for %s with --ignore %s" % (data.hex(), words)
         yield checked(what, second(form, data, words).hint, expected)

@@ -18,7 +18,7 @@ _lvl() {
     --ignore) _lvl_words "$word"; return ;;
     esac
     case ${COMP_WORDS[1]}:$word in
-    compare:-*) COMPREPLY=($(compgen -W "--top-a --top-b --map --window --ignore --large --why --help" -- "$word")) ;;
+    compare:-*) COMPREPLY=($(compgen -W "--top-a --top-b --map --window --ignore --large --why --units --help" -- "$word")) ;;
     show:-*) COMPREPLY=($(compgen -W "--top --ignore --large --help" -- "$word")) ;;
     digest:-*)
         COMPREPLY=($(compgen -W "--top --ignore --large --list --check --quiet --help" -- "$word")) ;;

@@ -5,6 +5,7 @@ complete -c lvl -n "__fish_seen_subcommand_from compare" -l top-a -x -d "The fir
 complete -c lvl -n "__fish_seen_subcommand_from compare" -l top-b -x -d "The second layout's top cell"
 complete -c lvl -n "__fish_seen_subcommand_from compare" -l map -x -d "Layers of the second layout"
 complete -c lvl -n "__fish_seen_subcommand_from compare" -l why -d "Which shape makes the difference"
+complete -c lvl -n "__fish_seen_subcommand_from compare" -l units -d "Only layouts whose grid steps agree"
 complete -c lvl -n "__fish_seen_subcommand_from compare" -l window -x -d "The only squares to be compared"
 complete -c lvl -n "__fish_seen_subcommand_from show digest" -l top -x -d "The layout's top cell"
 complete -c lvl -n "__fish_seen_subcommand_from digest" -l list -d "A line for each layout"

@@ -50,7 +50,7 @@ impl Files for Held {
 }
 
 /// The job of words in order: two files, two tops, a map, a window and what is ignored.
-fn compare_of(alloc: Global, words: &[&str], why: bool) -> Result<Job, AllocError> {
+fn compare_of(alloc: Global, words: &[&str], why: bool, units: bool) -> Result<Job, AllocError> {
     let [first, second, top_a, top_b, map, window, ignore] = words else {
         return Err(AllocError);
     };
@@ -64,20 +64,23 @@ fn compare_of(alloc: Global, words: &[&str], why: bool) -> Result<Job, AllocErro
         ignore: given(alloc, ignore)?,
         large: false,
         why,
+        units,
     })
 }
 
 /// The job of a line in order: two files, two tops, a map, a window and what is ignored, each `-` where it
-/// is none, after the word `why` if the reason is asked for; or one file, a top and what is ignored, to be shown, or
-/// hashed after the word `digest`.
+/// is none, after the word `why` if the reason is asked for and `units` if the grid steps must agree; or one file, a top
+/// and what is ignored, to be shown, or hashed after the word `digest`.
 fn job_of(alloc: Global, line: &str) -> Result<Job, AllocError> {
     let mut words = Vec::new(alloc);
     for word in line.split(' ') {
         words.push(word)?;
     }
     match words.as_slice() {
-        ["why", words @ ..] => compare_of(alloc, words, true),
-        [_, _, _, _, _, _, _] => compare_of(alloc, words.as_slice(), false),
+        ["why", "units", words @ ..] => compare_of(alloc, words, true, true),
+        ["why", words @ ..] => compare_of(alloc, words, true, false),
+        ["units", words @ ..] => compare_of(alloc, words, false, true),
+        [_, _, _, _, _, _, _] => compare_of(alloc, words.as_slice(), false, false),
         [file, top, ignore] => Ok(Job::Show {
             file: String::from_str(alloc, file)?,
             top: given(alloc, top)?,
@@ -113,7 +116,7 @@ const UNREAD_FIRST: &str = "refused: first: gds 11 Unsupported 43 at 154\n";
 const UNREAD_SECOND: &str = "refused: second: gds 11 Unsupported 43 at 154\n";
 
 /// What is said of both.
-const TRY_PROPERTIES: &str = "lvl: try --ignore properties\n";
+const TRY_PROPERTIES: &str = "lvl: try --ignore properties, or --ignore all\n";
 
 /// What is said of several cells that could be the top of the only file.
 const NAME_TOP: &str = "lvl: several cells could be the top: name one by --top\n";
@@ -125,8 +128,11 @@ const BAD_IGNORE: &str = "lvl: bad ignore 1 IgnoreText\n";
 const WHY_SQUARE: &str =
     "why: shape 1 of 1, place 1 of 1, ring 1 of 1 on layer 1 datatype 0, box 0 0 10 10\n";
 
+/// What is said of `square` and `tagged`.
+const STEPS: &str = "lvl: the grid steps differ: 1 nm in the first file, 2 nm in the second\n";
+
 /// A job, how many files are asked for, the last line of what it writes, what it says, and its status.
-static ROWS: [(&str, u8, &str, &str, u8); 36] = [
+static ROWS: [(&str, u8, &str, &str, u8); 44] = [
     ("square square - - - - -", 2, "same\n", "", 0),
     ("square two - A - - -", 2, "same\n", "", 0),
     (
@@ -200,7 +206,7 @@ static ROWS: [(&str, u8, &str, &str, u8); 36] = [
         "label - padding",
         1,
         "refused: first: oasis 24 Unsupported 19 at 36\n",
-        "lvl: try --ignore texts,padding\n",
+        "lvl: try --ignore texts,padding, or --ignore all\n",
         2,
     ),
     ("digest square - -", 1, SQUARE_DIGEST, "", 0),
@@ -221,12 +227,44 @@ static ROWS: [(&str, u8, &str, &str, u8); 36] = [
         "lvl: bad view 1 MapText\n",
         3,
     ),
+    ("square tagged - - - - properties", 2, "same\n", STEPS, 0),
+    ("units square tagged - - - - properties", 2, "", STEPS, 2),
     (
-        "square tagged - - - - properties",
+        "why units square tagged - - 2/0=1/0 x=0..1,y=0..1 properties",
         2,
-        "same\n",
-        "lvl: the grid steps differ: 1 nm in the first file, 2 nm in the second\n",
-        0,
+        "",
+        STEPS,
+        2,
+    ),
+    (
+        "units tagged two - - - - properties",
+        2,
+        "",
+        "lvl: the grid steps differ: 2 nm in the first file, 1 nm in the second\n",
+        2,
+    ),
+    (
+        "units square tagged - - - - -",
+        2,
+        UNREAD_SECOND,
+        TRY_PROPERTIES,
+        2,
+    ),
+    ("units square two - A - - -", 2, "same\n", "", 0),
+    (
+        "units square two - B - - -",
+        2,
+        "differ: layer 1 datatype 0 square 0 0 only in first\n",
+        "",
+        1,
+    ),
+    ("why units square two - B - - -", 2, WHY_SQUARE, "", 1),
+    (
+        "units square two - - - - -",
+        2,
+        "refused: second: cells 6 ManyTops\n",
+        "lvl: several cells could be the top: name one by --top-b\n",
+        2,
     ),
     (
         "tagged square - - - - all",
@@ -246,7 +284,7 @@ static ROWS: [(&str, u8, &str, &str, u8); 36] = [
         "tagged tagged - - - - texts,names,padding",
         2,
         UNREAD_FIRST,
-        "lvl: try --ignore properties,texts,names,padding\n",
+        "lvl: try --ignore properties,texts,names,padding, or --ignore all\n",
         2,
     ),
     (
@@ -267,7 +305,7 @@ static ROWS: [(&str, u8, &str, &str, u8); 36] = [
         "tagged - names",
         1,
         UNREAD_FIRST,
-        "lvl: try --ignore properties,names\n",
+        "lvl: try --ignore properties,names, or --ignore all\n",
         2,
     ),
     ("digest tagged - all", 1, SQUARE_DIGEST, "", 0),

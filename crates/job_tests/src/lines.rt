@@ -25,6 +25,8 @@ enum Asks<'a> {
     Large,
     /// The reason of a difference, and anything else.
     Why,
+    /// That the grid steps agree, and anything else.
+    Units,
     Nothing(ErrorKind),
 }
 
@@ -91,6 +93,7 @@ fn is_asked(asks: Asks<'_>, answer: &Result<Job, LineFault>) -> bool {
                     ignore,
                     large: false,
                     why: false,
+                    units: false,
                 },
             ),
         ) => {
@@ -115,6 +118,7 @@ fn is_asked(asks: Asks<'_>, answer: &Result<Job, LineFault>) -> bool {
                     ignore,
                     large: false,
                     why: false,
+                    units: false,
                 },
             ),
         ) => {
@@ -159,6 +163,7 @@ fn is_asked(asks: Asks<'_>, answer: &Result<Job, LineFault>) -> bool {
             ),
         ) => *large,
         (Asks::Why, Ok(Job::Compare { why, .. })) => *why,
+        (Asks::Units, Ok(Job::Compare { units, .. })) => *units,
         (Asks::List(..) | Asks::Check(..), Ok(job)) => is_on_list(asks, job),
         (Asks::Nothing(kind), Err(LineFault::Words(error))) => error.kind() == kind,
         _ => false,
@@ -174,7 +179,7 @@ fn words_of(alloc: Global, line: &'static str) -> Result<Vec<&'static str>, Allo
     Ok(words)
 }
 
-static LINES: [(&str, Asks<'static>); 55] = [
+static LINES: [(&str, Asks<'static>); 57] = [
     ("lvl compare a b", Asks::Compare("a", "b", None, None)),
     (
         "lvl compare a b --top-a X --top-b Y",
@@ -247,6 +252,11 @@ static LINES: [(&str, Asks<'static>); 55] = [
     ("lvl digest --top X a", Asks::Digest("a", Some("X"), None)),
     ("lvl compare a --large b --ignore all", Asks::Large),
     ("lvl compare a --why b", Asks::Why),
+    ("lvl compare a --units b", Asks::Units),
+    (
+        "lvl show a --units",
+        Asks::Nothing(ErrorKind::UnknownArgument),
+    ),
     ("lvl show --large a", Asks::Large),
     ("lvl digest a --top X --large", Asks::Large),
     (

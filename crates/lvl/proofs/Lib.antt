@@ -11,3 +11,4 @@ pub mod Digesting
 pub mod Hashing
 pub mod Listing
 pub mod Reasoning
+pub mod Measuring

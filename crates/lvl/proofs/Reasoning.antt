@@ -16,15 +16,12 @@ use Rattle.lvl_view.specs.declared.map.LayerPair.{LayerPair}
 use Rattle.lvl_why.specs.Whys.{IsWhy}
 use Rattle.lvl_view.specs.Views.{PlainView}
 use Rattle.lvl_why.specs.declared.why.Why.{Why}
-use Rattle.lvl.specs.declared.explained.Explained.{Explained}
 use Rattle.lvl.specs.declared.layout.Head.{Head}
-use Rattle.lvl.specs.declared.verdict.Refusal.{Refusal}
 use Rattle.lvl.specs.declared.verdict.Verdict.{Verdict}
 use Rattle.lvl.specs.declared.verdict.Verdict.TheVariants.{Differ}
 use Rattle.lvl.specs.Kept.{Kept}
 use Rattle.lvl.specs.Layouts.{File, IsLayoutOf}
-use Rattle.lvl.specs.Reasons.{IsExplainedIn, IsKeptReason, IsReasonIn, IsReasonOf}
-use Rattle.lvl.specs.Views.{IsComparedIn}
+use Rattle.lvl.specs.Reasons.{IsKeptReason, IsReasonIn, IsReasonOf}
 
 abbrev kept_with : File → List (PlainCell Rings) → Kept
 kept_with file cells = record { limits = file.profile.limits; cells = cells; top = file.top }
@@ -80,12 +77,6 @@ second_reason pairs a b layer square layers (Ok (Some w)) covers counted all som
 second_reason pairs a b layer square layers (Ok None) covers counted all some none =
     absurd (All-contains (λ l. ¬ TopCovers b l square) layers covers.source none
     (all covers.source square covers.covers covers.is_target) covers.covers)
-
-pub explained_in : (view : PlainView) (a b : File) (r : Result Explained Refusal)
-    → IfOk r (λ e. IsComparedIn view a b e.comparison)
-    → IfOk r (λ e. IsReasonIn view a b e.comparison.verdict e.why) → IfOk r (IsExplainedIn view a b)
-explained_in view a b (Err e) compared reason = tt
-explained_in view a b (Ok e) compared reason = record { compared = compared; reason = reason }
 
 -- the Layers before one that count, and that one if it counts
 abbrev pub AreCounted : List LayerPair → Layer → List Layer → ℕ → List Layer → Type 0

@@ -9,3 +9,5 @@ pub mod Digested
 pub mod Hashes
 pub mod Views
 pub mod Reasons
+pub mod Steps
+pub mod Measured

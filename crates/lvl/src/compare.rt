@@ -1,5 +1,5 @@
 //! Compares two files: reads them, checks them, and compares them strip by strip under a view.
-ghost use Rattle.std.specs.Prelude.{◌≡◌, List, ℕ, Some, Ok, Err, IfOk, IfErr, IsTrue};
+ghost use Rattle.std.specs.Prelude.{◌≡◌, false, List, ℕ, None, Some, Ok, Err, IfOk, IfErr, IsTrue};
 ghost use Rattle.lvl_io.specs.Bytes.{CountsFailure};
 ghost use Rattle.lvl_region.specs.declared.region.Side.TheVariants.{First, Second};
 ghost use Rattle.lvl_names.specs.declared.layer.Layer.{Layer};
@@ -12,6 +12,7 @@ ghost use Rattle.lvl.specs.declared.verdict.Verdict.TheVariants.{Same, Differ};
 ghost use Rattle.lvl.specs.declared.verdict.Refusal.TheVariants.{File as FileRefused};
 ghost use Rattle.lvl.specs.Accepted.{AreSame, AreDifferent, IsUnaccepted, IsVerdict};
 ghost use Rattle.lvl.specs.Kept.{Kept, IsCheckedAs, IsKeptVerdict, IsKeptRefusal};
+ghost use Rattle.lvl.specs.Measured.{IfCompared, IfUncompared, IsAfterSteps, IsBySteps, IsMeasuredIn, WasCompared};
 ghost use Rattle.lvl.specs.Answers.{Blames, HasPassed, IsEarlyOf, IsHopeless, IsRefusalOf, IsReported, IsUnreadAt};
 ghost use Rattle.lvl.specs.Answers.{is_read_of};
 ghost use Rattle.lvl.specs.Sides.{file, library_of};
@@ -19,8 +20,10 @@ ghost use Rattle.lvl.specs.Reasons.{IsExplainedIn, IsKeptReason, IsReasonIn};
 ghost use Rattle.lvl.specs.Views.{IsComparedIn, IsViewVerdict};
 
 use crate::explained::{Explained, Judged};
+use crate::measured::{Asked, Measured, explained_of};
 use crate::reason::judge;
 use crate::side::{check_side, fit_side, read_side};
+use crate::steps::may_compare;
 use crate::verdict::{Comparison, Refusal, Tops, Verdict};
 use lvl_cells::{Checked, Library};
 use lvl_io::Read;
@@ -43,6 +46,7 @@ fn compare_libraries(
         (library_of limits ours tops.now.first) (library_of limits theirs tops.now.second) judged.verdict) }
     ensures reason { IsTrue explained → IfOk result (λ judged. IsKeptReason view.now
         (library_of limits ours tops.now.first) (library_of limits theirs tops.now.second) judged.verdict judged.why) }
+    ensures plain { explained ≡ false → IfOk result (λ judged. judged.why ≡ None) }
     ensures refused { IfErr result
         (IsKeptRefusal (library_of limits ours tops.now.first) (library_of limits theirs tops.now.second)) }
 {
@@ -63,6 +67,7 @@ fn compare_checked(
         → IfOk result (λ judged. IsKeptVerdict view.now a b judged.verdict) }
     ensures reason { (a b : Kept) → IsCheckedAs a ours → IsCheckedAs b theirs → IsTrue explained
         → IfOk result (λ judged. IsKeptReason view.now a b judged.verdict judged.why) }
+    ensures plain { explained ≡ false → IfOk result (λ judged. judged.why ≡ None) }
     ensures refused { (a b : Kept) → IsCheckedAs a ours → IsCheckedAs b theirs
         → IfErr result (IsKeptRefusal a b) }
 {
@@ -178,7 +183,7 @@ pub fn compare_view<A: Read, B: Read>(
     }
 }
 
-/// Compares two files under a view and a profile, as [`compare_files`] and [`explain_files`] do.
+/// Compares two files under a view and a profile, as [`compare_files`], [`explain_files`] and [`compare_measured`] do.
 fn compare_both<A: Read, B: Read>(
     alloc: Global,
     first: &mut A,
@@ -186,14 +191,22 @@ fn compare_both<A: Read, B: Read>(
     tops: &Tops,
     view: &View,
     profile: Profile,
-    explained: bool,
-) -> Result<Explained, Refusal>
+    asked: Asked,
+) -> Result<Measured, Refusal>
     ensures compared { (xs ys : List ℕ) → A.remaining first.old ≡ Some xs → B.remaining second.old ≡ Some ys
-        → IfOk result (λ e. IsComparedIn view.now (file profile xs tops.now.first) (file profile ys tops.now.second)
-        e.comparison) }
+        → IfOk result (IfCompared (λ e. IsComparedIn view.now (file profile xs tops.now.first)
+        (file profile ys tops.now.second) e.comparison)) }
     ensures reason { (xs ys : List ℕ) → A.remaining first.old ≡ Some xs → B.remaining second.old ≡ Some ys
-        → IsTrue explained → IfOk result (λ e. IsReasonIn view.now (file profile xs tops.now.first)
-        (file profile ys tops.now.second) e.comparison.verdict e.why) }
+        → IsTrue asked.reason → IfOk result (IfCompared (λ e. IsReasonIn view.now (file profile xs tops.now.first)
+        (file profile ys tops.now.second) e.comparison.verdict e.why)) }
+    ensures plain { asked.reason ≡ false → IfOk result (IfCompared (λ e. e.why ≡ None)) }
+    ensures always { asked.steps ≡ false → IfOk result WasCompared }
+    ensures steps { IsTrue asked.steps → IfOk result IsBySteps }
+    ensures heads { (xs ys : List ℕ) → A.remaining first.old ≡ Some xs → B.remaining second.old ≡ Some ys
+        → IfOk result (IfUncompared (file profile xs tops.now.first) (file profile ys tops.now.second)) }
+    ensures after_steps { (xs ys : List ℕ) → A.remaining first.old ≡ Some xs → B.remaining second.old ≡ Some ys
+        → IsTrue asked.steps
+        → IfErr result (IsAfterSteps (file profile xs tops.now.first) (file profile ys tops.now.second)) }
     ensures first_refused { (xs : List ℕ) → A.remaining first.old ≡ Some xs
         → IfErr result (IsRefusalOf First (file profile xs tops.now.first)) }
     ensures second_refused { (ys : List ℕ) → B.remaining second.old ≡ Some ys
@@ -213,18 +226,20 @@ fn compare_both<A: Read, B: Read>(
     ensures second_reads { CountsFailure (B.read_errors second.old) (B.read_errors second.new)
         (is_read_of Second result) }
 {
-    let (ours, first_head) = read_side(alloc, Side::First, first, profile)?;
-    let (theirs, second_head) = read_side(alloc, Side::Second, second, profile)?;
-    let judged = compare_libraries(alloc, profile.limits, ours, theirs, tops, view, explained)?;
+    let (ours, first) = read_side(alloc, Side::First, first, profile)?;
+    let (theirs, second) = read_side(alloc, Side::Second, second, profile)?;
+    if !may_compare(asked.steps, &first, &second) {
+        return Ok(Measured::StepsDiffer { first, second });
+    }
+    let limits = profile.limits;
+    let judged = compare_libraries(alloc, limits, ours, theirs, tops, view, asked.reason)?;
     let Judged { verdict, why } = judged;
-    Ok(Explained {
-        comparison: Comparison {
-            first: first_head,
-            second: second_head,
-            verdict,
-        },
-        why,
-    })
+    let comparison = Comparison {
+        first,
+        second,
+        verdict,
+    };
+    Ok(Measured::Compared(Explained { comparison, why }))
 }
 
 /// Compares two files under a view and a profile, and returns the head of each and the verdict of
@@ -262,8 +277,15 @@ pub fn compare_files<A: Read, B: Read>(
     ensures second_reads { CountsFailure (B.read_errors second.old) (B.read_errors second.new)
         (is_read_of Second result) }
 {
-    match compare_both(alloc, first, second, tops, view, profile, false) {
-        Ok(explained) => Ok(explained.comparison),
+    let asked = Asked {
+        reason: false,
+        steps: false,
+    };
+    match compare_both(alloc, first, second, tops, view, profile, asked) {
+        Ok(measured) => {
+            let explained = explained_of(measured);
+            Ok(explained.comparison)
+        }
         Err(refusal) => Err(refusal),
     }
 }
@@ -300,5 +322,55 @@ pub fn explain_files<A: Read, B: Read>(
     ensures second_reads { CountsFailure (B.read_errors second.old) (B.read_errors second.new)
         (is_read_of Second result) }
 {
-    compare_both(alloc, first, second, tops, view, profile, true)
+    let asked = Asked {
+        reason: true,
+        steps: false,
+    };
+    match compare_both(alloc, first, second, tops, view, profile, asked) {
+        Ok(measured) => Ok(explained_of(measured)),
+        Err(refusal) => Err(refusal),
+    }
+}
+
+/// Compares two files as [`compare_files`] or, if the reason is asked for, as [`explain_files`] does, but only if their
+/// grid steps agree ([`agree_in_steps`](crate::agree_in_steps)). If they don't, the files are read and nothing else is done.
+pub fn compare_measured<A: Read, B: Read>(
+    alloc: Global,
+    first: &mut A,
+    second: &mut B,
+    tops: &Tops,
+    view: &View,
+    profile: Profile,
+    explained: bool,
+) -> Result<Measured, Refusal>
+    ensures measured { (xs ys : List ℕ) → A.remaining first.old ≡ Some xs → B.remaining second.old ≡ Some ys
+        → IfOk result
+        (IsMeasuredIn explained view.now (file profile xs tops.now.first) (file profile ys tops.now.second)) }
+    ensures steps { IfOk result IsBySteps }
+    ensures after_steps { (xs ys : List ℕ) → A.remaining first.old ≡ Some xs → B.remaining second.old ≡ Some ys
+        → IfErr result (IsAfterSteps (file profile xs tops.now.first) (file profile ys tops.now.second)) }
+    ensures first_refused { (xs : List ℕ) → A.remaining first.old ≡ Some xs
+        → IfErr result (IsRefusalOf First (file profile xs tops.now.first)) }
+    ensures second_refused { (ys : List ℕ) → B.remaining second.old ≡ Some ys
+        → IfErr result (IsRefusalOf Second (file profile ys tops.now.second)) }
+    ensures first_early { (xs : List ℕ) → A.remaining first.old ≡ Some xs
+        → IfErr result (λ r. IsEarlyOf First r → IsHopeless profile xs (A.remaining first.new)) }
+    ensures second_early { (ys : List ℕ) → B.remaining second.old ≡ Some ys
+        → IfErr result (λ r. IsEarlyOf Second r → IsHopeless profile ys (B.remaining second.new)) }
+    ensures first_unread { (xs : List ℕ) → A.remaining first.old ≡ Some xs
+        → (fault : FaultOfFile) → result ≡ Err (FileRefused First fault)
+        → IsUnreadAt profile xs (A.remaining first.new) fault }
+    ensures second_unread { (ys : List ℕ) → B.remaining second.old ≡ Some ys
+        → (fault : FaultOfFile) → result ≡ Err (FileRefused Second fault)
+        → IsUnreadAt profile ys (B.remaining second.new) fault }
+    ensures second_kept { (fault : FaultOfFile) → result ≡ Err (FileRefused First fault) → second.new ≡ second.old }
+    ensures first_reads { CountsFailure (A.read_errors first.old) (A.read_errors first.new) (is_read_of First result) }
+    ensures second_reads { CountsFailure (B.read_errors second.old) (B.read_errors second.new)
+        (is_read_of Second result) }
+{
+    let asked = Asked {
+        reason: explained,
+        steps: true,
+    };
+    compare_both(alloc, first, second, tops, view, profile, asked)
 }

@@ -2,9 +2,10 @@
 //!
 //! [`compare_layouts`] reads two files, checks their cells, and compares what they cover on each
 //! Layer. It returns a [`Verdict`] or a [`Refusal`]. [`compare_view`] does the same with the Layers
-//! of the second file mapped, and only within a window, and [`explain_files`] says why two files
-//! differ. [`show_file`] returns what one file has, and [`digest_file`] a digest of the mask that
-//! it draws. Each format is a variant of [`Layout`], [`Head`] and [`FileFault`].
+//! of the second file mapped, and only within a window, [`explain_files`] says why two files differ,
+//! and [`compare_measured`] compares only files whose grid steps agree. [`show_file`] returns what
+//! one file has, and [`digest_file`] a digest of the mask that it draws. Each format is a variant of
+//! [`Layout`], [`Head`] and [`FileFault`].
 //!
 //! `one` and `other` are two files in memory that draw the same:
 //!
@@ -23,7 +24,7 @@
 //! ```
 #![tactic(auto)]
 
-pub use compare::{compare_files, compare_layouts, compare_view, explain_files};
+pub use compare::{compare_files, compare_layouts, compare_measured, compare_view, explain_files};
 pub use digest::{digest_file, digests_decide};
 pub use digested::{Digested, MaskDigest};
 pub use explained::Explained;
@@ -31,8 +32,10 @@ pub use layout::{FileFault, Head, Layout, read_layout, read_layout_by, widening_
 pub use lvl_corners::{DigestedLayer, layer_line};
 pub use lvl_why::{NamedStep, Why};
 pub use lvl_witness::PlacedRing;
+pub use measured::Measured;
 pub use show::show_file;
 pub use shown::Shown;
+pub use steps::agree_in_steps;
 pub use verdict::{Comparison, Refusal, Tops, Verdict};
 
 mod compare;
@@ -42,10 +45,12 @@ mod explained;
 mod fitted;
 mod hashes;
 mod layout;
+mod measured;
 mod pace;
 mod reason;
 mod show;
 mod shown;
 mod side;
+mod steps;
 mod strip;
 mod verdict;

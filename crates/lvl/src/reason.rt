@@ -1,5 +1,5 @@
 //! Why one of two layouts alone covers the square in which they differ.
-ghost use Rattle.std.specs.Prelude.{◌≡◌, All, Contains, IfOk, IsTrue};
+ghost use Rattle.std.specs.Prelude.{◌≡◌, false, All, Contains, IfOk, IsTrue, None};
 ghost use Rattle.lvl_columns.specs.Windows.{IsShown};
 ghost use Rattle.lvl_flat.specs.Flattened.{TopCovers};
 ghost use Rattle.lvl_grid.specs.declared.point.Square.{Square};
@@ -81,6 +81,7 @@ pub(crate) fn judge(
         (IsMoved view.now.pairs (TopCovers second.now)) judged.verdict) }
     ensures reason { IsTrue explained
         → IfOk result (λ judged. IsReasonOf view.now.pairs first.now second.now judged.verdict judged.why) }
+    ensures plain { explained ≡ false → IfOk result (λ judged. judged.why ≡ None) }
 {
     let verdict = compare_fitted(alloc, first, second, view)?;
     if !explained {

@@ -62,16 +62,16 @@ module _ {S : Type 0} (opens : S → List ℕ → Option (Option (List ℕ)) →
         subst Q new_too (subst P fresh holds));
   }
 
-  pub pair_fault : (why : Bool) (view : Option PlainView) (a b : Named) (old new : S) (from to : Option (List ℕ)) (fault : RunFault)
+  pub pair_fault : (units why : Bool) (view : Option PlainView) (a b : Named) (old new : S) (from to : Option (List ℕ)) (fault : RunFault)
       (reported : JobFault) → reported ≡ fault_of_run fault
-      → OfTwo opens old new a b (λ x y. IsPairBegun why view x y from to)
+      → OfTwo opens old new a b (λ x y. IsPairBegun units why view x y from to)
       → (failed_run fault ≡ Err RunOutOfMemory → Keeps from to)
-      → IsPairFault opens why view a b old new from to reported
-  pair_fault why view a b old new from to fault reported is begun nothing =
-      subst (IsPairFault opens why view a b old new from to) (sym is) (go fault nothing)
+      → IsPairFault opens units why view a b old new from to reported
+  pair_fault units why view a b old new from to fault reported is begun nothing =
+      subst (IsPairFault opens units why view a b old new from to) (sym is) (go fault nothing)
     where
       go : (fault : RunFault) → (failed_run fault ≡ Err RunOutOfMemory → Keeps from to)
-          → IsPairFault opens why view a b old new from to (fault_of_run fault)
+          → IsPairFault opens units why view a b old new from to (fault_of_run fault)
       go RunOutput none = begun
       go RunOutOfMemory none = none refl
 
@@ -113,7 +113,7 @@ module _ {S : Type 0} (opens : S → List ℕ → Option (Option (List ℕ)) →
         go Output h = cut h
 
   module _ (first second : String Global) (top_a top_b map_text window_text ignored : Option (String Global))
-      (is_large why : Bool)
+      (is_large why units : Bool)
       (view : Option PlainView) (profile : Profile)
       (asked : IsViewAsked (option_map string_bytes map_text) (option_map string_bytes window_text) view)
       (given : IsProfileAsked (option_map string_bytes ignored) is_large profile) where
@@ -121,8 +121,8 @@ module _ {S : Type 0} (opens : S → List ℕ → Option (Option (List ℕ)) →
     both h = record { view = view; asked = asked; holds = record { profile = profile; asked = given; holds = h } }
 
     pub job_answered : (old new : S) (from to : Option (List ℕ)) (r : Result Outcome JobFault)
-        → IfOk r (IsPairAnswered opens why view (named profile first top_a) (named profile second top_b) old new from to)
-        → IfOk r (IsAnswered opens (Compare first second top_a top_b map_text window_text ignored is_large why) old new from to)
+        → IfOk r (IsPairAnswered opens units why view (named profile first top_a) (named profile second top_b) old new from to)
+        → IfOk r (IsAnswered opens (Compare first second top_a top_b map_text window_text ignored is_large why units) old new from to)
     job_answered old new from to (Ok status) h = record {
       view = view;
       asked = asked;
@@ -131,14 +131,14 @@ module _ {S : Type 0} (opens : S → List ℕ → Option (Option (List ℕ)) →
     job_answered old new from to (Err fault) h = tt
 
     pub job_fault : (old new : S) (from to : Option (List ℕ)) (r : Result Outcome JobFault)
-        → IfErr r (IsPairFault opens why view (named profile first top_a) (named profile second top_b) old new from to)
-        → IfErr r (IsFaultOfJob opens (Compare first second top_a top_b map_text window_text ignored is_large why) old new from to)
+        → IfErr r (IsPairFault opens units why view (named profile first top_a) (named profile second top_b) old new from to)
+        → IfErr r (IsFaultOfJob opens (Compare first second top_a top_b map_text window_text ignored is_large why units) old new from to)
     job_fault old new from to (Ok status) h = tt
     job_fault old new from to (Err fault) h = go fault h
       where
         go : (fault : JobFault)
-            → IsPairFault opens why view (named profile first top_a) (named profile second top_b) old new from to fault
-            → IsFaultOfJob opens (Compare first second top_a top_b map_text window_text ignored is_large why) old new from to fault
+            → IsPairFault opens units why view (named profile first top_a) (named profile second top_b) old new from to fault
+            → IsFaultOfJob opens (Compare first second top_a top_b map_text window_text ignored is_large why units) old new from to fault
         go (BadView fault) h = absurd h
         go (BadIgnore fault) h = absurd h
         go (NotOpened name) h = (both h.0, h.1)
@@ -186,18 +186,18 @@ module _ {S : Type 0} (opens : S → List ℕ → Option (Option (List ℕ)) →
         (λ h. record { profile = profile; asked = given; holds = h })
 
   pub view_fault : (first second : String Global) (top_a top_b map_text window_text ignored : Option (String Global))
-      (is_large why : Bool) (old : S) (from : Option (List ℕ)) (fault : JobFault)
+      (is_large why units : Bool) (old : S) (from : Option (List ℕ)) (fault : JobFault)
       → IsViewFault (option_map string_bytes map_text) (option_map string_bytes window_text) fault
-      → IsFaultOfJob opens (Compare first second top_a top_b map_text window_text ignored is_large why) old old from from fault
-  view_fault first second top_a top_b map_text window_text ignored is_large why old from (BadView fault) h =
+      → IsFaultOfJob opens (Compare first second top_a top_b map_text window_text ignored is_large why units) old old from from fault
+  view_fault first second top_a top_b map_text window_text ignored is_large why units old from (BadView fault) h =
       (h, refl, keeps_same from)
-  view_fault first second top_a top_b map_text window_text ignored is_large why old from (BadIgnore fault) h = absurd h
-  view_fault first second top_a top_b map_text window_text ignored is_large why old from (NotOpened name) h = absurd h
-  view_fault first second top_a top_b map_text window_text ignored is_large why old from (UnreadList name) h = absurd h
-  view_fault first second top_a top_b map_text window_text ignored is_large why old from (LongList name) h = absurd h
-  view_fault first second top_a top_b map_text window_text ignored is_large why old from (BadLine name n) h = absurd h
-  view_fault first second top_a top_b map_text window_text ignored is_large why old from OutOfMemory h = keeps_same from
-  view_fault first second top_a top_b map_text window_text ignored is_large why old from Output h = absurd h
+  view_fault first second top_a top_b map_text window_text ignored is_large why units old from (BadIgnore fault) h = absurd h
+  view_fault first second top_a top_b map_text window_text ignored is_large why units old from (NotOpened name) h = absurd h
+  view_fault first second top_a top_b map_text window_text ignored is_large why units old from (UnreadList name) h = absurd h
+  view_fault first second top_a top_b map_text window_text ignored is_large why units old from (LongList name) h = absurd h
+  view_fault first second top_a top_b map_text window_text ignored is_large why units old from (BadLine name n) h = absurd h
+  view_fault first second top_a top_b map_text window_text ignored is_large why units old from OutOfMemory h = keeps_same from
+  view_fault first second top_a top_b map_text window_text ignored is_large why units old from Output h = absurd h
 
   -- a job whose text of what is ignored is bad
   no_ignore : (job : Job) (text : Option (List ℕ)) (old : S) (from : Option (List ℕ)) (fault : JobFault)
@@ -213,13 +213,13 @@ module _ {S : Type 0} (opens : S → List ℕ → Option (Option (List ℕ)) →
   no_ignore job text old from Output bad h = absurd h
 
   pub ignore_fault : (first second : String Global) (top_a top_b map_text window_text ignored : Option (String Global))
-      (is_large why : Bool) (view : Option PlainView)
+      (is_large why units : Bool) (view : Option PlainView)
       → IsViewAsked (option_map string_bytes map_text) (option_map string_bytes window_text) view
       → (old : S) (from : Option (List ℕ)) (fault : JobFault) → IsNoIgnore (option_map string_bytes ignored) fault
-      → IsFaultOfJob opens (Compare first second top_a top_b map_text window_text ignored is_large why) old old from from
+      → IsFaultOfJob opens (Compare first second top_a top_b map_text window_text ignored is_large why units) old old from from
       fault
-  ignore_fault first second top_a top_b map_text window_text ignored is_large why view asked old from fault =
-      no_ignore (Compare first second top_a top_b map_text window_text ignored is_large why) (option_map string_bytes ignored)
+  ignore_fault first second top_a top_b map_text window_text ignored is_large why units view asked old from fault =
+      no_ignore (Compare first second top_a top_b map_text window_text ignored is_large why units) (option_map string_bytes ignored)
       old from fault (λ h. record { view = view; asked = asked; holds = h })
 
   pub shown_ignore_fault : (file : String Global) (top ignored : Option (String Global)) (is_large : Bool) (old : S)

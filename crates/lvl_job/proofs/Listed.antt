@@ -29,7 +29,7 @@ module _ {S : Type 0} (opens : S → List ℕ → Option (Option (List ℕ)) →
   -- a job with one answer
   pub one_done : (job : Job) (old new : S) (out err : Change) (r : Result Outcome JobFault) → has_one_answer job ≡ true
       → IsOneDone opens job old new out err r → IsDone opens job old new out err r
-  one_done (Compare a b c d e f g h i) old new out err r one done = done
+  one_done (Compare a b c d e f g h i j) old new out err r one done = done
   one_done (Show a b c d) old new out err r one done = done
   one_done (Digest a b c d) old new out err r one done = done
   one_done (ListJob a b c d) old new out err r one done = cc

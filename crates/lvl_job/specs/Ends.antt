@@ -64,7 +64,7 @@ top_option Second = codes "--top-b"
 
 -- what would mend a refusal, on one line
 abbrev pub hint_text : Hint → List ℕ
-hint_text (IgnoreMore more) = line (codes "lvl: try --ignore " ++ ignore_words more)
+hint_text (IgnoreMore more) = codes "lvl: try --ignore " ++ ignore_words more ++ codes ", or --ignore all\n"
 hint_text LiftLimits = line (codes "lvl: try " ++ codes "--large")
 hint_text Unpack =
     line (codes "lvl: neither GDSII nor OASIS: " ++ codes "if the file is compressed (gzip), unpack it first")

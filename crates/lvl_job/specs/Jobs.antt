@@ -11,15 +11,16 @@ use Rattle.lvl_profile.specs.declared.ignore.Ignore.{Ignore}
 use Rattle.lvl_profile.specs.declared.limits.Limits.{Limits}
 use Rattle.lvl_profile.specs.declared.profile.Profile.{Profile}
 use Rattle.lvl.specs.declared.explained.Explained.{Explained}
+use Rattle.lvl.specs.declared.measured.Measured.{Measured}
 use Rattle.lvl.specs.declared.verdict.Comparison.{Comparison}
 use Rattle.lvl.specs.declared.verdict.Refusal.{Refusal}
 use Rattle.lvl_line.specs.declared.job.Job.{Job}
 use Rattle.lvl_line.specs.declared.job.Job.TheVariants.{Check, Compare, Digest, List as ListJob, Show}
 use Rattle.lvl_report.specs.declared.outcome.Outcome.{Outcome}
 use Rattle.lvl_report.specs.Runs.{Input, input, IsComparedBy, IsDigestedBy, IsExplainedBy, IsViewedBy, IsShownBy}
-use Rattle.lvl_report.specs.Runs.{IsWritten, IsBegun}
-use Rattle.lvl_report.specs.Texts.{text_of, text_of_digested, text_of_explained, text_of_shown}
-use Rattle.lvl_report.specs.Hints.{IsExplainedOutcome, IsOutcomeOf, shown_outcome}
+use Rattle.lvl_report.specs.Runs.{IsWritten, IsBegun, IsMeasuredBy}
+use Rattle.lvl_report.specs.Texts.{text_of, text_of_digested, text_of_explained, text_of_measured, text_of_shown}
+use Rattle.lvl_report.specs.Hints.{IsExplainedOutcome, IsMeasuredOutcome, IsOutcomeOf, shown_outcome}
 use Rattle.lvl_report.specs.Writing.{ends_by}
 use Rattle.lvl_view.specs.declared.fault.ViewFault.{ViewFault}
 use Rattle.lvl_view.specs.Views.{PlainView, IsViewOf, IsFaultOf, IsWhole}
@@ -140,26 +141,35 @@ abbrev pub IsExplainedUnder : Option PlainView → Input → Input → Result Ex
 IsExplainedUnder None a b answer = (view : PlainView) × IsWhole view × IsExplainedBy view a b answer
 IsExplainedUnder (Some view) a b answer = IsExplainedBy view a b answer
 
--- the text of a comparison was written, with its reason if that is asked for, and the run ends as it does for this
-abbrev pub IsPairWritten : Bool → Option PlainView → Profile → Input → Input → Option (List ℕ) → Option (List ℕ)
+-- the answer is possible for their comparison in which the grid steps must agree, in the same way
+abbrev pub IsMeasuredUnder : Bool → Option PlainView → Input → Input → Result Measured Refusal → Type 0
+IsMeasuredUnder why None a b answer = (view : PlainView) × IsWhole view × IsMeasuredBy why view a b answer
+IsMeasuredUnder why (Some view) a b answer = IsMeasuredBy why view a b answer
+
+-- the text of a comparison was written, with its reason if that is asked for (the second flag), and the run ends as it
+-- does for this; if the grid steps must agree (the first flag), that of an answer in which they do, or nothing
+abbrev pub IsPairWritten : Bool → Bool → Option PlainView → Profile → Input → Input → Option (List ℕ) → Option (List ℕ)
     → Outcome → Type 0
-IsPairWritten false view profile a b from to outcome =
+IsPairWritten false false view profile a b from to outcome =
     IsWritten (IsComparedUnder view a b) text_of (IsOutcomeOf profile) from to outcome
-IsPairWritten true view profile a b from to outcome =
+IsPairWritten false true view profile a b from to outcome =
     IsWritten (IsExplainedUnder view a b) text_of_explained (IsExplainedOutcome profile) from to outcome
+IsPairWritten true why view profile a b from to outcome =
+    IsWritten (IsMeasuredUnder why view a b) text_of_measured (IsMeasuredOutcome profile) from to outcome
 
 -- a beginning of that text was written
-abbrev pub IsPairBegun : Bool → Option PlainView → Input → Input → Option (List ℕ) → Option (List ℕ) → Type 0
-IsPairBegun false view a b from to = IsBegun (IsComparedUnder view a b) text_of from to
-IsPairBegun true view a b from to = IsBegun (IsExplainedUnder view a b) text_of_explained from to
+abbrev pub IsPairBegun : Bool → Bool → Option PlainView → Input → Input → Option (List ℕ) → Option (List ℕ) → Type 0
+IsPairBegun false false view a b from to = IsBegun (IsComparedUnder view a b) text_of from to
+IsPairBegun false true view a b from to = IsBegun (IsExplainedUnder view a b) text_of_explained from to
+IsPairBegun true why view a b from to = IsBegun (IsMeasuredUnder why view a b) text_of_measured from to
 
 -- the answer to a job was written, and the job ends as it does for this answer
 abbrev pub IsAnswered : {S : Type 0} → (S → List ℕ → Option (Option (List ℕ)) → S → Type 0) → Job → S → S
     → Option (List ℕ) → Option (List ℕ) → Outcome → Type 0
-IsAnswered opens (Compare first second top_a top_b map_text window_text ignored is_large why) old new from to outcome =
+IsAnswered opens (Compare first second top_a top_b map_text window_text ignored is_large why units) old new from to outcome =
     UnderView map_text window_text (λ view. UnderProfile ignored is_large (λ profile.
     OfTwo opens old new (named profile first top_a) (named profile second top_b) (λ a b.
-    IsPairWritten why view profile a b from to outcome)))
+    IsPairWritten units why view profile a b from to outcome)))
 IsAnswered opens (Show file top ignored is_large) old new from to outcome =
     UnderProfile ignored is_large (λ profile. OfOne opens old new (named profile file top) (λ a.
     IsWritten (IsShownBy a) text_of_shown (ends_by (shown_outcome profile)) from to outcome))
@@ -171,10 +181,10 @@ IsAnswered opens job old new from to outcome = ⊥
 -- a beginning of the answer to a job was written
 abbrev pub IsCut : {S : Type 0} → (S → List ℕ → Option (Option (List ℕ)) → S → Type 0) → Job → S → S
     → Option (List ℕ) → Option (List ℕ) → Type 0
-IsCut opens (Compare first second top_a top_b map_text window_text ignored is_large why) old new from to =
+IsCut opens (Compare first second top_a top_b map_text window_text ignored is_large why units) old new from to =
     UnderView map_text window_text (λ view. UnderProfile ignored is_large (λ profile.
     OfTwo opens old new (named profile first top_a) (named profile second top_b) (λ a b.
-    IsPairBegun why view a b from to)))
+    IsPairBegun units why view a b from to)))
 IsCut opens (Show file top ignored is_large) old new from to =
     UnderProfile ignored is_large (λ profile.
     OfOne opens old new (named profile file top) (λ a. IsBegun (IsShownBy a) text_of_shown from to))
@@ -186,7 +196,7 @@ IsCut opens job old new from to = ⊥
 -- the file of this name is the first in the job that could not be opened
 abbrev pub IsNotOpened : {S : Type 0} → (S → List ℕ → Option (Option (List ℕ)) → S → Type 0) → Job → S → S → List ℕ
     → Type 0
-IsNotOpened opens (Compare first second top_a top_b map_text window_text ignored is_large why) old new name =
+IsNotOpened opens (Compare first second top_a top_b map_text window_text ignored is_large why units) old new name =
     UnderView map_text window_text (λ _. UnderProfile ignored is_large (λ _.
     IsMissing opens old new (string_bytes first) (string_bytes second) name))
 IsNotOpened opens (Show file top ignored is_large) old new name =
@@ -197,13 +207,13 @@ IsNotOpened opens job old new name = ⊥
 
 -- why the texts of a map and a window give no view; a job on one file has no such texts
 abbrev pub IsBadView : Job → ViewFault → Type 0
-IsBadView (Compare first second top_a top_b map_text window_text ignored is_large why) fault =
+IsBadView (Compare first second top_a top_b map_text window_text ignored is_large why units) fault =
     IsFaultOf (option_map string_bytes map_text) (option_map string_bytes window_text) fault
 IsBadView job fault = ⊥
 
 -- the text of what is ignored gives no set, but the texts of a map and a window give a view
 abbrev pub IsBadIgnore : Job → Type 0
-IsBadIgnore (Compare first second top_a top_b map_text window_text ignored is_large why) =
+IsBadIgnore (Compare first second top_a top_b map_text window_text ignored is_large why units) =
     UnderView map_text window_text (λ _. IsIgnoreFault (option_map string_bytes ignored))
 IsBadIgnore (Show file top ignored is_large) = IsIgnoreFault (option_map string_bytes ignored)
 IsBadIgnore (Digest file top ignored is_large) = IsIgnoreFault (option_map string_bytes ignored)

@@ -188,6 +188,7 @@ fn perform<F: Files, O: Write>(
             ignore,
             large,
             why,
+            units,
         } => {
             let view = view_of(alloc, &map, &window)?;
             let profile = profile_of(alloc, &ignore, large)?;
@@ -195,7 +196,12 @@ fn perform<F: Files, O: Write>(
                 first: top_of(top_a),
                 second: top_of(top_b),
             };
-            let asked = Pair { tops, view, why };
+            let asked = Pair {
+                tops,
+                view,
+                why,
+                units,
+            };
             compare(alloc, (first, second), &asked, profile, files, out)
         }
         Job::Show {
@@ -257,10 +263,11 @@ fn answer<F: Files, O: Write, E: Write>(
 /// Does a job: reads the texts of its view and of what is ignored, takes the limits that it asks for,
 /// opens its files by `files`, the first before the second, and writes its answer to `out`. If there is
 /// no answer, it writes one line to `err` that says why; if the answer is a refusal that something would mend, one line
-/// that says what; and if it is a verdict on files whose grid steps differ, one line that says so.
+/// that says what; and if it is a verdict on files whose grid steps differ, or if they aren't compared since these must
+/// agree, one line that says so.
 ///
-/// It writes an answer that [`run_by`], [`run_view_by`], [`run_why`], [`run_show_by`] or [`run_digest`] may write for
-/// these files.
+/// It writes an answer that [`run_by`], [`run_view_by`], [`run_why`], [`run_measured`], [`run_show_by`] or [`run_digest`] may
+/// write for these files.
 ///
 /// A list of digests has a line for each file that has one, in the order of the files; why a file has none is a line on
 /// `err`. To check a list it first reads the whole list. If a line of it is bad, it opens no other file. Then it hashes

@@ -5,11 +5,12 @@ ghost use Rattle.std.specs.Prelude.{string_bytes};
 ghost use Rattle.lvl.specs.Sides.{given_name};
 ghost use Rattle.lvl_io.specs.Bytes.{CountsFailure};
 ghost use Rattle.lvl_job.specs.Ends.{is_cut};
-ghost use Rattle.lvl_job.specs.Jobs.{IsComparedUnder, IsExplainedUnder, IsPairBegun, IsPairWritten};
+ghost use Rattle.lvl_job.specs.Jobs.{IsComparedUnder, IsExplainedUnder, IsMeasuredUnder, IsPairBegun};
+ghost use Rattle.lvl_job.specs.Jobs.{IsPairWritten};
 ghost use Rattle.lvl_job.specs.inside.Parts.{IsPairAnswered, IsPairFault};
 ghost use Rattle.lvl_report.specs.Runs.{IsBegun, IsWritten, input};
-ghost use Rattle.lvl_report.specs.Texts.{text_of, text_of_explained};
-ghost use Rattle.lvl_report.specs.Hints.{IsExplainedOutcome, IsOutcomeOf};
+ghost use Rattle.lvl_report.specs.Texts.{text_of, text_of_explained, text_of_measured};
+ghost use Rattle.lvl_report.specs.Hints.{IsExplainedOutcome, IsMeasuredOutcome, IsOutcomeOf};
 ghost use Rattle.lvl_report.specs.Writing.{is_output};
 
 use crate::fault::JobFault;
@@ -18,16 +19,18 @@ use crate::job::{fault_of, open};
 use lvl::Tops;
 use lvl_io::{Read, Write};
 use lvl_profile::Profile;
-use lvl_report::{Outcome, RunFault, run_by, run_view_by, run_why};
+use lvl_report::{Outcome, RunFault, run_by, run_measured, run_view_by, run_why};
 use lvl_view::View;
 use std::alloc::Global;
 
-/// How two files are compared: their tops, the view if there is one, and whether the reason is asked for.
+/// How two files are compared: their tops, the view if there is one, whether the reason is asked for, and whether
+/// their grid steps must agree.
 #[derive(Drop)]
 pub(crate) struct Pair {
     pub tops: Tops,
     pub view: Option<View>,
     pub why: bool,
+    pub units: bool,
 }
 
 /// Compares two open files, under the view if there is one.
@@ -99,7 +102,45 @@ fn run_explained<A: Read, B: Read, O: Write>(
     }
 }
 
-/// Compares two open files, under the view if there is one, with the reason if that is asked for.
+/// Compares two open files, under the view if there is one, with the reason if that is asked for, if their grid steps
+/// must agree.
+fn run_alike<A: Read, B: Read, O: Write>(
+    alloc: Global,
+    first: &mut A,
+    second: &mut B,
+    asked: &Pair,
+    profile: Profile,
+    out: &mut O,
+) -> Result<Outcome, RunFault>
+    ensures written { IfOk result (IsWritten
+        (IsMeasuredUnder asked.now.why asked.now.view
+        (input profile (A.remaining first.old) (A.remaining first.new)
+        (A.read_errors first.old) (A.read_errors first.new) (given_name asked.now.tops.first))
+        (input profile (B.remaining second.old) (B.remaining second.new)
+        (B.read_errors second.old) (B.read_errors second.new) (given_name asked.now.tops.second)))
+        text_of_measured (IsMeasuredOutcome profile) (O.contents out.old) (O.contents out.new)) }
+    ensures begun { OnErr result (IsBegun
+        (IsMeasuredUnder asked.now.why asked.now.view
+        (input profile (A.remaining first.old) (A.remaining first.new)
+        (A.read_errors first.old) (A.read_errors first.new) (given_name asked.now.tops.first))
+        (input profile (B.remaining second.old) (B.remaining second.new)
+        (B.read_errors second.old) (B.read_errors second.new) (given_name asked.now.tops.second)))
+        text_of_measured (O.contents out.old) (O.contents out.new)) }
+    ensures nothing { result ≡ Err RunFault.OutOfMemory → Keeps (O.contents out.old) (O.contents out.new) }
+    ensures errors { CountsFailure (O.write_errors out.old) (O.write_errors out.new) (is_output result) }
+{
+    let (tops, why) = (&asked.tops, asked.why);
+    match &asked.view {
+        Some(view) => run_measured(alloc, first, second, tops, view, profile, why, out),
+        None => {
+            let view = View::whole(alloc);
+            run_measured(alloc, first, second, tops, &view, profile, why, out)
+        }
+    }
+}
+
+/// Compares two open files, under the view if there is one, with the reason if that is asked for, and if their grid
+/// steps must agree, only if they do.
 fn run_pair<A: Read, B: Read, O: Write>(
     alloc: Global,
     first: &mut A,
@@ -108,13 +149,13 @@ fn run_pair<A: Read, B: Read, O: Write>(
     profile: Profile,
     out: &mut O,
 ) -> Result<Outcome, RunFault>
-    ensures written { IfOk result (IsPairWritten asked.now.why asked.now.view profile
+    ensures written { IfOk result (IsPairWritten asked.now.units asked.now.why asked.now.view profile
         (input profile (A.remaining first.old) (A.remaining first.new)
         (A.read_errors first.old) (A.read_errors first.new) (given_name asked.now.tops.first))
         (input profile (B.remaining second.old) (B.remaining second.new)
         (B.read_errors second.old) (B.read_errors second.new) (given_name asked.now.tops.second))
         (O.contents out.old) (O.contents out.new)) }
-    ensures begun { OnErr result (IsPairBegun asked.now.why asked.now.view
+    ensures begun { OnErr result (IsPairBegun asked.now.units asked.now.why asked.now.view
         (input profile (A.remaining first.old) (A.remaining first.new)
         (A.read_errors first.old) (A.read_errors first.new) (given_name asked.now.tops.first))
         (input profile (B.remaining second.old) (B.remaining second.new)
@@ -123,6 +164,9 @@ fn run_pair<A: Read, B: Read, O: Write>(
     ensures nothing { result ≡ Err RunFault.OutOfMemory → Keeps (O.contents out.old) (O.contents out.new) }
     ensures errors { CountsFailure (O.write_errors out.old) (O.write_errors out.new) (is_output result) }
 {
+    if asked.units {
+        return run_alike(alloc, first, second, asked, profile, out);
+    }
     let (tops, view) = (&asked.tops, asked.view.as_ref());
     if asked.why {
         run_explained(alloc, first, second, tops, view, profile, out)
@@ -140,11 +184,11 @@ pub(crate) fn compare<F: Files, O: Write>(
     files: &mut F,
     out: &mut O,
 ) -> Result<Outcome, JobFault>
-    ensures answered { IfOk result (IsPairAnswered F.opens asked.now.why asked.now.view
+    ensures answered { IfOk result (IsPairAnswered F.opens asked.now.units asked.now.why asked.now.view
         (record { profile = profile; name = string_bytes names.0; top = given_name asked.now.tops.first })
         (record { profile = profile; name = string_bytes names.1; top = given_name asked.now.tops.second })
         files.old files.new (O.contents out.old) (O.contents out.new)) }
-    ensures fault { IfErr result (IsPairFault F.opens asked.now.why asked.now.view
+    ensures fault { IfErr result (IsPairFault F.opens asked.now.units asked.now.why asked.now.view
         (record { profile = profile; name = string_bytes names.0; top = given_name asked.now.tops.first })
         (record { profile = profile; name = string_bytes names.1; top = given_name asked.now.tops.second })
         files.old files.new (O.contents out.old) (O.contents out.new)) }

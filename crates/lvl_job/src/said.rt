@@ -170,27 +170,15 @@ fn top_option(side: Side) -> &'static str
     }
 }
 
-/// The text of a hint in two parts.
-fn words_of_hint(hint: Hint) -> (&'static str, &'static str)
-    ensures { hint_text hint ≡ line (result.0.now ++ result.1.now) }
+/// Writes what to ignore so that more is read, or that all may be ignored, since more may come.
+fn say_ignore<E: Write>(err: &mut E, more: Ignore)
+    ensures { IsSaid (hint_text (Hint.IgnoreMore more)) (E.contents err.old) (E.contents err.new)
+        (E.write_errors err.old) (E.write_errors err.new) }
 {
-    match hint {
-        Hint::IgnoreMore(more) => ("lvl: try --ignore ", ignore_words(more)),
-        Hint::LiftLimits => ("lvl: try ", "--large"),
-        Hint::Unpack => (
-            "lvl: neither GDSII nor OASIS: ",
-            "if the file is compressed (gzip), unpack it first",
-        ),
-        Hint::WithoutBlocks => (
-            "lvl: a compressed block: ",
-            "write the file without CBLOCK compression",
-        ),
-        Hint::NameTop => ("lvl: several cells could be the top: name one by ", "--top"),
-        Hint::NameTopOf(side) => (
-            "lvl: several cells could be the top: name one by ",
-            top_option(side),
-        ),
-    }
+    let mut said = Ok(());
+    say_more(err, &mut said, b"lvl: try --ignore ");
+    say_more(err, &mut said, ignore_words(more).as_bytes());
+    say_more(err, &mut said, b", or --ignore all\n");
 }
 
 /// Writes on one line what would mend a refusal.
@@ -198,8 +186,30 @@ fn say_hint<E: Write>(err: &mut E, hint: Hint)
     ensures { IsSaid (hint_text hint) (E.contents err.old) (E.contents err.new)
         (E.write_errors err.old) (E.write_errors err.new) }
 {
-    let (why, what) = words_of_hint(hint);
-    say_line(err, why, what);
+    match hint {
+        Hint::IgnoreMore(more) => say_ignore(err, more),
+        Hint::LiftLimits => say_line(err, "lvl: try ", "--large"),
+        Hint::Unpack => say_line(
+            err,
+            "lvl: neither GDSII nor OASIS: ",
+            "if the file is compressed (gzip), unpack it first",
+        ),
+        Hint::WithoutBlocks => say_line(
+            err,
+            "lvl: a compressed block: ",
+            "write the file without CBLOCK compression",
+        ),
+        Hint::NameTop => say_line(
+            err,
+            "lvl: several cells could be the top: name one by ",
+            "--top",
+        ),
+        Hint::NameTopOf(side) => say_line(
+            err,
+            "lvl: several cells could be the top: name one by ",
+            top_option(side),
+        ),
+    }
 }
 
 /// Writes on one line what would mend a refusal, if anything would, or that the grid steps of two files differ. If that

@@ -33,14 +33,15 @@ option_rule id = record (new_rule id) { long = Some id; value_names = 1 }
 abbrev pub flag_rule : Text → Rule
 flag_rule id = record (new_rule id) { long = Some id; action = Some SetTrue }
 
--- `compare A B [--top-a NAME] [--top-b NAME] [--map PAIRS] [--window RANGES] [--ignore WORDS] [--large] [--why]`
+-- `compare A B [--top-a NAME] [--top-b NAME] [--map PAIRS] [--window RANGES] [--ignore WORDS] [--large] [--why]
+-- [--units]`
 abbrev pub compare_app : App
-compare_app = with_rule (with_rule (with_rule (with_rule (with_rule (with_rule (with_rule (with_rule (with_rule
+compare_app = with_rule (with_rule (with_rule (with_rule (with_rule (with_rule (with_rule (with_rule (with_rule (with_rule
     (new_app (codes "compare"))
     (file_rule (codes "A"))) (file_rule (codes "B")))
     (option_rule (codes "top-a"))) (option_rule (codes "top-b")))
     (option_rule (codes "map"))) (option_rule (codes "window"))) (option_rule (codes "ignore")))
-    (flag_rule (codes "large"))) (flag_rule (codes "why"))
+    (flag_rule (codes "large"))) (flag_rule (codes "why"))) (flag_rule (codes "units"))
 
 -- `show A [--top NAME] [--ignore WORDS] [--large]`
 abbrev pub show_app : App
@@ -87,7 +88,7 @@ IsMisplaced None = ⊥
 
 -- the job has the values that `clap` finds in the words, under the subcommand of that name
 abbrev pub IsNamed : Job → Option (Text × List Row) → Type 0
-IsNamed (job.Compare first second top_a top_b layers window ignored large why) (Some (name, rows)) =
+IsNamed (job.Compare first second top_a top_b layers window ignored large why units) (Some (name, rows)) =
     (name ≡ codes "compare")
     × (first_of (codes "A") rows ≡ Some (string_bytes first))
     × (first_of (codes "B") rows ≡ Some (string_bytes second))
@@ -98,6 +99,7 @@ IsNamed (job.Compare first second top_a top_b layers window ignored large why) (
     × (first_of (codes "ignore") rows ≡ option_map string_bytes ignored)
     × (is_set (codes "large") rows ≡ large)
     × (is_set (codes "why") rows ≡ why)
+    × (is_set (codes "units") rows ≡ units)
 IsNamed (job.Show file top ignored large) (Some (name, rows)) =
     (name ≡ codes "show")
     × (first_of (codes "A") rows ≡ Some (string_bytes file))

@@ -38,6 +38,9 @@ const IGNORE_HELP: &str =
 /// The help of `--why`.
 const WHY_HELP: &str = "Of a difference, says which references lead to which shape";
 
+/// The help of `--units`.
+const UNITS_HELP: &str = "Doesn't compare layouts whose grid steps differ";
+
 /// The help of `--large`.
 const LARGE_HELP: &str = "Takes the limits for whole chips";
 
@@ -91,7 +94,7 @@ fn compare_tops<'a>(alloc: Global) -> Result<Command<'a>, AllocError>
         .arg(option(alloc, "top-b", "NAME", "The second layout's top cell"))
 }
 
-/// The same with `[--map PAIRS] [--window RANGES] [--ignore WORDS] [--large] [--why]`.
+/// The same with `[--map PAIRS] [--window RANGES] [--ignore WORDS] [--large] [--why] [--units]`.
 fn compare<'a>(alloc: Global) -> Result<Command<'a>, AllocError>
     ensures { IfOk result (λ c. app_of c ≡ compare_app) }
 {
@@ -100,7 +103,8 @@ fn compare<'a>(alloc: Global) -> Result<Command<'a>, AllocError>
         .arg(option(alloc, "window", "RANGES", WINDOW_HELP))?
         .arg(option(alloc, "ignore", "WORDS", IGNORE_HELP))?
         .arg(flag(alloc, "large", LARGE_HELP))?
-        .arg(flag(alloc, "why", WHY_HELP))
+        .arg(flag(alloc, "why", WHY_HELP))?
+        .arg(flag(alloc, "units", UNITS_HELP))
 }
 
 /// `show A [--top NAME] [--ignore WORDS] [--large]`.

@@ -18,6 +18,8 @@ pub enum Job {
         large: bool,
         /// Whether the reason of a difference is asked for.
         why: bool,
+        /// Whether files are compared only if their grid steps agree.
+        units: bool,
     },
     /// To show a file, with the name of its top cell and the text of what is ignored if they are given.
     Show {

@@ -60,6 +60,7 @@ fn compare_of(alloc: Global, matches: &ArgMatches<'_>) -> Result<Job, AllocError
         ignore: value_of(alloc, matches, "ignore")?,
         large: is_set(matches, "large"),
         why: is_set(matches, "why"),
+        units: is_set(matches, "units"),
     })
 }
 

@@ -1,10 +1,11 @@
 -- The line on grid steps.
-use Rattle.std.proofs.Common.{◌≡◌, ◌⊎◌, ℕ, List, [], ◌∷◌, ◌++◌, Option, Some, None, IsNone, IfSome, inl, inr}
+use Rattle.std.proofs.Common.{◌≡◌, ℕ, List, [], ◌∷◌, ◌++◌, Option, Some, None, IsNone, IfSome}
 use Rattle.std.proofs.Common.{refl, sym, ap, ◌∙◌, append_assoc}
 use Rattle.std.specs.Prelude.{codes}
 use Rattle.lvl.specs.declared.layout.Head.{Head}
-use Rattle.lvl_report.specs.Steps.{AreStepsApart, HasNoStep, IsReadStep, IsRounded, length_text, steps_text}
-use Rattle.lvl_report.specs.inside.Steps.{AreFar, IsRoundedTo}
+use Rattle.lvl.specs.Steps.{HasNoStep, IsReadStep}
+use Rattle.lvl_report.specs.Steps.{IsRounded, length_text, steps_text}
+use Rattle.lvl_report.specs.inside.Steps.{IsRoundedTo}
 use Rattle.lvl_units.specs.Steps.{Fraction}
 
 -- a text to which five parts were added
@@ -31,16 +32,3 @@ rounded_is head (Some f) (Some n) read none nearest = (f, read, nearest)
 rounded_is head None None read none nearest = none refl
 rounded_is head (Some f) None read none nearest = absurd nearest
 rounded_is head None (Some n) read none nearest = absurd nearest
-
-pub differ_in : (first second : Head) (ours theirs : Option Fraction) → IfSome ours (IsReadStep first)
-    → (IsNone ours → HasNoStep first) → IfSome theirs (IsReadStep second) → (IsNone theirs → HasNoStep second)
-    → AreFar ours theirs → HasNoStep first ⊎ (HasNoStep second ⊎ AreStepsApart first second)
-differ_in first second None theirs read none also nor far = inl (none refl)
-differ_in first second (Some f) None read none also nor far = inr (inl (nor refl))
-differ_in first second (Some f) (Some g) read none also nor far = inr (inr (record {
-  ours = f;
-  theirs = g;
-  first_is = read;
-  second_is = also;
-  apart = far;
-}))

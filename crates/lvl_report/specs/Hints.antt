@@ -28,11 +28,13 @@ use Rattle.lvl.specs.declared.layout.FileFault.TheVariants.{Gds, Oasis}
 use Rattle.lvl.specs.declared.verdict.Refusal.{Refusal}
 use Rattle.lvl.specs.declared.verdict.Refusal.TheVariants.{File, Cells}
 use Rattle.lvl.specs.declared.explained.Explained.{Explained}
+use Rattle.lvl.specs.declared.measured.Measured.{Measured}
+use Rattle.lvl.specs.declared.measured.Measured.TheVariants.{Compared, StepsDiffer}
 use Rattle.lvl.specs.declared.verdict.Comparison.{Comparison}
 use Rattle.lvl_report.specs.Writing.{verdict_status}
 use Rattle.lvl_report.specs.declared.status.Status.{Status}
 use Rattle.lvl_report.specs.declared.status.Status.TheVariants.{Shown as ShownStatus, Refused}
-use Rattle.lvl_report.specs.Steps.{AreStepsSaid}
+use Rattle.lvl_report.specs.Steps.{AreStepsSaid, IsDifferenceSaid}
 use Rattle.lvl_report.specs.Texts.{comparison_of}
 use Rattle.lvl_report.specs.declared.outcome.Outcome.{Outcome}
 use Rattle.lvl_report.specs.declared.hint.Hint.{Hint}
@@ -165,6 +167,13 @@ IsOutcomeOf given (Err refusal) = IsEnd Refused (hint_of_two given refusal) (λ 
 -- how a run ends that also gives the reason: as its comparison does
 abbrev pub IsExplainedOutcome : Profile → Result Explained Refusal → Outcome → Type 0
 IsExplainedOutcome given answer = IsOutcomeOf given (comparison_of answer)
+
+-- how a run ends in which the grid steps must agree: as its comparison does, or, if they differ, as a refusal does, with
+-- the line that says so
+abbrev pub IsMeasuredOutcome : Profile → Result Measured Refusal → Outcome → Type 0
+IsMeasuredOutcome given (Ok (Compared e)) = IsExplainedOutcome given (Ok e)
+IsMeasuredOutcome given (Ok (StepsDiffer first second)) = IsEnd Refused None (IsDifferenceSaid first second)
+IsMeasuredOutcome given (Err refusal) = IsOutcomeOf given (Err refusal)
 
 -- how a run on a single file ends
 abbrev pub shown_outcome : {X : Type 0} → Profile → Result X Refusal → Outcome

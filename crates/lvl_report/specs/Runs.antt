@@ -1,5 +1,5 @@
 -- What a run may write: the text of an answer, or a beginning of it if the output fails.
-use Rattle.std.specs.Prelude.{◌≡◌, ℕ, List, Option, Some, Result, Err, IfOk, IfErr}
+use Rattle.std.specs.Prelude.{◌≡◌, ℕ, Bool, List, Option, Some, Result, Err, IfOk, IfErr}
 use Rattle.std.specs.Io.KnownBytes.{Appends}
 use Rattle.lvl_profile.specs.declared.profile.Profile.{Profile}
 use Rattle.lvl_io.specs.Bytes.{CountsFailure}
@@ -7,12 +7,14 @@ use Rattle.lvl_region.specs.declared.region.Side.TheVariants.{First, Second}
 use Rattle.lvl.specs.Digested.{IsDigestedFile}
 use Rattle.lvl.specs.declared.digested.Digested.{Digested}
 use Rattle.lvl.specs.declared.shown.Shown.{Shown}
+use Rattle.lvl.specs.declared.measured.Measured.{Measured}
 use Rattle.lvl.specs.declared.verdict.Comparison.{Comparison}
 use Rattle.lvl.specs.declared.layout.FileFault.{FileFault}
 use Rattle.lvl.specs.declared.verdict.Refusal.{Refusal}
 use Rattle.lvl.specs.declared.verdict.Refusal.TheVariants.{File as FileRefusal}
 use Rattle.lvl.specs.Sides.{file_named}
 use Rattle.lvl.specs.Layouts.{File}
+use Rattle.lvl.specs.Measured.{IsAfterSteps, IsBySteps, IsMeasuredIn}
 use Rattle.lvl.specs.Reasons.{IsExplainedIn}
 use Rattle.lvl.specs.Views.{IsComparedIn}
 use Rattle.lvl.specs.declared.explained.Explained.{Explained}
@@ -72,6 +74,15 @@ IsViewedBy view = IsAnswerBy (IsComparedIn view)
 -- the answer is possible for their comparison under the view, with its reason
 abbrev pub IsExplainedBy : PlainView → Input → Input → Result Explained Refusal → Type 0
 IsExplainedBy view = IsAnswerBy (IsExplainedIn view)
+
+-- the answer is possible for their comparison under the view, with its reason if that is asked for, if their grid steps
+-- must agree
+pub record IsMeasuredBy (explained : Bool) (view : PlainView) (a b : Input) (answer : Result Measured Refusal)
+    : Type 0 where
+  pub possible : IsAnswerBy (IsMeasuredIn explained view) a b answer
+  pub steps : IfOk answer IsBySteps
+  pub after_steps : (xs ys : List ℕ) → a.bytes ≡ Some xs → b.bytes ≡ Some ys
+      → IfErr answer (IsAfterSteps (file_named a.profile xs a.top) (file_named b.profile ys b.top))
 
 -- the answer is possible for one file: what was found satisfies `Says`, and a refusal is true of the file
 pub record IsFoundBy {X : Type 0} (Says : File → X → Type 0) (a : Input) (answer : Result X Refusal) : Type 0 where

@@ -1,47 +1,15 @@
--- Whether the grid steps of two files differ, and the line that says so (own rule).
-use Rattle.std.specs.Prelude.{◌≡◌, ◌⊎◌, ℕ, zero, suc, ◌+◌, ◌/◌, ◌%◌, ◌^◌, ◌==◌, if◌then◌else◌, List, [], ◌∷◌, ◌++◌, codes}
-use Rattle.std.specs.Prelude.{decimal, Option, Some, None, slice_get}
-use Rattle.std.specs.Int.{w64, from_be_bytes}
+-- The line that says that the grid steps of two files differ (own rule).
+use Rattle.std.specs.Prelude.{◌≡◌, ℕ, zero, suc, ◌+◌, ◌/◌, ◌%◌, ◌^◌, ◌==◌, if◌then◌else◌, List, [], ◌∷◌, ◌++◌, codes}
+use Rattle.std.specs.Prelude.{decimal, Option, Some, None}
+use Rattle.lvl.specs.Steps.{AgreeInSteps, DifferInSteps, HasNoStep, IsReadStep}
 use Rattle.lvl.specs.declared.layout.Head.{Head}
-use Rattle.lvl.specs.declared.layout.Head.TheVariants.{Gds, Oasis}
 use Rattle.lvl_report.specs.Texts.{line}
-use Rattle.lvl_units.specs.Steps.{Fraction, IsGdsStep, IsOasisStep, IsReadable, IsNearest, AreApart}
-
--- the length of a step of a file with this head: by the second real of UNITS, or by the unit of START
-abbrev pub IsStepOf : Head → Fraction → Type 0
-IsStepOf (Gds head) f =
-    (real : List ℕ) × (slice_get head.units 1 ≡ Some real) × IsGdsStep (from_be_bytes w64 real) f
-IsStepOf (Oasis head) f = IsOasisStep head.unit f
-
--- that length, which is readable
-pub record IsReadStep (head : Head) (f : Fraction) : Type 0 where
-  pub is : IsStepOf head f
-  pub readable : IsReadable f
-
--- the file has no readable length of a step
-abbrev pub HasNoStep : Head → Type 0
-HasNoStep head = (f : Fraction) → ¬ IsReadStep head f
+use Rattle.lvl_units.specs.Steps.{Fraction, IsNearest}
 
 -- the length of a step, in the nearest number of millionths of a nanometre; None if it isn't readable
 abbrev pub IsRounded : Head → Option ℕ → Type 0
 IsRounded head None = HasNoStep head
 IsRounded head (Some n) = (f : Fraction) × IsReadStep head f × IsNearest f n
-
--- both lengths are readable, and they are near each other
-pub record AgreeInSteps (first second : Head) : Type 0 where
-  pub ours : Fraction
-  pub theirs : Fraction
-  pub first_is : IsReadStep first ours
-  pub second_is : IsReadStep second theirs
-  pub near : ¬ AreApart ours theirs
-
--- both lengths are readable, and they are apart
-pub record AreStepsApart (first second : Head) : Type 0 where
-  pub ours : Fraction
-  pub theirs : Fraction
-  pub first_is : IsReadStep first ours
-  pub second_is : IsReadStep second theirs
-  pub apart : AreApart ours theirs
 
 -- the digits after the point, without zeros at the end: r divided by 10^k, where r is less
 abbrev pub decimals : ℕ → ℕ → List ℕ
@@ -69,8 +37,13 @@ pub record IsStepsLine (first second : Head) (text : List ℕ) : Type 0 where
   pub theirs : Option ℕ
   pub first_is : IsRounded first ours
   pub second_is : IsRounded second theirs
-  pub differ : HasNoStep first ⊎ (HasNoStep second ⊎ AreStepsApart first second)
+  pub differ : DifferInSteps first second
   pub text_is : text ≡ steps_text ours theirs
+
+-- there is such a line
+abbrev pub IsDifferenceSaid : Head → Head → Option (List ℕ) → Type 0
+IsDifferenceSaid first second None = ⊥
+IsDifferenceSaid first second (Some text) = IsStepsLine first second text
 
 -- there is such a line, or the steps of both files agree
 abbrev pub AreStepsSaid : Head → Head → Option (List ℕ) → Type 0

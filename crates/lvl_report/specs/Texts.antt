@@ -13,6 +13,8 @@ use Rattle.lvl.specs.declared.layout.Head.{Head}
 use Rattle.lvl.specs.declared.layout.Head.TheVariants.{Gds, Oasis}
 use Rattle.lvl.specs.declared.layout.FileFault.{FileFault}
 use Rattle.lvl.specs.declared.layout.FileFault.TheVariants.{Gds as GdsFile, Oasis as OasisFile}
+use Rattle.lvl.specs.declared.measured.Measured.{Measured}
+use Rattle.lvl.specs.declared.measured.Measured.TheVariants.{Compared, StepsDiffer}
 use Rattle.lvl.specs.declared.verdict.Verdict.{Verdict}
 use Rattle.lvl.specs.declared.verdict.Verdict.TheVariants.{Same, Differ}
 use Rattle.lvl.specs.declared.verdict.Comparison.{Comparison}
@@ -134,6 +136,12 @@ why_of (Err refusal) = None
 -- the text of an explained comparison or a refusal: that of the comparison, and its reason
 abbrev pub text_of_explained : Result Explained Refusal → List ℕ
 text_of_explained answer = text_of (comparison_of answer) ++ reason_text (why_of answer)
+
+-- the text of an answer on files whose grid steps must agree: nothing is written if they differ
+abbrev pub text_of_measured : Result Measured Refusal → List ℕ
+text_of_measured (Ok (Compared e)) = text_of_explained (Ok e)
+text_of_measured (Ok (StepsDiffer first second)) = []
+text_of_measured (Err refusal) = text_of (Err refusal)
 
 -- the line of a Layer that is shown
 abbrev pub layer_line : LayerRings → List ℕ

@@ -9,8 +9,8 @@ use crate::status::Status;
 use lvl::{Comparison, Refusal, Verdict};
 use lvl_profile::Profile;
 
-/// Which answer was written; if it is a refusal, what would mend it; and if it is a verdict on files whose grid steps
-/// differ, the line that says so.
+/// Which answer was written; if it is a refusal, what would mend it; and if the grid steps of the two files differ, the
+/// line that says so, beside a verdict or in place of one.
 #[derive(Debug, Drop, PartialEq, Eq)]
 pub struct Outcome {
     pub status: Status,

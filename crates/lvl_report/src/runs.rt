@@ -3,18 +3,19 @@ ghost use Rattle.std.specs.Prelude.{◌≡◌, OnErr, IfOk, Err, option_copied};
 ghost use Rattle.std.specs.Io.KnownBytes.{Keeps};
 ghost use Rattle.lvl_io.specs.Bytes.{CountsFailure};
 ghost use Rattle.lvl_report.specs.Runs.{IsComparedBy, IsDigestedBy, IsExplainedBy, IsShownBy, IsViewedBy, IsWritten};
-ghost use Rattle.lvl_report.specs.Runs.{IsBegun, input};
+ghost use Rattle.lvl_report.specs.Runs.{IsBegun, IsMeasuredBy, input};
 ghost use Rattle.lvl.specs.Sides.{given_name};
 ghost use Rattle.lvl_profile.specs.Profiles.{strict};
-ghost use Rattle.lvl_report.specs.Texts.{text_of, text_of_digested, text_of_explained, text_of_shown};
-ghost use Rattle.lvl_report.specs.Hints.{IsExplainedOutcome, IsOutcomeOf, shown_outcome};
+ghost use Rattle.lvl_report.specs.Texts.{text_of, text_of_digested, text_of_explained, text_of_measured};
+ghost use Rattle.lvl_report.specs.Texts.{text_of_shown};
+ghost use Rattle.lvl_report.specs.Hints.{IsExplainedOutcome, IsMeasuredOutcome, IsOutcomeOf, shown_outcome};
 ghost use Rattle.lvl_report.specs.Writing.{ends_by, status_of, shown_status, is_output};
 
 use crate::outcome::Outcome;
 use crate::status::{RunFault, Status};
-use crate::tell::{tell, tell_both, tell_digest, tell_shown};
+use crate::tell::{tell, tell_both, tell_digest, tell_measured, tell_shown};
 use crate::why::parts_of;
-use lvl::{Tops, compare_files, digest_file, explain_files, show_file};
+use lvl::{Tops, compare_files, compare_measured, digest_file, explain_files, show_file};
 use lvl_io::{Read, Write};
 use lvl_profile::Profile;
 use lvl_view::View;
@@ -187,6 +188,41 @@ pub fn run_why<A: Read, B: Read, W: Write>(
 {
     let (answer, why) = parts_of(explain_files(alloc, first, second, tops, view, profile));
     tell_both(alloc, profile, &answer, &why, out)
+}
+
+/// Compares two files as [`run_view_by`] or, if the reason is asked for, as [`run_why`] does, and writes the answer as
+/// these do, but only if the grid steps of both files agree. If they don't, nothing is written, and the run ends with the
+/// status of a refusal and the line that says so.
+///
+/// It writes an answer that [`compare_measured`](lvl::compare_measured) may return for these files.
+pub fn run_measured<A: Read, B: Read, W: Write>(
+    alloc: Global,
+    first: &mut A,
+    second: &mut B,
+    tops: &Tops,
+    view: &View,
+    profile: Profile,
+    explained: bool,
+    out: &mut W,
+) -> Result<Outcome, RunFault>
+    ensures written { IfOk result (IsWritten
+        (IsMeasuredBy explained view.now (input profile (A.remaining first.old) (A.remaining first.new)
+        (A.read_errors first.old) (A.read_errors first.new) (given_name tops.now.first))
+        (input profile (B.remaining second.old) (B.remaining second.new)
+        (B.read_errors second.old) (B.read_errors second.new) (given_name tops.now.second)))
+        text_of_measured (IsMeasuredOutcome profile) (W.contents out.old) (W.contents out.new)) }
+    ensures begun { OnErr result (IsBegun
+        (IsMeasuredBy explained view.now (input profile (A.remaining first.old) (A.remaining first.new)
+        (A.read_errors first.old) (A.read_errors first.new) (given_name tops.now.first))
+        (input profile (B.remaining second.old) (B.remaining second.new)
+        (B.read_errors second.old) (B.read_errors second.new) (given_name tops.now.second)))
+        text_of_measured (W.contents out.old) (W.contents out.new)) }
+    ensures nothing { result ≡ Err RunFault.OutOfMemory → Keeps (W.contents out.old) (W.contents out.new) }
+    ensures errors { CountsFailure (W.write_errors out.old) (W.write_errors out.new) (is_output result) }
+    ensures same { W.lent out.new ≡ W.lent out.old }
+{
+    let answer = compare_measured(alloc, first, second, tops, view, profile, explained);
+    tell_measured(alloc, profile, answer, out)
 }
 
 /// Shows a file: writes what it says about itself, the name of its top, the number of its cells,

@@ -1,36 +1,14 @@
-//! Whether the grid steps of two files differ, and the line that says so.
-ghost use Rattle.std.specs.Prelude.{◌≡◌, ◌≤◌, ◌<◌, ◌++◌, ◌^◌, false, IsTrue, IsNone, IfOk, IfSome, OnOk, option_map};
-ghost use Rattle.lvl_report.specs.Steps.{AreStepsSaid, HasNoStep, IsReadStep, IsRounded, decimals, length_text};
-ghost use Rattle.lvl_report.specs.Steps.{fraction_text, steps_text};
-ghost use Rattle.lvl_report.specs.inside.Steps.{AreFar, AreNear, AreStepsOf, IsRoundedTo};
+//! The line that says that the grid steps of two files differ.
+ghost use Rattle.std.specs.Prelude.{◌≡◌, ◌≤◌, ◌<◌, ◌++◌, ◌^◌, IfOk, OnOk, option_map};
+ghost use Rattle.lvl.specs.Steps.{DifferInSteps};
+ghost use Rattle.lvl_report.specs.Steps.{AreStepsSaid, IsStepsLine, decimals, fraction_text, length_text, steps_text};
+ghost use Rattle.lvl_report.specs.inside.Steps.{AreStepsOf, IsRoundedTo};
 
-use lvl::{Comparison, Head, Refusal};
+use lvl::{Comparison, Head, Refusal, agree_in_steps};
 use lvl_units::GridStep;
 use std::alloc::Global;
 use std::io;
 use std::io::Write;
-
-/// The length of a step of the file with this head.
-fn step_of(head: &Head) -> Option<GridStep>
-    ensures value { IfSome result (IsReadStep head.now) }
-    ensures none { IsNone result → HasNoStep head.now }
-{
-    match head {
-        Head::Gds(head) => GridStep::of_gds(head.units[1]),
-        Head::Oasis(head) => GridStep::of_oasis(&head.unit),
-    }
-}
-
-/// Whether both lengths are readable and near each other.
-fn are_near(first: Option<GridStep>, second: Option<GridStep>) -> bool
-    ensures near { IsTrue result → AreNear first second }
-    ensures far { result ≡ false → AreFar first second }
-{
-    match (first, second) {
-        (Some(first), Some(second)) => !first.is_apart(second),
-        _ => false,
-    }
-}
 
 /// A length in millionths of a nanometre, rounded.
 fn rounded(step: Option<GridStep>) -> Option<u64>
@@ -91,16 +69,26 @@ fn line_of(alloc: Global, first: Option<u64>, second: Option<u64>) -> io::Result
     Ok(text)
 }
 
+/// The line on the grid steps of two files, which differ.
+pub(crate) fn difference_line(alloc: Global, first: &Head, second: &Head) -> io::Result<Vec<u8>>
+    requires { DifferInSteps first.now second.now }
+    ensures { IfOk result (λ line. IsStepsLine first.now second.now line.items) }
+{
+    line_of(
+        alloc,
+        rounded(first.grid_step()),
+        rounded(second.grid_step()),
+    )
+}
+
 /// The line on the grid steps of two files, if they differ.
 fn steps_line(alloc: Global, first: &Head, second: &Head) -> io::Result<Option<Vec<u8>>>
     ensures { IfOk result (λ line. AreStepsSaid first.now second.now (option_map (λ text. text.items) line)) }
 {
-    let ours = step_of(first);
-    let theirs = step_of(second);
-    if are_near(ours, theirs) {
+    if agree_in_steps(first, second) {
         return Ok(None);
     }
-    Ok(Some(line_of(alloc, rounded(ours), rounded(theirs))?))
+    Ok(Some(difference_line(alloc, first, second)?))
 }
 
 /// The line on the grid steps of the files that an answer is about, if it is a verdict and they differ.

@@ -1,19 +1,22 @@
 //! Writes the whole text of an answer, and returns how the run ends.
-ghost use Rattle.std.specs.Prelude.{◌≡◌, ◌++◌, OnOk, OnErr, IfOk, Err};
+ghost use Rattle.std.specs.Prelude.{◌≡◌, ◌++◌, OnOk, OnErr, IfOk, IfErr, Err, None};
 ghost use Rattle.std.specs.Io.KnownBytes.{Appends, Keeps};
 ghost use Rattle.lvl_io.specs.Bytes.{CountsFailure};
-ghost use Rattle.lvl_report.specs.Texts.{reason_text, text_of, text_of_digested, text_of_shown};
-ghost use Rattle.lvl_report.specs.Hints.{IsOutcomeOf, shown_outcome};
+ghost use Rattle.lvl.specs.Measured.{IsBySteps};
+ghost use Rattle.lvl.specs.Steps.{DifferInSteps};
+ghost use Rattle.lvl_report.specs.Texts.{reason_text, text_of, text_of_digested, text_of_measured, text_of_shown};
+ghost use Rattle.lvl_report.specs.Hints.{IsEnd, IsMeasuredOutcome, IsOutcomeOf, shown_outcome};
+ghost use Rattle.lvl_report.specs.Steps.{IsDifferenceSaid};
 ghost use Rattle.lvl_report.specs.Writing.{AppendsBeginning, is_output};
 
 use crate::digest::form_digest;
 use crate::outcome::{Outcome, outcome_of, shown_outcome};
 use crate::output::put;
-use crate::status::RunFault;
-use crate::steps::steps_of;
+use crate::status::{RunFault, Status};
+use crate::steps::{difference_line, steps_of};
 use crate::text::{form, form_shown};
-use crate::why::form_both;
-use lvl::{Comparison, Digested, Refusal, Shown, Why};
+use crate::why::{form_both, parts_of};
+use lvl::{Comparison, Digested, Head, Measured, Refusal, Shown, Why};
 use lvl_io::Write;
 use lvl_profile::Profile;
 use std::alloc::Global;
@@ -68,6 +71,49 @@ pub(crate) fn tell_both<W: Write>(
     };
     put(out, &text)?;
     Ok(outcome_of(profile, answer, steps))
+}
+
+/// How a run on two files ends that weren't compared, since their grid steps differ.
+fn outcome_of_steps(alloc: Global, first: &Head, second: &Head) -> Result<Outcome, RunFault>
+    requires { DifferInSteps first.now second.now }
+    ensures outcome { IfOk result (IsEnd Status.Refused None (IsDifferenceSaid first.now second.now)) }
+    ensures memory { IfErr result (λ fault. fault ≡ RunFault.OutOfMemory) }
+{
+    match difference_line(alloc, first, second) {
+        Ok(line) => Ok(Outcome {
+            status: Status::Refused,
+            hint: None,
+            steps: Some(line),
+        }),
+        Err(_) => Err(RunFault::OutOfMemory),
+    }
+}
+
+/// Writes the text of an answer about two files whose grid steps must agree, and returns how the run ends. If they
+/// differ, nothing is written.
+pub(crate) fn tell_measured<W: Write>(
+    alloc: Global,
+    profile: Profile,
+    answer: Result<Measured, Refusal>,
+    out: &mut W,
+) -> Result<Outcome, RunFault>
+    requires { IfOk answer IsBySteps }
+    ensures whole { OnOk result (Appends (W.contents out.old) (W.contents out.new) (text_of_measured answer)) }
+    ensures outcome { IfOk result (IsMeasuredOutcome profile answer) }
+    ensures begun { OnErr result
+        (AppendsBeginning (W.contents out.old) (W.contents out.new) (text_of_measured answer)) }
+    ensures nothing { result ≡ Err RunFault.OutOfMemory → Keeps (W.contents out.old) (W.contents out.new) }
+    ensures errors { CountsFailure (W.write_errors out.old) (W.write_errors out.new) (is_output result) }
+    ensures same { W.lent out.new ≡ W.lent out.old }
+{
+    match answer {
+        Ok(Measured::Compared(explained)) => {
+            let (answer, why) = parts_of(Ok(explained));
+            tell_both(alloc, profile, &answer, &why, out)
+        }
+        Ok(Measured::StepsDiffer { first, second }) => outcome_of_steps(alloc, &first, &second),
+        Err(refusal) => tell(alloc, profile, &Err(refusal), out),
+    }
 }
 
 /// Writes the text of what is shown, and returns how the run ends. `ignore` is what was ignored.

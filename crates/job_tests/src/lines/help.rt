@@ -36,6 +36,7 @@ Options:
       --ignore <WORDS>   Records to read and ignore: properties, texts, names, padding or all, joined by commas
       --large            Takes the limits for whole chips
       --why              Of a difference, says which references lead to which shape
+      --units            Doesn't compare layouts whose grid steps differ
   -h, --help             Print help
 ";
 

@@ -40,24 +40,24 @@ fault_of_run RunOutput = Output
 fault_of_run RunOutOfMemory = OutOfMemory
 
 -- the answer to a comparison under a view was written
-abbrev pub IsPairAnswered : {S : Type 0} → (S → List ℕ → Option (Option (List ℕ)) → S → Type 0) → Bool
+abbrev pub IsPairAnswered : {S : Type 0} → (S → List ℕ → Option (Option (List ℕ)) → S → Type 0) → Bool → Bool
     → Option PlainView → Named → Named → S → S → Option (List ℕ) → Option (List ℕ) → Outcome → Type 0
-IsPairAnswered opens why view a b old new from to outcome =
-    OfTwo opens old new a b (λ x y. IsPairWritten why view a.profile x y from to outcome)
+IsPairAnswered opens units why view a b old new from to outcome =
+    OfTwo opens old new a b (λ x y. IsPairWritten units why view a.profile x y from to outcome)
 
 -- why a comparison under a view has no answer
-abbrev pub IsPairFault : {S : Type 0} → (S → List ℕ → Option (Option (List ℕ)) → S → Type 0) → Bool
+abbrev pub IsPairFault : {S : Type 0} → (S → List ℕ → Option (Option (List ℕ)) → S → Type 0) → Bool → Bool
     → Option PlainView → Named → Named → S → S → Option (List ℕ) → Option (List ℕ) → JobFault → Type 0
-IsPairFault opens why view a b old new from to (BadView fault) = ⊥
-IsPairFault opens why view a b old new from to (BadIgnore fault) = ⊥
-IsPairFault opens why view a b old new from to (NotOpened name) =
+IsPairFault opens units why view a b old new from to (BadView fault) = ⊥
+IsPairFault opens units why view a b old new from to (BadIgnore fault) = ⊥
+IsPairFault opens units why view a b old new from to (NotOpened name) =
     IsMissing opens old new a.name b.name (string_bytes name) × Keeps from to
-IsPairFault opens why view a b old new from to (UnreadList name) = ⊥
-IsPairFault opens why view a b old new from to (LongList name) = ⊥
-IsPairFault opens why view a b old new from to (BadLine name n) = ⊥
-IsPairFault opens why view a b old new from to OutOfMemory = Keeps from to
-IsPairFault opens why view a b old new from to Output =
-    OfTwo opens old new a b (λ x y. IsPairBegun why view x y from to)
+IsPairFault opens units why view a b old new from to (UnreadList name) = ⊥
+IsPairFault opens units why view a b old new from to (LongList name) = ⊥
+IsPairFault opens units why view a b old new from to (BadLine name n) = ⊥
+IsPairFault opens units why view a b old new from to OutOfMemory = Keeps from to
+IsPairFault opens units why view a b old new from to Output =
+    OfTwo opens old new a b (λ x y. IsPairBegun units why view x y from to)
 
 -- the answer of a run on one file was written
 abbrev pub IsOneAnswered : {S X : Type 0} → (S → List ℕ → Option (Option (List ℕ)) → S → Type 0)

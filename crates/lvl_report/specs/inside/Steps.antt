@@ -3,17 +3,7 @@ use Rattle.std.specs.Prelude.{◌≡◌, ⊤, ℕ, List, Option, Some, None, Res
 use Rattle.lvl.specs.declared.verdict.Comparison.{Comparison}
 use Rattle.lvl.specs.declared.verdict.Refusal.{Refusal}
 use Rattle.lvl_report.specs.Steps.{AreStepsSaid}
-use Rattle.lvl_units.specs.Steps.{Fraction, IsNearest, AreApart}
-
--- both lengths are there and near each other
-abbrev pub AreNear : Option Fraction → Option Fraction → Type 0
-AreNear (Some f) (Some g) = ¬ AreApart f g
-AreNear _ _ = ⊥
-
--- one length isn't there, or they are apart
-abbrev pub AreFar : Option Fraction → Option Fraction → Type 0
-AreFar (Some f) (Some g) = AreApart f g
-AreFar _ _ = ⊤
+use Rattle.lvl_units.specs.Steps.{Fraction, IsNearest}
 
 -- the number is nearest to the length, or neither is there
 abbrev pub IsRoundedTo : Option Fraction → Option ℕ → Type 0

@@ -7,6 +7,7 @@ returns-in-Ok g c =
       found = c.digest_file.ensures.digested;
       refused = c.digest_file.ensures.refused;
       early = c.digest_file.ensures.early;
+      unread = c.digest_file.ensures.unread;
       side = c.digest_file.ensures.side;
       reads = c.digest_file.ensures.reads;
     })
