@@ -55,6 +55,10 @@ digest_app = with_rule (with_rule (with_rule (with_rule (with_rule (with_rule (w
     (option_rule (codes "top"))) (option_rule (codes "ignore"))) (flag_rule (codes "large")))
     (flag_rule (codes "list"))) (flag_rule (codes "check"))) (flag_rule (codes "quiet"))
 
+-- a subcommand with `[--progress] [--no-progress]` too, which no job depends on
+abbrev pub watched_app : App → App
+watched_app app = with_rule (with_rule app (flag_rule (codes "progress"))) (flag_rule (codes "no-progress"))
+
 -- the line without subcommands
 abbrev pub plain_line : App
 plain_line = new_app (codes "lvl")
@@ -63,7 +67,7 @@ plain_line = new_app (codes "lvl")
 abbrev pub line : App
 line = with_subcommand (with_subcommand (with_subcommand (record plain_line {
   top = record plain_line.top { has_version = true; subcommand_required = true };
-}) compare_app.top) show_app.top) digest_app.top
+}) (watched_app compare_app).top) (watched_app show_app).top) (watched_app digest_app).top
 
 -- whether the option with no value is given: `clap` then gives it the text `true`
 abbrev pub is_set : Text → List Row → Bool

@@ -2,7 +2,7 @@
 ghost use Rattle.std.specs.Prelude.{◌≡◌, IfOk, false};
 ghost use Rattle.clap.specs.Words.{app_of, rule_of};
 ghost use Rattle.lvl_line.specs.Line.{compare_app, digest_app, file_rule, files_rule, flag_rule, line};
-ghost use Rattle.lvl_line.specs.Line.{option_rule, show_app};
+ghost use Rattle.lvl_line.specs.Line.{option_rule, show_app, watched_app};
 ghost use Rattle.lvl_line.specs.inside.Begun.{comparing_line, several_app, tops_app};
 
 use clap::{Arg, ArgAction, Command};
@@ -43,6 +43,12 @@ const UNITS_HELP: &str = "Doesn't compare layouts whose grid steps differ";
 
 /// The help of `--large`.
 const LARGE_HELP: &str = "Takes the limits for whole chips";
+
+/// The help of `--progress`.
+const PROGRESS_HELP: &str = "Shows on standard error how far it is, also if that isn't a terminal";
+
+/// The help of `--no-progress`.
+const NO_PROGRESS_HELP: &str = "Doesn't show how far it is";
 
 /// A file, which must be given.
 fn file<'a>(alloc: Global, id: &'a str, help: &'a str) -> Arg<'a>
@@ -141,6 +147,15 @@ fn digest<'a>(alloc: Global) -> Result<Command<'a>, AllocError>
         .arg(flag(alloc, "quiet", QUIET_HELP))
 }
 
+/// A subcommand with `[--progress] [--no-progress]` too. No job depends on them.
+fn watched<'a>(alloc: Global, command: Command<'a>) -> Result<Command<'a>, AllocError>
+    ensures { IfOk result (λ c. app_of c ≡ watched_app (app_of command.entry)) }
+{
+    command
+        .arg(flag(alloc, "progress", PROGRESS_HELP))?
+        .arg(flag(alloc, "no-progress", NO_PROGRESS_HELP))
+}
+
 /// A line with the subcommand `compare` only.
 fn comparing<'a>(alloc: Global) -> Result<Command<'a>, AllocError>
     ensures { IfOk result (λ c. app_of c ≡ comparing_line) }
@@ -149,7 +164,7 @@ fn comparing<'a>(alloc: Global) -> Result<Command<'a>, AllocError>
         .version("2.0.0")
         .about("Compares two chip mask layouts by the mask that they draw")
         .subcommand_required(true)
-        .subcommand(compare(alloc)?)
+        .subcommand(watched(alloc, compare(alloc)?)?)
 }
 
 /// The whole line: one of the subcommands `compare`, `show` and `digest`.
@@ -157,6 +172,6 @@ pub(crate) fn program<'a>(alloc: Global) -> Result<Command<'a>, AllocError>
     ensures { IfOk result (λ c. app_of c ≡ line) }
 {
     comparing(alloc)?
-        .subcommand(show(alloc)?)?
-        .subcommand(digest(alloc)?)
+        .subcommand(watched(alloc, show(alloc)?)?)?
+        .subcommand(watched(alloc, digest(alloc)?)?)
 }

@@ -1,7 +1,7 @@
 -- Parts of the command line while it is described to `clap`.
 use Rattle.std.specs.Prelude.{codes, true}
 use Rattle.clap.specs.Simple.{App, new_app, with_rule, with_subcommand}
-use Rattle.lvl_line.specs.Line.{compare_app, file_rule, files_rule, flag_rule, option_rule, plain_line}
+use Rattle.lvl_line.specs.Line.{compare_app, file_rule, files_rule, flag_rule, option_rule, plain_line, watched_app}
 
 -- `compare` with its files and the options that name their tops
 abbrev pub tops_app : App
@@ -18,4 +18,4 @@ several_app = with_rule (with_rule (with_rule (with_rule (new_app (codes "digest
 abbrev pub comparing_line : App
 comparing_line = with_subcommand (record plain_line {
   top = record plain_line.top { has_version = true; subcommand_required = true };
-}) compare_app.top
+}) (watched_app compare_app).top

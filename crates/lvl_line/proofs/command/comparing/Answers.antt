@@ -4,7 +4,7 @@ use Rattle.clap.specs.Words.{App, app_of, with_subcommand}
 use Rattle.clap.specs.Simple.{app_of_fields}
 use Rattle.clap.proofs.SimpleLemmas.{is_false}
 use Rattle.clap.proofs.WalkLemmas.{both}
-use Rattle.lvl_line.specs.Line.{plain_line}
+use Rattle.lvl_line.specs.Line.{compare_app, plain_line, watched_app}
 use Rattle.lvl_line.proofs.command.comparing.Goals as goal
 
 must : App → App
@@ -31,6 +31,8 @@ returns c =
     ap app_of_fields c.subcommand_required.ensures
     ∙ ap must
     (ap app_of_fields c.about.ensures ∙ ap app_of_fields c.version.ensures ∙ ap versioned c.new.ensures.app) in
+    let compared : app_of c.in_ok-watched.field-0 ≡ watched_app compare_app =
+    c.in_ok-watched.ensures ∙ ap watched_app c.in_ok-compare.ensures in
     IfOk-weaker c.subcommand.result _ _
-    (λ r h. h.shape (third_is_false _ _ _ _ (ap plain c.in_ok-compare.ensures))
-    ∙ ap₂ with_subcommand line_new (ap (λ (a : App). a.top) c.in_ok-compare.ensures)) c.subcommand.ensures
+    (λ r h. h.shape (third_is_false _ _ _ _ (ap plain compared))
+    ∙ ap₂ with_subcommand line_new (ap (λ (a : App). a.top) compared)) c.subcommand.ensures
