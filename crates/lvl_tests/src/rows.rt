@@ -13,7 +13,6 @@ mod growths;
 mod ignored;
 mod large;
 mod limits;
-mod measured;
 mod reads;
 mod refusals;
 mod refused;
