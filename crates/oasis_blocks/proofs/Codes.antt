@@ -1,5 +1,5 @@
 -- The laws of the spelling of a block.
-use Rattle.std.proofs.Common.{◌==◌, ℕ, Bool, true, false, Ok, Err}
+use Rattle.std.proofs.Common.{◌==◌, ℕ, Bool, true, false, Ok}
 use Rattle.oasis_values.proofs.Codes.{IsCode, gives_code, seen_code, then_code}
 use Rattle.oasis_values.proofs.Integers.{unsigned_code}
 use Rattle.oasis_values.proofs.Values.{string_code}

@@ -17,3 +17,7 @@ Breaches room p CompressionType = ⊥
 Breaches room p TooLong = room < p.count
 Breaches room p Deflate = (p.count ≤ room) × (inflated p.bytes ≡ None)
 Breaches room p BlockLength = (p.count ≤ room) × ((ys : List ℕ) → inflated p.bytes ≡ Some ys → length ys ≢ p.count)
+
+-- the block has no bytes, or more than are left within the limit
+abbrev pub UnpacksNone : ℕ → Packed → Type 0
+UnpacksNone room p = (ys : List ℕ) → Unpacks p ys → room < length ys

@@ -3,7 +3,7 @@ ghost use Rattle.std.specs.Prelude.{◌≡◌, ◌≢◌, ◌≤◌, ℕ, List, 
 ghost use Rattle.lvl_inflate.specs.Inflates.{left_of};
 ghost use Rattle.lvl_inflate.specs.Streams.{inflated};
 ghost use Rattle.lvl_refusal.specs.Refused.{Says};
-ghost use Rattle.oasis_blocks.specs.Unpacking.{Unpacks, Breaches};
+ghost use Rattle.oasis_blocks.specs.Unpacking.{Unpacks, UnpacksNone, Breaches};
 ghost use Rattle.oasis_blocks.specs.inside.Counting.{HasCounted, Miscounts};
 
 use crate::block::Block;
@@ -73,6 +73,7 @@ impl Block {
         ensures unpacks { IfOk result (λ u. Unpacks self.now u) }
         ensures within { IfOk result (λ u. length u ≤ room) }
         ensures refused { IfErr result (λ e. Says e (Breaches room self.now)) }
+        ensures none { IfErr result (λ e. Says e (λ _. UnpacksNone room self.now)) }
     {
         if self.count > room {
             return Err(Cause::Breach(BlockRule::TooLong));
