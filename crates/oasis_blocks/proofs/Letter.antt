@@ -30,7 +30,10 @@ rightly_counted = record { spelled = spells_a; counted = refl }
 wrongly_counted : Breaches 5 (packed 2 letter) BlockLength
 wrongly_counted = (
   omega arith,
-  λ ys e two. let one : ys ≡ 97 ∷ [] = (let s : Some ys ≡ Some (97 ∷ []) = sym e ∙ spells_a in cc) in omega (arith, ap length one, two),
+  λ ys e two.
+      let same : Some ys ≡ Some (97 ∷ []) = sym e ∙ spells_a in
+      let one : ys ≡ 97 ∷ [] = cc in
+      omega (arith, ap length one, two),
 )
 
 -- one byte, of packed bytes that are cut off

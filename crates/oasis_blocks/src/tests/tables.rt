@@ -154,3 +154,8 @@ Value(Truncated);
 00 01 81 80 80 80 04 4b 4c 4a 4e 44 42 00 |
 Value(StringByte)
 ";
+
+/// A block of 200,000 bytes, all 0, in 211 packed bytes.
+pub(crate) const BOMB: &str = "\
+00 c0 9a 0c d3 01 ed c1 31 01 00 00 00 c2 a0 f5 4f 6d 06 7f a0 00*193 80 d7 00
+";
