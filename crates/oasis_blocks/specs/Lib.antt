@@ -1,0 +1,5 @@
+pub mod Packed
+pub mod Blocks
+pub mod Reported
+pub mod Unpacking
+pub mod inside

@@ -1,0 +1,10 @@
+-- What a block consists of.
+use Rattle.std.specs.Prelude.{ℕ, List}
+
+-- how many bytes it has, as it says, and the packed bytes
+pub record Packed : Type 0 where
+  pub count : ℕ
+  pub bytes : List ℕ
+
+abbrev pub packed : ℕ → List ℕ → Packed
+packed count bytes = record { count = count; bytes = bytes }
