@@ -18,10 +18,10 @@ _lvl() {
     --ignore) _lvl_words "$word"; return ;;
     esac
     case ${COMP_WORDS[1]}:$word in
-    compare:-*) COMPREPLY=($(compgen -W "--top-a --top-b --map --window --ignore --large --why --units --help" -- "$word")) ;;
-    show:-*) COMPREPLY=($(compgen -W "--top --ignore --large --help" -- "$word")) ;;
+    compare:-*) COMPREPLY=($(compgen -W "--top-a --top-b --map --window --ignore --large --why --units --progress --no-progress --help" -- "$word")) ;;
+    show:-*) COMPREPLY=($(compgen -W "--top --ignore --large --progress --no-progress --help" -- "$word")) ;;
     digest:-*)
-        COMPREPLY=($(compgen -W "--top --ignore --large --list --check --quiet --help" -- "$word")) ;;
+        COMPREPLY=($(compgen -W "--top --ignore --large --list --check --quiet --progress --no-progress --help" -- "$word")) ;;
     *) COMPREPLY=($(compgen -f -- "$word")) ;;
     esac
 }

@@ -12,5 +12,7 @@ complete -c lvl -n "__fish_seen_subcommand_from digest" -l list -d "A line for e
 complete -c lvl -n "__fish_seen_subcommand_from digest" -l check -d "Checks a list"
 complete -c lvl -n "__fish_seen_subcommand_from digest" -l quiet -d "Only those that aren't the same"
 complete -c lvl -n "__fish_seen_subcommand_from compare show digest" -l large -d "The limits for whole chips"
+complete -c lvl -n "__fish_seen_subcommand_from compare show digest" -l progress -d "Shows how far it is"
+complete -c lvl -n "__fish_seen_subcommand_from compare show digest" -l no-progress -d "Doesn't show how far it is"
 complete -c lvl -n "__fish_seen_subcommand_from compare show digest" -l ignore -x -d "Records that are ignored" \
     -a "(__fish_append , properties texts names padding all)"

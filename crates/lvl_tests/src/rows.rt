@@ -13,6 +13,7 @@ mod growths;
 mod ignored;
 mod large;
 mod limits;
+mod measured;
 mod reads;
 mod refusals;
 mod refused;

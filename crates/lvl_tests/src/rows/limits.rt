@@ -96,3 +96,37 @@ fn limits_that_are_lifted(rt: HostRuntime) -> Result<(), Fail> {
     }
     Ok(())
 }
+
+/// How many bytes may be read of a square in OASIS, which has 303, and at which record it is refused
+/// then: within its CELL, before and within its RECTANGLE, before and within its END.
+const ROOM: [(u64, u64); 7] = [
+    (35, 34),
+    (38, 34),
+    (39, 39),
+    (43, 39),
+    (47, 47),
+    (100, 47),
+    (302, 47),
+];
+
+/// Whether the file is refused as too long at this offset if only some of its bytes may be read.
+fn is_too_long(alloc: Global, bytes: &[u8], room: u64, offset: u64) -> Result<bool, AllocError> {
+    let limits = Limits {
+        file: room,
+        ..Limits::STANDARD
+    };
+    let line = format!(in alloc; "refused: first: oasis 11 TooLong at {offset}")?;
+    is_refused(alloc, bytes, limits, line.as_str(), Some(Hint::LiftLimits))
+}
+
+#[test]
+fn an_oasis_file_past_the_limit(rt: HostRuntime) -> Result<(), Fail> {
+    let alloc = rt.alloc();
+    let square = file(alloc, "square.oas")?;
+    for (room, offset) in ROOM {
+        assert!(rt; is_too_long(alloc, &square, room, offset)?, "{room}");
+    }
+    let longer = file(alloc, "square.oas 00")?;
+    assert!(rt; is_too_long(alloc, &longer, 303, 303)?);
+    Ok(())
+}
