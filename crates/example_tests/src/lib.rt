@@ -11,4 +11,6 @@ mod geometry;
 mod oasis;
 #[cfg(test)]
 mod program;
+#[cfg(test)]
+mod progress;
 mod texts;

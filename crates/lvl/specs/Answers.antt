@@ -47,7 +47,8 @@ abbrev pub ReportsUnreadFile : Profile → List ℕ → Option (List ℕ) → Fi
 ReportsUnreadFile profile bytes left (Gds f) = ReportsUnreadGds profile bytes left f
 ReportsUnreadFile profile bytes left (Oasis f) = ReportsUnreadOasis profile bytes left f
 
--- the same, though the first byte of the file, which says its format, may not be counted as given
+-- if the fault is a failed read, its offset is right, though the first byte of the file, which says its format, may not be
+-- counted as given
 pub record IsUnreadAt (profile : Profile) (bytes : List ℕ) (left : Option (List ℕ)) (fault : FileFault) : Type 0 where
   pub first : List ℕ
   pub few : length first ≤ 1
