@@ -37,6 +37,8 @@ Options:
       --large            Takes the limits for whole chips
       --why              Of a difference, says which references lead to which shape
       --units            Doesn't compare layouts whose grid steps differ
+      --progress         Shows on standard error how far it is, also if that isn't a terminal
+      --no-progress      Doesn't show how far it is
   -h, --help             Print help
 ";
 
@@ -52,6 +54,8 @@ Options:
       --top <NAME>      The layout's top cell
       --ignore <WORDS>  Records to read and ignore: properties, texts, names, padding or all, joined by commas
       --large           Takes the limits for whole chips
+      --progress        Shows on standard error how far it is, also if that isn't a terminal
+      --no-progress     Doesn't show how far it is
   -h, --help            Print help
 ";
 
@@ -70,6 +74,8 @@ Options:
       --list            Prints a line for each file: the digest of its mask, and its name
       --check           Reads such a list, and hashes the files that it names again
       --quiet           With --check, prints only the files that aren't the same
+      --progress        Shows on standard error how far it is, also if that isn't a terminal
+      --no-progress     Doesn't show how far it is
   -h, --help            Print help
 ";
 
