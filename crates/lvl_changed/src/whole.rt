@@ -27,8 +27,13 @@ const FOR_EACH: u64 = 4;
 /// show nothing, they take an eighth of what a comparison of flat layouts takes.
 const PART_OF_PLACED: u64 = 8;
 
-/// The greatest number of points of a side in a part that is compared.
-const POINTS: usize = 600_000;
+/// The greatest part of what both tops place that is added: a flat comparison may end at once, at a
+/// difference, however much is placed.
+const MOST_OF_PLACED: u64 = 67_108_864;
+
+/// The greatest number of points of a side in a part that is compared. It is small, so that cells that
+/// differ everywhere cost little.
+const POINTS: usize = 65_536;
 
 /// What comparisons of whole cells may still cost. Each costs the rings that both cells place, and
 /// once the cells and references of both libraries, since the places of these cells are counted.
@@ -48,7 +53,7 @@ impl Budget {
         let placed = placed_rings(first).saturating_add(placed_rings(second));
         let left = MOST_OF_ALL
             .saturating_add(all.saturating_mul(FOR_EACH))
-            .saturating_add(placed / PART_OF_PLACED);
+            .saturating_add((placed / PART_OF_PLACED).min(MOST_OF_PLACED));
         Budget { left, each }
     }
 
