@@ -224,6 +224,11 @@ def lattice(m, n, x, y):
     return b"\1" + unsigned(m - 2) + unsigned(n - 2) + unsigned(x) + unsigned(y)
 
 
+def leaning(m, n, a, b):
+    """A repetition of m columns and n rows, whose steps are points."""
+    return b"\x08" + unsigned(m - 2) + unsigned(n - 2) + g_delta(*a) + g_delta(*b)
+
+
 def row(n, step):
     """A repetition of n places along x, a step apart."""
     return b"\2" + unsigned(n - 2) + unsigned(step)

@@ -20,6 +20,7 @@ OASIS:
     turned     the bit is drawn turned, and the arrays turn it back
     moved      the bit is drawn at another place, and the arrays move it back
     cut        the bit is cut into two cells, and each is placed by an array
+    backward   the arrays begin at their last place, and their steps go back
     more       the bit has a square more
     scattered  ten squares more in the top
     one        one square more in the top
@@ -182,6 +183,14 @@ def cut(cells):
     return [cell for cell in split if cell.name != "BIT"] + parts
 
 
+def backward(cells):
+    def back(array):
+        last = ((array.columns - 1) * array.a[0], (array.rows - 1) * array.b[1])
+        return [array._replace(at=last, a=(-array.a[0], 0), b=(0, -array.b[1]))]
+
+    return with_array(cells, back)
+
+
 def with_boxes(cells, name, boxes):
     return changed(cells, name, lambda cell: cell._replace(boxes=cell.boxes + boxes))
 
@@ -207,6 +216,7 @@ WORDS = {
     "turned": turned,
     "moved": moved,
     "cut": cut,
+    "backward": backward,
     "more": lambda cells: with_boxes(cells, "BIT", [(55, 20, 56, 21, 6)]),
     "scattered": scattered,
     "one": lambda cells: with_boxes(cells, "TOP", [(13, 13, 14, 14, 11)]),
@@ -228,6 +238,8 @@ def as_gds(cells):
 
 
 def repetition(r):
+    if r.columns > 1 and r.rows > 1 and min(r.a[0], r.b[1]) < 0:
+        return assembler.leaning(r.columns, r.rows, r.a, r.b)
     if r.columns > 1 and r.rows > 1:
         return assembler.lattice(r.columns, r.rows, r.a[0], r.b[1])
     if r.columns > 1:

@@ -18,8 +18,8 @@ const METAL: Layer = Layer {
     datatype: 0,
 };
 
-/// What a row is, both libraries, a map of layers, where they may differ under it, and the first square that
-/// does.
+/// What a row is, both libraries, a map of layers and perhaps a window, where they may differ under these, and
+/// the first square that does.
 const MAPPED: &str = "\
 each layer moved | T A,0,8,0; A 0..2@2 | T A,0,8,0; A 0..2 | 1/0=2/0 | | -
 and one not moved | T A,0,8,0 3..4; A 0..2@2 | T A,0,8,0 3..4; A 0..2 | 1/0=2/0 | 3,0,4,1 @1 @2 | 1 3 0 first
@@ -33,6 +33,8 @@ a cell removed that draws below, mapped | T A,0,8,0; A 0..2@2 | \
     5 100 0 second
 a via drawn where it was placed, mapped | T A,0,4,0; A 0..2@2 V,3,1,0; V 0..1@8 | \
     T A,0,4,0; A 0..2 3..4@4 | 1/0=2/0,4/0=8/0 | | -
+and seen in a window | T A,0,4,0; A 0..2@2 V,3,1,0; V 0..1@8 | \
+    T A,0,4,0; A 0..2 3..4@4 | 1/0=2/0,4/0=8/0 in x=2..90,y=0..9 | | -
 two layers exchanged | T A,0,8,0; A 0..2@2 4..5 | T A,0,8,0; A 0..2 4..5@2 | 1/0=2/0,2/0=1/0 | | -
 ";
 
@@ -69,13 +71,17 @@ fn is_right(
     Ok(is_plain && found_text(alloc, found)?.as_str() == want)
 }
 
-/// The same, of the libraries and the map of a row.
+/// The same, of the libraries and the view of a row.
 fn is_row_right(alloc: Global, row: &str) -> Result<bool, Fail> {
     let (ours, row) = cut(row, " | ");
     let (theirs, row) = cut(row, " | ");
     let (map, row) = cut(row, " |");
     let (windows, want) = cut(row, " | ");
-    let view = View::read(alloc, Some(map), None)?;
+    let (map, window) = match map.split_once(" in ") {
+        Some((map, window)) => (map, Some(window)),
+        None => (map, None),
+    };
+    let view = View::read(alloc, Some(map), window)?;
     let pair = fitted_pair(alloc, ours, theirs)?;
     is_right(alloc, &pair, &view, windows, want)
 }

@@ -9,7 +9,7 @@ use Rattle.lvl_grid.specs.declared.map.Turn.TheVariants.{R0, R90, R180, R270}
 use Rattle.lvl_grid.specs.Turn.{turned, reflected, shifted, image}
 use Rattle.lvl_grid.proofs.Composing.{same_point, turned_shifted, reflected_shifted, shifted_twice}
 use Rattle.lvl_names.specs.Shifts.{steps, lattice, one_place}
-use Rattle.lvl_changed.specs.inside.Shifts.{AreSame, AreSums, turned_by}
+use Rattle.lvl_changed.specs.inside.Shifts.{AreSums, turned_by}
 use Rattle.lvl_changed.proofs.Grid.{lattice_has, swapped, turned_steps, reflected_steps, zero_times}
 
 map_moved : (m : Map) (e p : Point)
@@ -156,14 +156,3 @@ sums_swapped m outer inner a p c q some more s = record {
   only = λ e h.
       s.only e ((lattice_has a p c q e some).1 (swapped c q a p e ((lattice_has c q a p e more).0 h)));
 }
-
-pub lattice_swapped : (shifts : List Point) (a : Point) (p : ℕ) (c : Point) (q : ℕ) → 0 < p → 0 < q
-    → shifts ≡ lattice a p c q → AreSame shifts (lattice c q a p)
-lattice_swapped shifts a p c q some more is e = (
-  λ h.
-      (lattice_has c q a p e more).1
-      (swapped a p c q e ((lattice_has a p c q e some).0 (subst (λ (es : List Point). Contains es e) is h))),
-  λ h.
-      subst (λ (es : List Point). Contains es e) (sym is)
-      ((lattice_has a p c q e some).1 (swapped c q a p e ((lattice_has c q a p e more).0 h))),
-)

@@ -3,9 +3,9 @@ ghost use Rattle.std.specs.Prelude.{◌≡◌, ◌<◌, ◌↔◌, length, Conta
 ghost use Rattle.lvl_cells.specs.Checks.{HasReference};
 ghost use Rattle.lvl_flat.specs.Placing.{IsPlacing};
 ghost use Rattle.lvl_changed.specs.declared.arrays.Array.{Array as PlainArray};
-ghost use Rattle.lvl_changed.specs.inside.Arrays.{as_reference, CoversSame, IsArrayOf, IsReordered, IsThrough, IsWrapper};
+ghost use Rattle.lvl_changed.specs.inside.Arrays.{as_reference, CoversSame, IsArrayOf, IsRebased, IsThrough, IsWrapper};
 
-use crate::lattices::{reordered, sums};
+use crate::lattices::{rebased, sums};
 use crate::shifts::{are_same, moved};
 use crate::spots::{AtSpot, Spot};
 use lvl_cells::{Checked, KeptReference};
@@ -92,20 +92,25 @@ fn through(checked: &Checked, array: &Array) -> Result<Option<Array>, AllocError
     inner_of(array, &inner)
 }
 
-/// The array with the steps of its lattice in their order.
+/// The array from its least place on, with the steps of its lattice in their order.
 fn in_order(array: Array) -> Array
-    ensures { IsReordered array result }
+    ensures { IsRebased array result }
 {
-    let Some(shifts) = reordered(&array.shifts) else {
+    let Some((least, shifts)) = rebased(&array.shifts) else {
         return array;
     };
-    let Array { cell, by, .. } = array;
+    let Map { flip, turn, at } = array.by;
+    let Some(at) = moved(least, at) else {
+        return array;
+    };
+    let cell = array.cell;
+    let by = Map { flip, turn, at };
     Array { cell, by, shifts }
 }
 
 /// What reference `j` of a cell places. A cell that has no shapes and one reference, as a row of
-/// cells, is seen through: what it places is taken as placed by the reference. The steps of a lattice are in an
-/// order of their own.
+/// cells, is seen through: what it places is taken as placed by the reference. A lattice begins at its
+/// least place, and its steps are in an order of their own.
 pub(crate) fn array_of(checked: &Checked, cell: usize, j: usize) -> Result<Array, AllocError>
     requires cell { cell < length checked.now.cells }
     requires reference { HasReference checked.now.cells cell j }

@@ -183,8 +183,8 @@ fn changes_in(mut known: Vec<Option<Found>>, cell: usize, partner: usize) -> Opt
 /// nothing limits how much it draws.
 ///
 /// Two cells that differ shape by shape, and are placed more than once, are compared once with all
-/// that they place, where that doesn't cost too much and the view has no window. If they draw the
-/// same, nothing is found for them.
+/// that they place, where that doesn't cost too much. If they draw the same, nothing is found for
+/// them.
 pub fn changed(
     alloc: Global,
     first: &Fitted,
@@ -200,7 +200,8 @@ pub fn changed(
     let our_drawn = drawn_by_cells(alloc, ours)?;
     let their_drawn = drawn_by_cells(alloc, theirs)?;
     let times = ours.times();
-    let mut budget = Budget::new(ours, theirs);
+    let everywhere = view.everywhere(alloc)?;
+    let mut budget = Budget::new(alloc, first, second, view)?;
     let mut known = none_known(alloc, ours.cells().len())?;
     for i in (0..ours.order().len()).rev() {
         let cell = ours.order()[i];
@@ -227,7 +228,7 @@ pub fn changed(
             cell,
             second,
             &found,
-            view,
+            &everywhere,
             times[cell],
             &mut budget,
         )?;

@@ -1,9 +1,9 @@
 //! Lattices of shifts: their steps and counts, their sums, and the form in which they are compared.
-ghost use Rattle.std.specs.Prelude.{◌≡◌, IfOk, IfSome};
-ghost use Rattle.lvl_changed.specs.inside.Rows.{AreRowsOf, scaled};
-ghost use Rattle.lvl_changed.specs.inside.Shifts.{AreSame, AreSums, IsLatticeOf, turned_by};
+ghost use Rattle.std.specs.Prelude.{◌≡◌, neg_ℤ, IfOk, IfSome};
+ghost use Rattle.lvl_changed.specs.inside.Rows.{AreRowsOf, IsSameLine, scaled};
+ghost use Rattle.lvl_changed.specs.inside.Shifts.{AreMovedBy, AreSums, IsLatticeOf, turned_by};
 
-use crate::shifts::{are_same, shift_at};
+use crate::shifts::{are_same, moved, shift_at};
 use lvl_grid::{Map, Point};
 use lvl_names::Offsets;
 use std::alloc::AllocError;
@@ -136,16 +136,43 @@ fn lattice_of_sums(outer: &Offsets, inner: &Offsets, by: &Map) -> Option<Offsets
     Offsets::lattice(steps.across, steps.columns, across, line.columns)
 }
 
-/// The same shifts as a lattice whose steps are in their order, or None if they are in it already,
-/// or aren't found to be a lattice.
-pub(crate) fn reordered(shifts: &Offsets) -> Option<Offsets>
-    ensures { IfSome result (AreSame shifts.now) }
+/// The step in the other direction, or None if it is outside 64 bits.
+fn opposite(step: Point) -> Option<Point>
+    ensures { IfSome result (λ back. back ≡ record { x = neg_ℤ step.x; y = neg_ℤ step.y }) }
+{
+    Some(Point {
+        x: step.x.checked_neg()?,
+        y: step.y.checked_neg()?,
+    })
+}
+
+/// The end of a line of `count` shifts by `step` from which it goes up, or along x to the right,
+/// and its step from there. None if one of them is outside 64 bits.
+fn rising(step: Point, count: u64) -> Option<(Point, Point)>
+    ensures { IfSome result (λ line. IsSameLine step count line.0 line.1) }
+{
+    if step.y > 0 || (step.y == 0 && step.x >= 0) {
+        return Some((ORIGIN, step));
+    }
+    let last = times(step, count.checked_sub(1)?)?;
+    Some((last, opposite(step)?))
+}
+
+/// The least of the shifts, and all of them from there on, as a lattice whose steps rise and are in
+/// their order. None if the shifts aren't found to be a lattice.
+pub(crate) fn rebased(shifts: &Offsets) -> Option<(Point, Offsets)>
+    ensures { IfSome result (λ found. AreMovedBy found.0 shifts.now found.1) }
 {
     let found = lattice_of(shifts)?;
-    if found.rows == 1 || !comes_first(found.up, found.across) {
-        return None;
-    }
-    Offsets::lattice(found.up, found.rows, found.across, found.columns)
+    let (from, across) = rising(found.across, found.columns)?;
+    let (other, up) = rising(found.up, found.rows)?;
+    let least = moved(from, other)?;
+    let listed = if found.rows > 1 && comes_first(up, across) {
+        Offsets::lattice(up, found.rows, across, found.columns)?
+    } else {
+        Offsets::lattice(across, found.columns, up, found.rows)?
+    };
+    Some((least, listed))
 }
 
 /// The rows of the shifts, or None if these aren't found to be a lattice of more than one row.

@@ -14,6 +14,7 @@ use crate::found::Found;
 use crate::pays::{placed_rings, size_of};
 use lvl_cells::Checked;
 use lvl_flat::Fitted;
+use lvl_grid::Window;
 use lvl_view::View;
 use std::alloc::{AllocError, Global};
 
@@ -35,26 +36,88 @@ const MOST_OF_PLACED: u64 = 67_108_864;
 /// differ everywhere cost little.
 const POINTS: usize = 65_536;
 
+/// How many levels of cells, one placing the other, are compared as wholes in vain. A cell that
+/// places one that differs mostly differs too.
+const MOST_IN_VAIN: u8 = 2;
+
 /// What comparisons of whole cells may still cost. Each costs the rings that both cells place, and
 /// once the cells and references of both libraries, since the places of these cells are counted.
-#[derive(Clone, Copy)]
+#[derive(Drop)]
 pub(crate) struct Budget {
     left: u64,
     each: u64,
+    /// For each cell of the first library, how many levels below it, with itself, were compared in
+    /// vain.
+    in_vain: Vec<u8>,
+}
+
+/// A count as it is shared out by length: the part of it that belongs to `part` of `whole`.
+fn share(count: u64, part: u64, whole: u64) -> u64 {
+    let product = u128::from(count).saturating_mul(u128::from(part.min(whole)));
+    let shared = product / u128::from(whole.max(1));
+    u64::try_from(shared).unwrap_or(u64::MAX)
+}
+
+/// How many of the rings that a layout places may be in a window, by the size of its extent.
+fn placed_in(fitted: &Fitted, window: Option<&Window>) -> u64 {
+    let placed = placed_rings(fitted.checked());
+    let Some(window) = window else {
+        return placed;
+    };
+    let all = fitted.extent();
+    let wide = share(
+        placed,
+        window.x0.abs_diff(window.x1),
+        all.x0.abs_diff(all.x1),
+    );
+    share(wide, window.y0.abs_diff(window.y1), all.y0.abs_diff(all.y1))
 }
 
 impl Budget {
-    /// What they may cost for two libraries.
-    pub(crate) fn new(first: &Checked, second: &Checked) -> Budget {
-        let (cells, rings) = size_of(first);
-        let (their_cells, their_rings) = size_of(second);
+    /// What they may cost for two libraries under a view.
+    pub(crate) fn new(
+        alloc: Global,
+        first: &Fitted,
+        second: &Fitted,
+        view: &View,
+    ) -> Result<Budget, AllocError> {
+        let (cells, rings) = size_of(first.checked());
+        let (their_cells, their_rings) = size_of(second.checked());
         let each = cells.saturating_add(their_cells);
         let all = each.saturating_add(rings).saturating_add(their_rings);
-        let placed = placed_rings(first).saturating_add(placed_rings(second));
+        let window = view.window();
+        let placed = placed_in(first, window).saturating_add(placed_in(second, window));
         let left = MOST_OF_ALL
             .saturating_add(all.saturating_mul(FOR_EACH))
             .saturating_add((placed / PART_OF_PLACED).min(MOST_OF_PLACED));
-        Budget { left, each }
+        let count = first.checked().cells().len();
+        let in_vain = (0..count).map(|_| 0).collect(alloc)?;
+        Ok(Budget {
+            left,
+            each,
+            in_vain,
+        })
+    }
+
+    /// How many levels below a cell were compared in vain.
+    fn in_vain_below(&self, checked: &Checked, cell: usize) -> u8 {
+        let Some(found) = checked.cells().get(cell) else {
+            return 0;
+        };
+        let mut most = 0;
+        for j in 0..found.references.len() {
+            if let Some(target) = checked.target(cell, j) {
+                most = self.in_vain.get(target).copied().unwrap_or(0).max(most);
+            }
+        }
+        most
+    }
+
+    /// Stores that a cell was compared in vain, so many levels with those below it.
+    fn add_in_vain(&mut self, cell: usize, levels: u8) {
+        if let Some(kept) = self.in_vain.get_mut(cell) {
+            *kept = levels;
+        }
     }
 
     /// Whether this much is left, which is then taken.
@@ -113,8 +176,10 @@ fn are_same_cells(
         → (layer : Layer) (s : Square) → CoversAt first.now.cells ours layer s
         ↔ IsMoved view.now.pairs (CoversAt second.now.cells theirs) layer s) }
 {
+    let below = budget.in_vain_below(first.checked(), ours);
+    budget.add_in_vain(ours, below);
     let each = budget.each;
-    if !budget.takes(each) {
+    if below >= MOST_IN_VAIN || !budget.takes(each) {
         return Ok(false);
     }
     let Some(changes) = area.changes(alloc)? else {
@@ -126,7 +191,11 @@ fn are_same_cells(
     let Some(their_top) = second.rooted(alloc, theirs)? else {
         return Ok(false);
     };
-    are_same_tops(alloc, &our_top, &their_top, view, &changes, budget)
+    let is_same = are_same_tops(alloc, &our_top, &their_top, view, &changes, budget)?;
+    if !is_same {
+        budget.add_in_vain(ours, below.saturating_add(1));
+    }
+    Ok(is_same)
 }
 
 /// Whether a cell draws the same as its partner, with all that they place, if it does so outside of

@@ -14,7 +14,7 @@ use crate::window::window_of;
 use lvl_grid::Window;
 use lvl_names::Layer;
 use lvl_refusal::Cause;
-use std::alloc::Global;
+use std::alloc::{AllocError, Global};
 use std::collections::BTreeMap;
 use std::marker::Model;
 
@@ -113,6 +113,23 @@ impl View {
             targets: BTreeMap::new(alloc),
             window: None,
         }
+    }
+
+    /// A view with the same map and without a window. Fails only if out of memory.
+    pub fn everywhere(&self, alloc: Global) -> Result<View, AllocError>
+        ensures pairs { IfOk result (λ view. view.pairs ≡ self.now.pairs) }
+        ensures window { IfOk result (λ view. view.window ≡ None) }
+    {
+        let pairs = Vec::from_slice(alloc, &self.pairs)?;
+        // the sources are those of this view, each of them once
+        let Ok(targets) = targets_of(alloc, &pairs) else {
+            return Err(AllocError);
+        };
+        Ok(View {
+            pairs,
+            targets,
+            window: None,
+        })
     }
 
     /// Whether the view has a map.

@@ -4,7 +4,7 @@ use Rattle.lvl_grid.specs.declared.point.Point.{Point}
 use Rattle.lvl_grid.specs.declared.point.Square.{Square}
 use Rattle.lvl_grid.specs.declared.point.Window.{Window}
 use Rattle.lvl_grid.specs.Clip.{IsInWindow}
-use Rattle.lvl_grid.specs.Turn.{image, image_square}
+use Rattle.lvl_grid.specs.Turn.{image, image_square, shifted}
 use Rattle.lvl_names.specs.declared.layer.Layer.{Layer}
 use Rattle.lvl_cells.specs.Cells.{PlainCell, PlainReference, Rings, map_at}
 use Rattle.lvl_view.specs.declared.map.LayerPair.{LayerPair}
@@ -14,7 +14,7 @@ use Rattle.lvl_changed.specs.declared.arrays.Array.{Array}
 use Rattle.lvl_changed.specs.declared.placed.Placed.{Placed}
 use Rattle.lvl_changed.specs.declared.placements.Placement.{Placement}
 use Rattle.lvl_changed.specs.inside.Placements.{placed, partner_placed, PlacedCover, ReferencesCover}
-use Rattle.lvl_changed.specs.inside.Shifts.{AreSame, AreSums}
+use Rattle.lvl_changed.specs.inside.Shifts.{AreMovedBy, AreSums}
 use Rattle.lvl_changed.specs.inside.Areas.{IsIn}
 
 -- the array as a reference, to a cell of no name
@@ -51,9 +51,14 @@ pub record IsThrough (outer inner whole : Array) : Type 0 where
   pub by : (p : Point) → image whole.by p ≡ image outer.by (image inner.by p)
   pub shifts : AreSums outer.by outer.shifts inner.shifts whole.shifts
 
--- the second array is the first with the same shifts in another order
-abbrev pub IsReordered : Array → Array → Type 0
-IsReordered a b = (b ≡ record { cell = a.cell; by = a.by; shifts = b.shifts }) × AreSame a.shifts b.shifts
+-- the second array has the places of the first, from another one on
+abbrev pub IsRebased : Array → Array → Type 0
+IsRebased a b =
+    (d : Point) × (b ≡ record {
+      cell = a.cell;
+      by = record { flip = a.by.flip; turn = a.by.turn; at = shifted a.by.at d };
+      shifts = b.shifts;
+    }) × AreMovedBy d a.shifts b.shifts
 
 -- both arrays cover the same
 abbrev pub CoversSame : List (PlainCell Rings) → Array → Array → Type 0

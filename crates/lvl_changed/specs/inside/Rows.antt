@@ -14,6 +14,11 @@ use Rattle.lvl_changed.specs.inside.Placements.{PlacedCover}
 abbrev pub scaled : Point → ℕ → Point
 scaled step n = record { x = pos n *ℤ step.x; y = pos n *ℤ step.y }
 
+-- n shifts that are steps by a from zero on are those by b from d on
+pub record IsSameLine (a : Point) (n : ℕ) (d b : Point) : Type 0 where
+  pub to : (i : ℕ) → i < n → (k : ℕ) × (k < n) × (scaled a i ≡ shifted d (scaled b k))
+  pub from : (k : ℕ) → k < n → (i : ℕ) × (i < n) × (scaled a i ≡ shifted d (scaled b k))
+
 -- the shift is one of row j
 abbrev pub IsInRow : Rows → ℕ → Point → Type 0
 IsInRow rows j e = (f : Point) × Contains rows.line f × (shifted (scaled rows.up j) f ≡ e)

@@ -26,6 +26,6 @@ pub record AreSums (m : Map) (outer inner sums : List Point) : Type 0 where
   pub only : (e : Point) → Contains sums e
       → (f : Point) × (g : Point) × Contains outer f × Contains inner g × (e ≡ shifted f (turned_by m g))
 
--- both lists have the same shifts
-abbrev pub AreSame : List Point → List Point → Type 0
-AreSame shifts others = (e : Point) → Contains shifts e ↔ Contains others e
+-- the shifts are the others, each moved by d
+abbrev pub AreMovedBy : Point → List Point → List Point → Type 0
+AreMovedBy d shifts others = (e : Point) → Contains shifts e ↔ ((f : Point) × Contains others f × (e ≡ shifted d f))

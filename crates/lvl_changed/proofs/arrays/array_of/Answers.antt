@@ -1,4 +1,4 @@
-use Rattle.lvl_changed.proofs.SeenThrough.{array_reordered}
+use Rattle.lvl_changed.proofs.SeenThrough.{array_rebased}
 use Rattle.lvl_changed.proofs.arrays.array_of.Goals as goal
 
 pub loop-preserved : goal.loop-preserved
@@ -10,10 +10,10 @@ loop-preserved c =
 
 pub returns-in-None : goal.returns-in-None
 returns-in-None c =
-    array_reordered c.args.checked.now.cells c.args.cell c.args.j c.loop.array c.in_order.result c.in_order.ensures
+    array_rebased c.args.checked.now.cells c.args.cell c.args.j c.loop.array c.in_order.result c.in_order.ensures
     c.loop.invariant
 
 pub returns : goal.returns
 returns c =
-    array_reordered c.args.checked.now.cells c.args.cell c.args.j c.loop.array c.in_order-2.result c.in_order-2.ensures
+    array_rebased c.args.checked.now.cells c.args.cell c.args.j c.loop.array c.in_order-2.result c.in_order-2.ensures
     c.loop.invariant

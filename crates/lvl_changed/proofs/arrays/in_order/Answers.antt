@@ -1,8 +1,8 @@
-use Rattle.std.proofs.Common.{refl}
+use Rattle.lvl_changed.proofs.Rebasing.{not_moved}
 use Rattle.lvl_changed.proofs.arrays.in_order.Goals as goal
 
 pub returns-in_default : goal.returns-in_default
-returns-in_default c = (refl, λ e. (λ h. h, λ h. h))
+returns-in_default c = not_moved c.args.array
 
-pub returns : goal.returns
-returns c = (refl, c.in-Some.ensures)
+pub returns-in_default-moved : goal.returns-in_default-moved
+returns-in_default-moved c = not_moved c.args.array

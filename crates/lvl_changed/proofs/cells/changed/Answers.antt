@@ -67,7 +67,12 @@ loop-i-preserved c =
     let found : IsFound pairs ours theirs k f = c.in_ok-found.ensures.found mine in
     let g : Found = c.settled.result in
     let last : IsFound pairs ours theirs k g =
-    settled_found pairs ours theirs k f g c.in_ok-is_same.is_same found c.in_ok-is_same.ensures
+    settled_found pairs ours theirs k f g c.in_ok-is_same.is_same found
+    (subst
+    (λ ps. IsTrue c.in_ok-is_same.is_same
+    → IsFound ps ours theirs k f → (layer : Layer) (s : Square)
+    → CoversAt ours k layer s ↔ PartnerCovers ps theirs f.partner layer s)
+    c.in_ok-everywhere.ensures.pairs c.in_ok-is_same.ensures)
     c.settled.ensures.partner c.settled.ensures.kept in
     record {
       long = c.keep.ensures.long ∙ c.loop-i.invariant.long;
