@@ -13,6 +13,7 @@ ghost use Rattle.lvl_columns.specs.Corners.{corners_of};
 
 use crate::cut::{cut_at, is_narrow};
 use crate::halves::halves_at;
+use crate::left::left_over;
 use crate::reordered::are_reordered;
 use lvl_grid::{Part, Rings, Square};
 use lvl_region::Side;
@@ -262,12 +263,16 @@ fn most_columns(first: &Rings, second: &Rings) -> u64
     corners.saturating_mul(2)
 }
 
-/// The least difference of two lists, by columns if a cut pays.
-fn least_difference(alloc: Global, first: &Rings, second: &Rings) -> Result<Comparison, AllocError>
+/// The least difference of two lists, by columns if a cut pays, of which at most `most` are made.
+fn least_difference(
+    alloc: Global,
+    first: &Rings,
+    second: &Rings,
+    most: u64,
+) -> Result<Comparison, AllocError>
     ensures found { IfOk result (λ it. IsFirst (first.now, second.now) it.found) }
-    ensures columns { IfOk result (λ it. it.columns ≤ 2 * length (corners_of first.now second.now)) }
+    ensures columns { IfOk result (λ it. it.columns ≤ most) }
 {
-    let most = most_columns(first, second);
     if most >= 2 {
         if let Some(at) = cut_at(alloc, first, second, 0)? {
             return in_parts(alloc, first, second, at, most);
@@ -275,6 +280,26 @@ fn least_difference(alloc: Global, first: &Rings, second: &Rings) -> Result<Comp
     }
     let found = uncut(alloc, first, second)?;
     Ok(Comparison { found, columns: 0 })
+}
+
+/// The least difference of what is left of two lists without the rings that both have. If there is
+/// none, the lists cover the same squares, else it says nothing of them: a common ring may cover what
+/// differs. None if they have too few rings in common.
+fn difference_left(
+    alloc: Global,
+    first: &Rings,
+    second: &Rings,
+    most: u64,
+) -> Result<Option<Comparison>, AllocError>
+    ensures same { IfOk result (λ left. IfSome left (λ it. IfNone it.found
+        ((s : GridSquare) → SomeCovers first.now s ↔ SomeCovers second.now s))) }
+    ensures columns { IfOk result (λ left. IfSome left (λ it. it.columns ≤ most)) }
+{
+    let Some((ours, theirs)) = left_over(alloc, first, second)? else {
+        return Ok(None);
+    };
+    let left = least_difference(alloc, &ours, &theirs, most)?;
+    Ok(Some(left))
 }
 
 /// The least square, by `y` and then `x`, that the rings of only one list cover, with its side, or
@@ -297,13 +322,24 @@ pub fn compare_by_columns(
         (λ at. (s : GridSquare) → IsBefore s at.0 → SomeCovers first.now s ↔ SomeCovers second.now s)) }
     ensures columns { IfOk result (λ it. it.columns ≤ 2 * length (corners_of first.now second.now)) }
 {
-    if have_same_rings(alloc, first, second, 0)? {
+    if first.is_same(second) {
         return Ok(Comparison {
             found: None,
             columns: 0,
         });
     }
-    least_difference(alloc, first, second)
+    let most = most_columns(first, second);
+    let Some(left) = difference_left(alloc, first, second, most)? else {
+        return least_difference(alloc, first, second, most);
+    };
+    if left.found.is_none() {
+        return Ok(left);
+    }
+    let whole = least_difference(alloc, first, second, most - left.columns)?;
+    Ok(Comparison {
+        found: whole.found,
+        columns: left.columns + whole.columns,
+    })
 }
 
 /// What [`compare_by_columns`] finds, without the number of columns.
