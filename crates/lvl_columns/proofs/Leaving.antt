@@ -1,10 +1,11 @@
 -- What is left of lists without the rings that both have.
-use Rattle.std.proofs.Common.{◌⊎◌, inl, inr, ◌↔◌, List, [], ◌∷◌, ◌++◌, Option, None, Some, IfNone}
+use Rattle.std.proofs.Common.{◌⊎◌, inl, inr, ◌↔◌, List, [], ◌∷◌, ◌++◌, Option, None, Some, IfNone, IfSome}
 use Rattle.lvl_grid.specs.declared.point.Point.{Point}
 use Rattle.lvl_grid.specs.declared.point.Square.{Square}
+use Rattle.lvl_grid.specs.declared.point.Window.{Window}
 use Rattle.lvl_grid.specs.Winding.{Covers, SomeCovers}
 use Rattle.lvl_grid.proofs.Anyone.{Any-push, Any-nil}
-use Rattle.lvl_columns.specs.Left.{AreLeft, IsLeft}
+use Rattle.lvl_columns.specs.Left.{AgreeOutside, AreLeft, AreWithin, IsLeft}
 
 -- of no rings, none are left
 pub left_none : (others : List (List Point)) → IsLeft [] others []
@@ -44,3 +45,17 @@ pub none_by_left : {X : Type 0} (first second ours theirs : List (List Point)) (
     → IfNone found ((s : Square) → SomeCovers first s ↔ SomeCovers second s)
 none_by_left first second ours theirs None h same = same_by_left first second ours theirs h same
 none_by_left first second ours theirs (Some at) h same = tt
+
+-- outside of a window around what is left, lists cover the same squares
+agree_outside : (first second ours theirs : List (List Point)) (w : Window) → AreLeft first second ours theirs
+    → AreWithin ours theirs w → AgreeOutside first second w
+agree_outside first second ours theirs w h within = λ s away. (
+  covers_too first second ours theirs s h.our_left h.their_left (λ a. absurd (away (within.ours_in s a))),
+  covers_too second first theirs ours s h.their_left h.our_left (λ b. absurd (away (within.theirs_in s b))),
+)
+
+pub around_left : (first second ours theirs : List (List Point)) (around : Option Window)
+    → AreLeft first second ours theirs → IfSome around (AreWithin ours theirs)
+    → IfSome around (AgreeOutside first second)
+around_left first second ours theirs None h within = tt
+around_left first second ours theirs (Some w) h within = agree_outside first second ours theirs w h within

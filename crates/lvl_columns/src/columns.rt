@@ -11,9 +11,9 @@ ghost use Rattle.lvl_columns.specs.Columns.{work_left};
 ghost use Rattle.lvl_columns.specs.Columns.{KeepsLimit};
 ghost use Rattle.lvl_columns.specs.Corners.{corners_of};
 
+use crate::around::{difference_around, difference_left};
 use crate::cut::{cut_at, is_narrow};
 use crate::halves::halves_at;
-use crate::left::left_over;
 use crate::reordered::are_reordered;
 use lvl_grid::{Part, Rings, Square};
 use lvl_region::Side;
@@ -264,7 +264,7 @@ fn most_columns(first: &Rings, second: &Rings) -> u64
 }
 
 /// The least difference of two lists, by columns if a cut pays, of which at most `most` are made.
-fn least_difference(
+pub(crate) fn least_difference(
     alloc: Global,
     first: &Rings,
     second: &Rings,
@@ -280,26 +280,6 @@ fn least_difference(
     }
     let found = uncut(alloc, first, second)?;
     Ok(Comparison { found, columns: 0 })
-}
-
-/// The least difference of what is left of two lists without the rings that both have. If there is
-/// none, the lists cover the same squares, else it says nothing of them: a common ring may cover what
-/// differs. None if they have too few rings in common.
-fn difference_left(
-    alloc: Global,
-    first: &Rings,
-    second: &Rings,
-    most: u64,
-) -> Result<Option<Comparison>, AllocError>
-    ensures same { IfOk result (λ left. IfSome left (λ it. IfNone it.found
-        ((s : GridSquare) → SomeCovers first.now s ↔ SomeCovers second.now s))) }
-    ensures columns { IfOk result (λ left. IfSome left (λ it. it.columns ≤ most)) }
-{
-    let Some((ours, theirs)) = left_over(alloc, first, second)? else {
-        return Ok(None);
-    };
-    let left = least_difference(alloc, &ours, &theirs, most)?;
-    Ok(Some(left))
 }
 
 /// The least square, by `y` and then `x`, that the rings of only one list cover, with its side, or
@@ -332,13 +312,15 @@ pub fn compare_by_columns(
     let Some(left) = difference_left(alloc, first, second, most)? else {
         return least_difference(alloc, first, second, most);
     };
-    if left.found.is_none() {
-        return Ok(left);
+    let compared = left.compared;
+    if compared.found.is_none() {
+        return Ok(compared);
     }
-    let whole = least_difference(alloc, first, second, most - left.columns)?;
+    let rest = most - compared.columns;
+    let whole = difference_around(alloc, first, second, left.around, rest)?;
     Ok(Comparison {
         found: whole.found,
-        columns: left.columns + whole.columns,
+        columns: compared.columns + whole.columns,
     })
 }
 

@@ -24,6 +24,7 @@ pub use columns::{Comparison, compare_by_columns, difference_by_columns};
 pub use cut::cut_at;
 pub use window::{difference_in, first_difference_in};
 
+mod around;
 mod columns;
 mod cut;
 mod estimate;
