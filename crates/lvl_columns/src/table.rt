@@ -13,6 +13,10 @@ use std::alloc::{AllocError, Global};
 /// dozens at most.
 const MOST_TRIED: usize = 256;
 
+/// How many rings are tested for a ring. More have the key of one that isn't alike only where a file was
+/// made for that.
+const MOST_TESTED: usize = 8;
+
 /// The lower half of a slot.
 const LOWER: u64 = 0xFFFF_FFFF;
 
@@ -51,21 +55,25 @@ impl Table {
         Ok(table)
     }
 
-    /// Notes a ring in the first free slot, if one of those that are tried is free and none of them has a
-    /// ring that is alike.
+    /// Notes a ring in the first free slot, if one of those that are tried is free and none of the rings that
+    /// are tested is alike.
     fn add(&mut self, rings: &Rings, i: usize)
         requires { i < length rings.now }
     {
         let ring = rings.ring(i);
         let key = key_of(ring);
+        let mut tested: usize = 0;
         for tried in 0..MOST_TRIED {
             let slot = self.get(key, tried);
             if slot == 0 {
                 self.set(key, tried, slot_of(key, i));
                 return;
             }
-            if is_of_key(slot, key) && is_alike_at(rings, ring_of(slot), ring) {
-                return;
+            if is_of_key(slot, key) {
+                if tested >= MOST_TESTED || is_alike_at(rings, ring_of(slot), ring) {
+                    return;
+                }
+                tested = tested.saturating_add(1);
             }
         }
     }
@@ -104,13 +112,17 @@ pub(crate) fn has_alike(table: &Table, others: &Rings, ring: &[Point]) -> bool
     ensures { IsTrue result → (s : GridSquare) → Covers ring.now s → SomeCovers others.now s }
 {
     let key = key_of(ring);
+    let mut tested: usize = 0;
     for tried in 0..MOST_TRIED {
         let slot = table.get(key, tried);
-        if slot == 0 {
+        if slot == 0 || tested >= MOST_TESTED {
             return false;
         }
-        if is_of_key(slot, key) && is_alike_at(others, ring_of(slot), ring) {
-            return true;
+        if is_of_key(slot, key) {
+            if is_alike_at(others, ring_of(slot), ring) {
+                return true;
+            }
+            tested = tested.saturating_add(1);
         }
     }
     false
