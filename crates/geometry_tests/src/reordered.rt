@@ -1,5 +1,5 @@
-//! Lists that have the same rings in another order.
-use crate::outlines::{at, push_rectangle, rectangle, ring};
+//! Lists that have the same rings in another order, and some more.
+use crate::outlines::{Found, at, push_rectangle, rectangle, ring};
 use lvl_columns::{Comparison, compare_by_columns};
 use lvl_grid::{Ring, Rings};
 use lvl_region::Side;
@@ -85,5 +85,50 @@ fn a_ring_more_often(rt: HostRuntime) -> Result<(), Fail> {
     let second = listed_and_again(rt.alloc(), true, 2)?;
     let compared = compare_by_columns(rt.alloc(), &first, &second)?;
     assert!(rt; compared.found.is_none());
+    Ok(())
+}
+
+/// A rectangle: its first abscissa and the one after its last, and the ordinates in the same way.
+type Sides = ((i64, i64), (i64, i64));
+
+/// The rings, and some rectangles.
+fn listed_with(alloc: Global, is_reversed: bool, more: &[Sides]) -> Result<Rings, Fail> {
+    let mut rings = listed(alloc, is_reversed)?;
+    for (across, up) in more {
+        push_rectangle(alloc, &mut rings, *across, *up)?;
+    }
+    Ok(rings)
+}
+
+/// What differs first in the rings with some rectangles and in those in reverse with others.
+fn found_with(alloc: Global, ours: &[Sides], theirs: &[Sides]) -> Result<Found, Fail> {
+    let first = listed_with(alloc, false, ours)?;
+    let second = listed_with(alloc, true, theirs)?;
+    Ok(compare_by_columns(alloc, &first, &second)?.found)
+}
+
+/// Common rings cover what differs else: the square with number 1 is from (37, 3) to (46, 12).
+#[test]
+fn common_rings_that_stay(rt: HostRuntime) -> Result<(), Fail> {
+    let alloc = rt.alloc();
+    let inside = ((40, 42), (5, 7));
+    let across = ((40, 50), (5, 7));
+    let beside = ((46, 50), (5, 7));
+    assert!(rt; found_with(alloc, &[inside], &[])?.is_none());
+    assert!(rt; found_with(alloc, &[across], &[])? == at(46, 5, Side::First));
+    assert!(rt; found_with(alloc, &[], &[across])? == at(46, 5, Side::Second));
+    assert!(rt; found_with(alloc, &[across], &[beside])?.is_none());
+    Ok(())
+}
+
+/// A rectangle, and what may be its two halves: these alone are compared, if they are the same.
+#[test]
+fn halves_of_what_is_left(rt: HostRuntime) -> Result<(), Fail> {
+    let alloc = rt.alloc();
+    let whole = ((-100, -80), (0, 4));
+    let left = ((-100, -90), (0, 4));
+    assert!(rt; found_with(alloc, &[whole], &[left, ((-90, -80), (0, 4))])?.is_none());
+    let lower = ((-90, -80), (0, 3));
+    assert!(rt; found_with(alloc, &[whole], &[left, lower])? == at(-90, 3, Side::First));
     Ok(())
 }

@@ -6,7 +6,7 @@ use Rattle.std.proofs.lemmas.List.{map-append, take_at, drop_at}
 use Rattle.std.proofs.lemmas.List.Elements.{All-take, All-drop, All-head, All-push, All-nil, All-cons}
 use Rattle.lvl_grid.specs.declared.point.Point.{Point}
 use Rattle.lvl_grid.specs.declared.point.Square.{Square}
-use Rattle.lvl_grid.specs.Winding.{Covers, SomeCovers}
+use Rattle.lvl_grid.specs.Winding.{SomeCovers}
 use Rattle.lvl_grid.specs.Squares.{IsBefore}
 use Rattle.lvl_grid.proofs.Anyone.{Any-push, Any-nil, Any-head}
 use Rattle.lvl_region.specs.declared.region.Side.{Side}

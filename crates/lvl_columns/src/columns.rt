@@ -11,6 +11,7 @@ ghost use Rattle.lvl_columns.specs.Columns.{work_left};
 ghost use Rattle.lvl_columns.specs.Columns.{KeepsLimit};
 ghost use Rattle.lvl_columns.specs.Corners.{corners_of};
 
+use crate::around::{difference_around, difference_left};
 use crate::cut::{cut_at, is_narrow};
 use crate::halves::halves_at;
 use crate::reordered::are_reordered;
@@ -262,12 +263,16 @@ fn most_columns(first: &Rings, second: &Rings) -> u64
     corners.saturating_mul(2)
 }
 
-/// The least difference of two lists, by columns if a cut pays.
-fn least_difference(alloc: Global, first: &Rings, second: &Rings) -> Result<Comparison, AllocError>
+/// The least difference of two lists, by columns if a cut pays, of which at most `most` are made.
+pub(crate) fn least_difference(
+    alloc: Global,
+    first: &Rings,
+    second: &Rings,
+    most: u64,
+) -> Result<Comparison, AllocError>
     ensures found { IfOk result (λ it. IsFirst (first.now, second.now) it.found) }
-    ensures columns { IfOk result (λ it. it.columns ≤ 2 * length (corners_of first.now second.now)) }
+    ensures columns { IfOk result (λ it. it.columns ≤ most) }
 {
-    let most = most_columns(first, second);
     if most >= 2 {
         if let Some(at) = cut_at(alloc, first, second, 0)? {
             return in_parts(alloc, first, second, at, most);
@@ -297,13 +302,26 @@ pub fn compare_by_columns(
         (λ at. (s : GridSquare) → IsBefore s at.0 → SomeCovers first.now s ↔ SomeCovers second.now s)) }
     ensures columns { IfOk result (λ it. it.columns ≤ 2 * length (corners_of first.now second.now)) }
 {
-    if have_same_rings(alloc, first, second, 0)? {
+    if first.is_same(second) {
         return Ok(Comparison {
             found: None,
             columns: 0,
         });
     }
-    least_difference(alloc, first, second)
+    let most = most_columns(first, second);
+    let Some(left) = difference_left(alloc, first, second, most)? else {
+        return least_difference(alloc, first, second, most);
+    };
+    let compared = left.compared;
+    if compared.found.is_none() {
+        return Ok(compared);
+    }
+    let rest = most - compared.columns;
+    let whole = difference_around(alloc, first, second, left.around, rest)?;
+    Ok(Comparison {
+        found: whole.found,
+        columns: compared.columns + whole.columns,
+    })
 }
 
 /// What [`compare_by_columns`] finds, without the number of columns.

@@ -24,13 +24,17 @@ pub use columns::{Comparison, compare_by_columns, difference_by_columns};
 pub use cut::cut_at;
 pub use window::{difference_in, first_difference_in};
 
+mod around;
 mod columns;
 mod cut;
 mod estimate;
 mod folded;
 mod halves;
+mod keys;
+mod left;
 mod passes;
 mod reordered;
 mod sample;
 mod slices;
+mod table;
 mod window;

@@ -4,10 +4,10 @@ ghost use Rattle.lvl_grid.specs.declared.point.Square.{Square as GridSquare};
 ghost use Rattle.lvl_grid.specs.Winding.{Covers, SomeCovers};
 ghost use Rattle.lvl_columns.specs.Reordered.{ArePairs, IsNumbered};
 
-use lvl_grid::{Point, Rings, Window};
+use crate::keys::{key_of, sum_of_keys};
+use lvl_grid::{Point, Rings};
 use lvl_simplify::window_of;
 use std::alloc::{AllocError, Global};
-use std::hash::{FoldHasher, Hasher};
 
 /// Shorter lists are swept as fast as they are put in order.
 const FEWEST: usize = 256;
@@ -17,44 +17,6 @@ const FEWEST: usize = 256;
 pub(crate) struct Keyed {
     pub key: u64,
     pub ring: usize,
-}
-
-/// The key of a rectangle.
-fn key_of_window(window: &Window) -> u64 {
-    let mut hasher = FoldHasher::default();
-    hasher.write_i64(window.x0);
-    hasher.write_i64(window.y0);
-    hasher.write_i64(window.x1);
-    hasher.write_i64(window.y1);
-    hasher.finish()
-}
-
-/// The key of a ring that isn't a rectangle.
-fn key_of_points(ring: &[Point]) -> u64 {
-    let mut hasher = FoldHasher::default();
-    for point in ring {
-        hasher.write_i64(point.x);
-        hasher.write_i64(point.y);
-    }
-    hasher.finish()
-}
-
-/// A number that rings have in common for which [`are_alike`] holds, and few others have. The keys
-/// only guide the search, so they have no contracts.
-fn key_of(ring: &[Point]) -> u64 {
-    match window_of(ring) {
-        Some(window) => key_of_window(&window),
-        None => key_of_points(ring),
-    }
-}
-
-/// The sum of the keys of a list, which doesn't depend on the order of its rings.
-fn sum_of_keys(rings: &Rings) -> u128 {
-    let mut sum: u128 = 0;
-    for i in 0..rings.len() {
-        sum = sum.saturating_add(u128::from(key_of(rings.ring(i))));
-    }
-    sum
 }
 
 /// The rings of a list in order of their keys.
@@ -71,7 +33,7 @@ fn by_key(alloc: Global, rings: &Rings) -> Result<Vec<Keyed>, AllocError>
 }
 
 /// Whether two rings have the same points in the same order, or are the same rectangle.
-fn are_alike(first: &[Point], second: &[Point]) -> bool
+pub(crate) fn are_alike(first: &[Point], second: &[Point]) -> bool
     ensures { IsTrue result → (s : GridSquare) → Covers first.now s ↔ Covers second.now s }
 {
     if first == second {

@@ -8,12 +8,16 @@ use std::alloc::{AllocError, Global};
 /// A Lehmer generator of pseudo-random numbers. Its seed is fixed, so that a comparison takes the
 /// same steps each time.
 #[derive(Drop)]
-struct Random(u64);
+pub(crate) struct Random(u64);
 
 impl Random {
+    pub(crate) fn new() -> Random {
+        Random(12_345)
+    }
+
     /// The next number, below `most`, or 0 if `most` is 0. A state is below 2^31, so the product is
     /// below 2^47.
-    fn below(&mut self, most: usize) -> usize {
+    pub(crate) fn below(&mut self, most: usize) -> usize {
         self.0 = self.0.saturating_mul(48_271) % 0x7FFF_FFFF;
         (self.0 as usize).checked_rem(most).unwrap_or(0)
     }
@@ -56,7 +60,7 @@ impl Sample {
             rings: rings.len() as u128,
             unit: 1,
         };
-        let mut random = Random(12_345);
+        let mut random = Random::new();
         let taken = (rings.len() / 64).clamp(LEAST, MOST);
         let points = LEAST.checked_div(rings.len()).unwrap_or(1).max(1);
         for i in 0..taken.min(rings.len()) {

@@ -15,6 +15,12 @@ pub(crate) struct Lists {
     pub theirs: Candidates,
 }
 
+/// Whether a window has all squares of another.
+fn has(window: &Window, other: &Window) -> bool {
+    let columns = window.x0 <= other.x0 && other.x1 <= window.x1;
+    columns && window.y0 <= other.y0 && other.y1 <= window.y1
+}
+
 impl Lists {
     /// All own shapes and references of both tops.
     pub(crate) fn whole(first: &Fitted, second: &Fitted) -> Lists
@@ -51,9 +57,17 @@ impl Lists {
         Ok((Lists { ours, theirs }, sizes))
     }
 
+    /// Estimates of what is drawn in the window, by samples of the lists if they are long.
+    fn sampled(&self, first: &Fitted, second: &Fitted, window: &Window) -> Sizes {
+        Sizes {
+            ours: first.sampled(&self.ours, window),
+            theirs: second.sampled(&self.theirs, window),
+        }
+    }
+
     /// Lists for the window that are at least a quarter shorter, or None, and estimates of what is
     /// drawn in the window. So the lists of windows within windows take at most four times what the
-    /// first ones take.
+    /// first ones take. If the window has all that both draw, none are made.
     pub(crate) fn shortened(
         &self,
         alloc: Global,
@@ -64,6 +78,9 @@ impl Lists {
         requires { AreBoth first.now second.now window.now self.now }
         ensures { IfOk result (λ shortened. IfSome shortened.0 (AreBoth first.now second.now window.now)) }
     {
+        if has(window, &first.extent()) && has(window, &second.extent()) {
+            return Ok((None, self.sampled(first, second, window)));
+        }
         let (lists, sizes) = self.narrowed(alloc, first, second, window)?;
         let len = self.len();
         if lists.len() > len - len / 4 {

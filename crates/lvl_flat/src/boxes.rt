@@ -37,8 +37,10 @@ pub(crate) fn bounds_of_shape_shifts(shapes: &Shapes, i: usize) -> Bounds
     requires { i < length shapes.now }
     ensures { All (HoldsPoint result) (shape_at shapes.now i).shifts }
 {
-    let (low, high) = shapes.reach(i);
-    Bounds { low, high }
+    match shapes.shifts(i) {
+        Some(shifts) => bounds_of_shifts(shifts),
+        None => Bounds::around(ORIGIN),
+    }
 }
 
 /// The bounds, widened to have the points of a ring after a move by any displacement in `shifts`,

@@ -101,6 +101,34 @@ fn may_cover(
     true
 }
 
+/// About how many shapes, and how many references, an estimate by a sample looks at.
+const SAMPLED: usize = 4096;
+
+/// Counts the points of every so many of the indexed shapes or references, as often, so that the sum is
+/// about that of all. Of short lists, all are counted.
+pub(crate) fn sampled(
+    checked: &Checked,
+    boxes: &Boxes,
+    measures: &Measures,
+    part: Part,
+    list: &Indexes,
+    window: &Window,
+    count: &mut Count,
+)
+    requires { AreBoxes checked.now.cells boxes.now }
+{
+    let step = list.len() / SAMPLED + 1;
+    let mut some = Count::new(window);
+    for n in 0..SAMPLED {
+        let place = n.saturating_mul(step);
+        if place < list.len() {
+            let index = list.at(place);
+            may_cover(checked, boxes, measures, part, index, window, &mut some);
+        }
+    }
+    count.add_times(some.estimate(), step as u64);
+}
+
 /// The index, in 32 bits. More parts than that don't fit in memory.
 fn in_word(index: usize) -> Result<u32, AllocError>
     ensures { IfOk result (λ word. word ≡ index) }

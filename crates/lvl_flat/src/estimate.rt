@@ -250,6 +250,17 @@ impl Count {
         self.so_far
     }
 
+    /// Adds an estimate a number of times.
+    pub(crate) fn add_times(&mut self, some: Estimate, times: u64) {
+        self.so_far.add(
+            some.all.saturating_mul(times),
+            some.left.saturating_mul(times),
+            some.right.saturating_mul(times),
+            some.low.saturating_mul(times),
+            some.high.saturating_mul(times),
+        );
+    }
+
     /// Adds what is so large that its box isn't known.
     pub(crate) fn add_unknown(&mut self) {
         self.so_far.add(1, 1, 1, 1, 1);

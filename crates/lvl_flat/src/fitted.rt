@@ -10,7 +10,7 @@ ghost use Rattle.lvl_flat.specs.Flattened.{CoversAt, IsFlattenedWithin, IsFlatFa
 ghost use Rattle.lvl_refusal.specs.Refused.{Says};
 
 use crate::boxes::Boxes;
-use crate::candidates::{Candidates, Part, narrowed};
+use crate::candidates::{Candidates, Part, narrowed, sampled};
 use crate::estimate::{Count, Estimate, Measures};
 use crate::fault::FlatFault;
 use crate::flat::Flat;
@@ -192,6 +192,30 @@ impl Fitted {
             &mut count,
         )?;
         Ok((Candidates { shapes, references }, count.estimate()))
+    }
+
+    /// The estimate of [`Fitted::narrowed`] alone, by a sample of the candidates if they are many.
+    pub fn sampled(&self, candidates: &Candidates, window: &Window) -> Estimate {
+        let mut count = Count::new(window);
+        sampled(
+            &self.checked,
+            &self.boxes,
+            &self.measures,
+            Part::Shape,
+            &candidates.shapes,
+            window,
+            &mut count,
+        );
+        sampled(
+            &self.checked,
+            &self.boxes,
+            &self.measures,
+            Part::Reference,
+            &candidates.references,
+            window,
+            &mut count,
+        );
+        count.estimate()
     }
 
     /// What [`Fitted::within`] returns, found from candidates for the window: only these own shapes

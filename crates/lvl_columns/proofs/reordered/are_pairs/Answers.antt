@@ -1,8 +1,7 @@
-use Rattle.std.proofs.Common.{◌≡◌, ℕ, ◌<◌, ◌↔◌, List, [], get_or, length, refl, subst, sym, ap, ◌∙◌, arith, rules}
+use Rattle.std.proofs.Common.{◌≡◌, ℕ, ◌↔◌, List, [], get_or, refl, subst, ap, ◌∙◌, arith, rules}
 use Rattle.std.proofs.Common.{below_more}
 use Rattle.std.proofs.lemmas.List.{get_or_default}
 use Rattle.lvl_grid.specs.declared.point.Point.{Point}
-use Rattle.lvl_grid.specs.declared.point.Square.{Square}
 use Rattle.lvl_grid.specs.Winding.{Covers}
 use Rattle.lvl_columns.specs.declared.reordered.Keyed.{Keyed}
 use Rattle.lvl_columns.proofs.reordered.are_pairs.Goals as goal
