@@ -6,11 +6,8 @@ use Rattle.lvl_io.specs.Bytes.{CountsFailure}
 use Rattle.std.specs.Prelude.{string_bytes}
 use Rattle.lvl_profile.specs.Ignored.{comma}
 use Rattle.lvl_profile.specs.declared.ignore.Ignore.{Ignore}
-use Rattle.lvl_region.specs.declared.region.Side.{Side}
-use Rattle.lvl_region.specs.declared.region.Side.TheVariants.{First, Second}
 use Rattle.lvl_report.specs.declared.hint.Hint.{Hint}
-use Rattle.lvl_report.specs.declared.hint.Hint.TheVariants.{IgnoreMore, LiftLimits, Unpack, WithoutBlocks, NameTop}
-use Rattle.lvl_report.specs.declared.hint.Hint.TheVariants.{NameTopOf}
+use Rattle.lvl_report.specs.declared.hint.Hint.TheVariants.{IgnoreMore, LiftLimits, Unpack, WithoutBlocks}
 use Rattle.lvl_report.specs.declared.outcome.Outcome.{Outcome}
 use Rattle.lvl_text.specs.Faults.{ignore_fault, view_fault}
 use Rattle.lvl_report.specs.Texts.{line}
@@ -57,11 +54,6 @@ ignore_words i =
     ++ listed (i.properties || i.texts) i.names (codes "names")
     ++ listed (i.properties || i.texts || i.names) i.padding (codes "padding")
 
--- the option that names the top of one of two files
-abbrev pub top_option : Side → List ℕ
-top_option First = codes "--top-a"
-top_option Second = codes "--top-b"
-
 -- what would mend a refusal, on one line
 abbrev pub hint_text : Hint → List ℕ
 hint_text (IgnoreMore more) = codes "lvl: try --ignore " ++ ignore_words more ++ codes ", or --ignore all\n"
@@ -70,19 +62,17 @@ hint_text Unpack =
     line (codes "lvl: neither GDSII nor OASIS: " ++ codes "if the file is compressed (gzip), unpack it first")
 hint_text WithoutBlocks =
     line (codes "lvl: a compressed block: " ++ codes "write the file without CBLOCK compression")
-hint_text NameTop = line (codes "lvl: several cells could be the top: name one by " ++ codes "--top")
-hint_text (NameTopOf side) = line (codes "lvl: several cells could be the top: name one by " ++ top_option side)
 
--- what is written for an answer: its hint, or the line on grid steps
+-- what is written for an answer: its hint, or its line
 abbrev pub said_of : Option Hint → Option (List ℕ) → List ℕ
-said_of (Some hint) steps = hint_text hint
+said_of (Some hint) text = hint_text hint
 said_of None (Some text) = text
 said_of None None = []
 
--- what a job writes to standard error: the hint of its answer if it has one, that the grid steps of two files differ, or
--- why there is no answer
+-- what a job writes to standard error: the hint of its answer if it has one, or else which cells could be the top or that
+-- the grid steps of two files differ; or why there is no answer
 abbrev pub end_text : Result Outcome JobFault → List ℕ
-end_text (Ok outcome) = said_of outcome.hint (option_map (λ text. text.items) outcome.steps)
+end_text (Ok outcome) = said_of outcome.hint (option_map (λ text. text.items) outcome.line)
 end_text (Err fault) = fault_text fault
 
 -- whether the output of a job failed

@@ -3,7 +3,7 @@ ghost use Rattle.std.specs.Prelude.{◌≡◌, ◌++◌, codes, decimal, IfErr, 
 ghost use Rattle.std.specs.Prelude.{ℕ, List, Option};
 ghost use Rattle.std.specs.Io.KnownBytes.{Appends};
 ghost use Rattle.lvl_io.specs.Bytes.{CountsFailure, failed};
-ghost use Rattle.lvl_job.specs.Ends.{IsSaid, fault_text, end_text, hint_text, ignore_words, is_cut, said_of, top_option};
+ghost use Rattle.lvl_job.specs.Ends.{IsSaid, fault_text, end_text, hint_text, ignore_words, is_cut, said_of};
 ghost use Rattle.lvl_job.specs.inside.Steps.{IsPut, IsSaidBy, Says};
 ghost use Rattle.lvl_report.specs.Texts.{line};
 ghost use Rattle.lvl_report.specs.Writing.{AppendsBeginning};
@@ -12,7 +12,6 @@ use crate::fault::JobFault;
 use itoa::Buffer;
 use lvl_io::{Failure, Write};
 use lvl_profile::Ignore;
-use lvl_region::Side;
 use lvl_report::{Hint, Outcome};
 use lvl_text::{ignore_fault, view_fault};
 
@@ -160,16 +159,6 @@ fn ignore_words(ignore: Ignore) -> &'static str
     }
 }
 
-/// The option that names the top of one of two files.
-fn top_option(side: Side) -> &'static str
-    ensures { result.now ≡ top_option side }
-{
-    match side {
-        Side::First => "--top-a",
-        Side::Second => "--top-b",
-    }
-}
-
 /// Writes what to ignore so that more is read, or that all may be ignored, since more may come.
 fn say_ignore<E: Write>(err: &mut E, more: Ignore)
     ensures { IsSaid (hint_text (Hint.IgnoreMore more)) (E.contents err.old) (E.contents err.new)
@@ -199,29 +188,19 @@ fn say_hint<E: Write>(err: &mut E, hint: Hint)
             "lvl: a compressed block: ",
             "write the file without CBLOCK compression",
         ),
-        Hint::NameTop => say_line(
-            err,
-            "lvl: several cells could be the top: name one by ",
-            "--top",
-        ),
-        Hint::NameTopOf(side) => say_line(
-            err,
-            "lvl: several cells could be the top: name one by ",
-            top_option(side),
-        ),
     }
 }
 
-/// Writes on one line what would mend a refusal, if anything would, or that the grid steps of two files differ. If that
-/// fails, nothing more is written.
+/// Writes on one line what would mend a refusal, if anything would, or else the line of the outcome: which cells could be
+/// the top, or that the grid steps of two files differ. If that fails, nothing more is written.
 pub(crate) fn say_outcome<E: Write>(err: &mut E, outcome: &Outcome)
-    ensures { IsSaid (said_of outcome.now.hint (option_map (λ text. text.items) outcome.now.steps))
+    ensures { IsSaid (said_of outcome.now.hint (option_map (λ text. text.items) outcome.now.line))
         (E.contents err.old) (E.contents err.new) (E.write_errors err.old) (E.write_errors err.new) }
 {
     if let Some(hint) = outcome.hint {
         return say_hint(err, hint);
     }
-    if let Some(text) = &outcome.steps {
+    if let Some(text) = &outcome.line {
         let _ = write_all(err, text);
     }
 }
