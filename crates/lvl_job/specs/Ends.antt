@@ -10,6 +10,8 @@ use Rattle.lvl_report.specs.declared.hint.Hint.{Hint}
 use Rattle.lvl_report.specs.declared.hint.Hint.TheVariants.{IgnoreMore, LiftLimits, Unpack, WithoutBlocks}
 use Rattle.lvl_report.specs.declared.outcome.Outcome.{Outcome}
 use Rattle.lvl_text.specs.Faults.{ignore_fault, view_fault}
+use Rattle.lvl_view.specs.declared.fault.ViewFault.{ViewFault}
+use Rattle.lvl_view.specs.declared.fault.ViewFault.TheVariants.{EmptyWindow, MapText, MapTwice, WindowText}
 use Rattle.lvl_report.specs.Texts.{line}
 use Rattle.lvl_report.specs.Writing.{status_code, AppendsBeginning}
 use Rattle.lvl_job.specs.declared.fault.JobFault.{JobFault}
@@ -32,10 +34,21 @@ abbrev pub end_code : Result Outcome JobFault → ℕ
 end_code (Ok outcome) = status_code outcome.status
 end_code (Err fault) = fault_code fault
 
--- why a job has no answer, on one line
+-- the rest of the line of a fault of a view, and a line with the form that was expected
+abbrev pub view_form : ViewFault → List ℕ
+view_form MapText = codes "\nlvl: --map takes pairs L/D=L/D, joined by commas\n"
+view_form WindowText = codes "\nlvl: --window takes x=A..B,y=C..D\n"
+view_form (MapTwice layer) = codes "\n"
+view_form EmptyWindow = codes "\n"
+
+-- the same for a fault of what is ignored
+abbrev pub ignore_form : List ℕ
+ignore_form = codes "\nlvl: --ignore takes properties, texts, names, padding or all, joined by commas\n"
+
+-- why a job has no answer, on one line, and the form of a text that was expected on another
 abbrev pub fault_text : JobFault → List ℕ
-fault_text (BadView fault) = line (codes "lvl: bad view " ++ view_fault fault)
-fault_text (BadIgnore fault) = line (codes "lvl: bad ignore " ++ ignore_fault fault)
+fault_text (BadView fault) = codes "lvl: bad view " ++ view_fault fault ++ view_form fault
+fault_text (BadIgnore fault) = codes "lvl: bad ignore " ++ ignore_fault fault ++ ignore_form
 fault_text (NotOpened name) = line (codes "lvl: cannot open " ++ string_bytes name)
 fault_text (UnreadList name) = codes "lvl: " ++ string_bytes name ++ codes ": cannot read\n"
 fault_text (LongList name) = codes "lvl: " ++ string_bytes name ++ codes ": too long\n"

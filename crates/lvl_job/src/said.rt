@@ -3,7 +3,7 @@ ghost use Rattle.std.specs.Prelude.{◌≡◌, ◌++◌, codes, decimal, IfErr, 
 ghost use Rattle.std.specs.Prelude.{ℕ, List, Option};
 ghost use Rattle.std.specs.Io.KnownBytes.{Appends};
 ghost use Rattle.lvl_io.specs.Bytes.{CountsFailure, failed};
-ghost use Rattle.lvl_job.specs.Ends.{IsSaid, fault_text, end_text, hint_text, ignore_words, is_cut, said_of};
+ghost use Rattle.lvl_job.specs.Ends.{IsSaid, fault_text, end_text, hint_text, ignore_words, is_cut, said_of, view_form};
 ghost use Rattle.lvl_job.specs.inside.Steps.{IsPut, IsSaidBy, Says};
 ghost use Rattle.lvl_report.specs.Texts.{line};
 ghost use Rattle.lvl_report.specs.Writing.{AppendsBeginning};
@@ -14,6 +14,7 @@ use lvl_io::{Failure, Write};
 use lvl_profile::Ignore;
 use lvl_report::{Hint, Outcome};
 use lvl_text::{ignore_fault, view_fault};
+use lvl_view::ViewFault;
 
 /// Writes the whole text. It fails at the first error of any kind, or if a write takes nothing of
 /// some bytes; a beginning of the text was then written.
@@ -71,16 +72,31 @@ fn write_line<E: Write>(err: &mut E, why: &str, what: &str) -> Result<(), Failur
     write_all(err, b"\n")
 }
 
-/// Writes why the list in the file of a name isn't read.
-fn say_of_list<E: Write>(err: &mut E, name: &str, why: &str)
-    ensures { IsSaid (codes "lvl: " ++ name.now ++ why.now)
+/// Writes three texts. If that fails, nothing more is written.
+fn say_parts<E: Write>(err: &mut E, first: &str, what: &str, more: &str)
+    ensures { IsSaid (first.now ++ what.now ++ more.now)
         (E.contents err.old) (E.contents err.new) (E.write_errors err.old) (E.write_errors err.new) }
 {
     let mut said = Ok(());
-    say_more(err, &mut said, b"lvl: ");
-    say_more(err, &mut said, name.as_bytes());
-    say_more(err, &mut said, why.as_bytes());
+    say_more(err, &mut said, first.as_bytes());
+    say_more(err, &mut said, what.as_bytes());
+    say_more(err, &mut said, more.as_bytes());
 }
+
+/// What comes after the name of a fault of a view: the form that was expected, on a line of its own.
+fn view_form(fault: ViewFault) -> &'static str
+    ensures { result.now ≡ view_form fault }
+{
+    match fault {
+        ViewFault::MapText => "\nlvl: --map takes pairs L/D=L/D, joined by commas\n",
+        ViewFault::WindowText => "\nlvl: --window takes x=A..B,y=C..D\n",
+        ViewFault::MapTwice(_) | ViewFault::EmptyWindow => "\n",
+    }
+}
+
+/// What comes after the name of a fault of what is ignored: the words that are expected, on a line of their own.
+const IGNORE_FORM: &str =
+    "\nlvl: --ignore takes properties, texts, names, padding or all, joined by commas\n";
 
 /// Writes that a line of the list in the file of a name is bad.
 fn say_bad_line<E: Write>(err: &mut E, name: &str, number: usize)
@@ -112,17 +128,22 @@ pub(crate) fn say_text<E: Write>(err: &mut E, text: &str)
     let _ = write_all(err, text.as_bytes());
 }
 
-/// Writes on one line why a job has no answer. If that fails, nothing more is written.
+/// Writes on one line why a job has no answer, and if a text isn't of the form that was expected, that form on another.
+/// If that fails, nothing more is written.
 pub(crate) fn say<E: Write>(err: &mut E, fault: &JobFault)
     ensures { IsSaid (fault_text fault.now) (E.contents err.old) (E.contents err.new)
         (E.write_errors err.old) (E.write_errors err.new) }
 {
     match fault {
-        JobFault::BadView(fault) => say_line(err, "lvl: bad view ", view_fault(*fault)),
-        JobFault::BadIgnore(fault) => say_line(err, "lvl: bad ignore ", ignore_fault(*fault)),
+        JobFault::BadView(fault) => {
+            say_parts(err, "lvl: bad view ", view_fault(*fault), view_form(*fault))
+        }
+        JobFault::BadIgnore(fault) => {
+            say_parts(err, "lvl: bad ignore ", ignore_fault(*fault), IGNORE_FORM)
+        }
         JobFault::NotOpened(name) => say_line(err, "lvl: cannot open ", name.as_str()),
-        JobFault::UnreadList(name) => say_of_list(err, name.as_str(), ": cannot read\n"),
-        JobFault::LongList(name) => say_of_list(err, name.as_str(), ": too long\n"),
+        JobFault::UnreadList(name) => say_parts(err, "lvl: ", name.as_str(), ": cannot read\n"),
+        JobFault::LongList(name) => say_parts(err, "lvl: ", name.as_str(), ": too long\n"),
         JobFault::BadLine(name, line) => say_bad_line(err, name.as_str(), *line),
         JobFault::OutOfMemory => say_line(err, "lvl: out of memory", ""),
         JobFault::Output => say_line(err, "lvl: output failed", ""),
