@@ -137,8 +137,7 @@ const BAD_IGNORE: &str = "lvl: bad ignore 1 IgnoreText\n\
     lvl: --ignore takes properties, texts, names, padding or all, joined by commas\n";
 
 /// What is said of a bad map.
-const BAD_MAP: &str =
-    "lvl: bad view 1 MapText\nlvl: --map takes pairs L/D=L/D, joined by commas\n";
+const BAD_MAP: &str = "lvl: bad view 1 MapText\nlvl: --map takes pairs L/D=L/D, joined by commas\n";
 
 /// Why `square` alone covers a square.
 const WHY_SQUARE: &str =
@@ -183,13 +182,7 @@ static ROWS: [(&str, u8, &str, &str, u8); 49] = [
         0,
     ),
     ("two B -", 1, "layer 2 datatype 0 rings 1\n", "", 0),
-    (
-        "two - -",
-        1,
-        "refused: first: cells 6 ManyTops\n",
-        TOPS,
-        2,
-    ),
+    ("two - -", 1, "refused: first: cells 6 ManyTops\n", TOPS, 2),
     (
         "square two - - - - -",
         2,
@@ -236,13 +229,7 @@ static ROWS: [(&str, u8, &str, &str, u8); 49] = [
     ("digest none - -", 1, "", "lvl: cannot open none\n", 2),
     ("none two - - - - -", 1, "", "lvl: cannot open none\n", 2),
     ("two other - - - - -", 2, "", "lvl: cannot open other\n", 2),
-    (
-        "none two - - 1/0 - -",
-        0,
-        "",
-        BAD_MAP,
-        3,
-    ),
+    ("none two - - 1/0 - -", 0, "", BAD_MAP, 3),
     ("square tagged - - - - properties", 2, "same\n", STEPS, 0),
     ("units square tagged - - - - properties", 2, "", STEPS, 2),
     (
@@ -328,14 +315,14 @@ static ROWS: [(&str, u8, &str, &str, u8); 49] = [
     ("digest tagged - -", 1, UNREAD_FIRST, TRY_PROPERTIES, 2),
     ("none two - - - - property", 0, "", BAD_IGNORE, 3),
     ("square square - - - - all,", 0, "", BAD_IGNORE, 3),
+    ("none two - - 1/0 - property", 0, "", BAD_MAP, 3),
     (
-        "none two - - 1/0 - property",
-        0,
+        "cells two -",
+        1,
+        "cell B shapes 1 references 0 top\n",
         "",
-        BAD_MAP,
-        3,
+        0,
     ),
-    ("cells two -", 1, "cell B shapes 1 references 0 top\n", "", 0),
     (
         "cells square all",
         1,

@@ -66,10 +66,7 @@ fn push_list_answer(text: &mut Vec<u8>, answer: &Result<CellList, Refusal>) -> i
 
 /// The text of what is listed: what the file says about itself, the number of its cells, and a line for each.
 /// A refusal is one line. It fails only if it is out of memory.
-pub fn form_list(
-    alloc: Global,
-    answer: &Result<CellList, Refusal>,
-) -> Result<Vec<u8>, AllocError>
+pub fn form_list(alloc: Global, answer: &Result<CellList, Refusal>) -> Result<Vec<u8>, AllocError>
     ensures { IfOk result (λ text. text.items ≡ text_of_list answer.now) }
 {
     let mut text = Vec::new(alloc);
