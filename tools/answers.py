@@ -38,11 +38,11 @@ def ignored(text):
 
 
 class Refused(Exception):
-    def __init__(self, step, number, name, *values, at=None, allows=None, listed=False):
+    def __init__(self, step, number, name, *values, at=None, allows=None, listed=False, tops=()):
         words = [step, number, name, *values] + ([] if at is None else ["at", at])
         super().__init__(" ".join(str(word) for word in words))
         self.step, self.number, self.values, self.at, self.allows = step, number, values, at, allows
-        self.listed = listed
+        self.listed, self.tops = listed, tops
 
 
 class Lattice:
@@ -157,7 +157,7 @@ def top_of(cells, top):
         raise Refused("cells", 5, "TopMissing")
     free = [name for name in names if all(name != r.cell for cell in cells for r in cell.references)]
     if top is None and len(free) > 1:
-        raise Refused("cells", 6, "ManyTops")
+        raise Refused("cells", 6, "ManyTops", tops=free)
     return free[0] if top is None else top
 
 

@@ -16,7 +16,7 @@ PAGE = ROOT / "docs" / "BELIEVE.md"
 
 SUBJECTS = {
     "The verdict": ["lvl", "lvl_refusal", "lvl_region"],
-    "Cells": ["lvl_cells", "lvl_names", "lvl_flat"],
+    "Cells": ["lvl_cells", "lvl_names", "lvl_count", "lvl_flat"],
     "Paths": ["lvl_path"],
     "The grid": ["lvl_grid"],
     "What is ignored": ["lvl_profile"],

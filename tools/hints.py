@@ -14,8 +14,8 @@ The table, from a refusal to its hint:
     oasis  24 Unsupported               11, 12, 30, 31                     try --ignore names
     oasis  24 Unsupported               34                                 a compressed block: write the file
                                                                            without CBLOCK compression
-    cells  6 ManyTops                                                      several cells could be the top:
-                                                                           name one by --top-a
+    cells  6 ManyTops                                                      the first file has 2 tops: A, B:
+                                                                           choose one by --top-a
 
     gds    5 TooLong, 26 Repetition,                                       try --large
            27 TooManyCells
@@ -24,8 +24,8 @@ The table, from a refusal to its hint:
     cells  7 TooManyPlacements,                                            try --large
            8 TooManyRings
 
-Each begins with `lvl: `. The one that names --top-a or --top-b, by the side, and --top for show and digest. If
-other words were given, a hint to --ignore has them too, in the order properties, texts, names, padding, since the
+Each begins with `lvl: `. The one on tops has the first eight names in file order, and then `..` if there are more; it
+names --top-a or --top-b, by the side, or of show and digest `the file` and --top. If other words were given, a hint to --ignore has them too, in the order properties, texts, names, padding, since the
 option can be given only once, and goes on `, or --ignore all`. If the word itself was given, there is no hint.
 """
 
@@ -61,6 +61,13 @@ def is_lifted(answer):
     return found is not None and (found.group(1), int(found.group(2))) in LIFTED
 
 
+def tops(names, option):
+    """The line that names the cells that could be the top, which the option chooses."""
+    which = {"--top": "file", "--top-a": "first file", "--top-b": "second file"}[option]
+    named = ", ".join([*names[:8], *[".."][:len(names) > 8]])
+    return "lvl: the %s has %d tops: %s: choose one by %s\n" % (which, len(names), named, option)
+
+
 def hint(refused, option, given):
     """The text on standard error, from the refusal of a file, the option that names its top, and the words of
     --ignore that were given."""
@@ -76,5 +83,5 @@ def hint(refused, option, given):
     if fault == ("oasis", 24) and value == 34:
         return "lvl: a compressed block: write the file without CBLOCK compression\n"
     if fault == ("cells", 6):
-        return "lvl: several cells could be the top: name one by %s\n" % option
+        return tops(refused.tops, option)
     return ""

@@ -304,7 +304,7 @@ def is_right(program, case, folder, has_hints):
         os.remove(name)
     last = case.answer[-1]
     status = 2 if last.startswith("refused") else 1 if last.startswith("differ") else 0
-    hint = "lvl: several cells could be the top: name one by --top\n" if last.endswith("ManyTops") else ""
+    hint = hints.tops(["%07d" % at for at in range(CELLS)], "--top") if last.endswith("ManyTops") else ""
     if hints.is_lifted(last) and "--large" not in case.words and "oasis list" not in case.what:
         hint = hints.LIFT
     errors = hint if has_hints else ""

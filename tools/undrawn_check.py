@@ -36,6 +36,9 @@ OASIS = {
 }
 ALL = "properties,texts,names,padding"
 
+BAD_IGNORE = (
+    "lvl: bad ignore 1 IgnoreText\nlvl: --ignore takes properties, texts, names, padding or all, joined by commas\n"
+)
 PACKED = "neither GDSII nor OASIS: if the file is compressed (gzip), unpack it first"
 # What is added before which record, the words of --ignore, and the answer. The offsets are by docs/FORMATS.md: in
 # square.gds BGNLIB 6, LIBNAME 34, UNITS 40, BGNSTR 60, STRNAME 88, BOUNDARY 96, LAYER 100, XY 112, ENDEL 156,
@@ -266,7 +269,7 @@ HINTS = [
     ("gds", "1F8B0800", "ENDEL", "", None),
     ("gds", "1F8D0800", "HEADER", "", PACKED),
     ("gds", "00040700 001C0502" + "00" * 24 + "00060606 4100", "ENDSTR", "",
-     "several cells could be the top: name one by --top"),
+     "the file has 2 tops: TOP, A: choose one by --top"),
     ("oasis", "1D", "CELL", "", "try --ignore properties"),
     ("oasis", "07 01 41", "CELL", "padding,names", "try --ignore properties,names,padding"),
     ("oasis", "07 01 41", "CELL", "padding,names,texts", "try --ignore properties,texts,names,padding"),
@@ -278,7 +281,7 @@ HINTS = [
     ("oasis", "0D" + "80" * 256 + "00", "CELL", "padding", None),
     ("oasis", "22", "CELL", "all", "a compressed block: write the file without CBLOCK compression"),
     ("oasis", "17", "RECTANGLE", "", None),
-    ("oasis", "0E 01 41", "CELL", "", "several cells could be the top: name one by --top"),
+    ("oasis", "0E 01 41", "CELL", "", "the file has 2 tops: A, TOP: choose one by --top"),
 ]
 
 
@@ -346,7 +349,7 @@ def texts(program):
         if program:
             words_of_line = [program, "show", "/missing/file", "--ignore=" + text]
             bad = subprocess.run(words_of_line, capture_output=True, text=True)
-            said = "lvl: bad ignore 1 IgnoreText\n" if words is None else "lvl: cannot open /missing/file\n"
+            said = BAD_IGNORE if words is None else "lvl: cannot open /missing/file\n"
             expected = "", said, 3 if words is None else 2
             yield checked("--ignore=%s" % text, (bad.stdout, bad.stderr, bad.returncode), expected)
 

@@ -10,8 +10,18 @@ _lvl() {
     local word=${COMP_WORDS[COMP_CWORD]} before=${COMP_WORDS[COMP_CWORD-1]}
     COMPREPLY=()
     if [ "$COMP_CWORD" -eq 1 ]; then
-        COMPREPLY=($(compgen -W "compare show digest help --help --version" -- "$word"))
+        COMPREPLY=($(compgen -W "compare show digest cells help --help --version" -- "$word"))
         return
+    fi
+    if [ "${COMP_WORDS[1]}" = help ]; then
+        COMPREPLY=($(compgen -W "compare show digest cells" -- "$word"))
+        return
+    fi
+    # bash parts a word at an equals sign
+    if [ "$word" = = ]; then
+        word=
+    elif [ "$before" = = ]; then
+        before=${COMP_WORDS[COMP_CWORD-2]}
     fi
     case $before in
     --top | --top-a | --top-b | --map | --window) return ;;
@@ -22,7 +32,8 @@ _lvl() {
     show:-*) COMPREPLY=($(compgen -W "--top --ignore --large --progress --no-progress --help" -- "$word")) ;;
     digest:-*)
         COMPREPLY=($(compgen -W "--top --ignore --large --list --check --quiet --progress --no-progress --help" -- "$word")) ;;
-    *) COMPREPLY=($(compgen -f -- "$word")) ;;
+    cells:-*) COMPREPLY=($(compgen -W "--ignore --large --progress --no-progress --help" -- "$word")) ;;
+    *) local IFS=$'\n'; COMPREPLY=($(compgen -f -- "$word")) ;;
     esac
 }
 complete -o filenames -F _lvl lvl

@@ -68,9 +68,19 @@ fn compare_of(alloc: Global, words: &[&str], why: bool, units: bool) -> Result<J
     })
 }
 
+/// The job that lists the cells of a file.
+fn cells_of(alloc: Global, file: &str, ignore: &str) -> Result<Job, AllocError> {
+    Ok(Job::Cells {
+        file: String::from_str(alloc, file)?,
+        ignore: given(alloc, ignore)?,
+        large: false,
+    })
+}
+
 /// The job of a line in order: two files, two tops, a map, a window and what is ignored, each `-` where it
 /// is none, after the word `why` if the reason is asked for and `units` if the grid steps must agree; or one file, a top
-/// and what is ignored, to be shown, or hashed after the word `digest`.
+/// and what is ignored, to be shown, or hashed after the word `digest`; or, after the word `cells`, one
+/// file and what is ignored.
 fn job_of(alloc: Global, line: &str) -> Result<Job, AllocError> {
     let mut words = Vec::new(alloc);
     for word in line.split(' ') {
@@ -81,6 +91,7 @@ fn job_of(alloc: Global, line: &str) -> Result<Job, AllocError> {
         ["why", words @ ..] => compare_of(alloc, words, true, false),
         ["units", words @ ..] => compare_of(alloc, words, false, true),
         [_, _, _, _, _, _, _] => compare_of(alloc, words.as_slice(), false, false),
+        ["cells", file, ignore] => cells_of(alloc, file, ignore),
         [file, top, ignore] => Ok(Job::Show {
             file: String::from_str(alloc, file)?,
             top: given(alloc, top)?,
@@ -119,10 +130,14 @@ const UNREAD_SECOND: &str = "refused: second: gds 11 Unsupported 43 at 154\n";
 const TRY_PROPERTIES: &str = "lvl: try --ignore properties, or --ignore all\n";
 
 /// What is said of several cells that could be the top of the only file.
-const NAME_TOP: &str = "lvl: several cells could be the top: name one by --top\n";
+const TOPS: &str = "lvl: the file has 2 tops: A, B: choose one by --top\n";
 
 /// What is said of a bad word.
-const BAD_IGNORE: &str = "lvl: bad ignore 1 IgnoreText\n";
+const BAD_IGNORE: &str = "lvl: bad ignore 1 IgnoreText\n\
+    lvl: --ignore takes properties, texts, names, padding or all, joined by commas\n";
+
+/// What is said of a bad map.
+const BAD_MAP: &str = "lvl: bad view 1 MapText\nlvl: --map takes pairs L/D=L/D, joined by commas\n";
 
 /// Why `square` alone covers a square.
 const WHY_SQUARE: &str =
@@ -132,7 +147,7 @@ const WHY_SQUARE: &str =
 const STEPS: &str = "lvl: the grid steps differ: 1 nm in the first file, 2 nm in the second\n";
 
 /// A job, how many files are asked for, the last line of what it writes, what it says, and its status.
-static ROWS: [(&str, u8, &str, &str, u8); 44] = [
+static ROWS: [(&str, u8, &str, &str, u8); 49] = [
     ("square square - - - - -", 2, "same\n", "", 0),
     ("square two - A - - -", 2, "same\n", "", 0),
     (
@@ -167,25 +182,19 @@ static ROWS: [(&str, u8, &str, &str, u8); 44] = [
         0,
     ),
     ("two B -", 1, "layer 2 datatype 0 rings 1\n", "", 0),
-    (
-        "two - -",
-        1,
-        "refused: first: cells 6 ManyTops\n",
-        NAME_TOP,
-        2,
-    ),
+    ("two - -", 1, "refused: first: cells 6 ManyTops\n", TOPS, 2),
     (
         "square two - - - - -",
         2,
         "refused: second: cells 6 ManyTops\n",
-        "lvl: several cells could be the top: name one by --top-b\n",
+        "lvl: the second file has 2 tops: A, B: choose one by --top-b\n",
         2,
     ),
     (
         "two square - - - - all",
         2,
         "refused: first: cells 6 ManyTops\n",
-        "lvl: several cells could be the top: name one by --top-a\n",
+        "lvl: the first file has 2 tops: A, B: choose one by --top-a\n",
         2,
     ),
     (
@@ -214,19 +223,13 @@ static ROWS: [(&str, u8, &str, &str, u8); 44] = [
         "digest two - -",
         1,
         "refused: first: cells 6 ManyTops\n",
-        NAME_TOP,
+        TOPS,
         2,
     ),
     ("digest none - -", 1, "", "lvl: cannot open none\n", 2),
     ("none two - - - - -", 1, "", "lvl: cannot open none\n", 2),
     ("two other - - - - -", 2, "", "lvl: cannot open other\n", 2),
-    (
-        "none two - - 1/0 - -",
-        0,
-        "",
-        "lvl: bad view 1 MapText\n",
-        3,
-    ),
+    ("none two - - 1/0 - -", 0, "", BAD_MAP, 3),
     ("square tagged - - - - properties", 2, "same\n", STEPS, 0),
     ("units square tagged - - - - properties", 2, "", STEPS, 2),
     (
@@ -263,7 +266,7 @@ static ROWS: [(&str, u8, &str, &str, u8); 44] = [
         "units square two - - - - -",
         2,
         "refused: second: cells 6 ManyTops\n",
-        "lvl: several cells could be the top: name one by --top-b\n",
+        "lvl: the second file has 2 tops: A, B: choose one by --top-b\n",
         2,
     ),
     (
@@ -312,13 +315,24 @@ static ROWS: [(&str, u8, &str, &str, u8); 44] = [
     ("digest tagged - -", 1, UNREAD_FIRST, TRY_PROPERTIES, 2),
     ("none two - - - - property", 0, "", BAD_IGNORE, 3),
     ("square square - - - - all,", 0, "", BAD_IGNORE, 3),
+    ("none two - - 1/0 - property", 0, "", BAD_MAP, 3),
     (
-        "none two - - 1/0 - property",
-        0,
+        "cells two -",
+        1,
+        "cell B shapes 1 references 0 top\n",
         "",
-        "lvl: bad view 1 MapText\n",
-        3,
+        0,
     ),
+    (
+        "cells square all",
+        1,
+        "cells: 1\ncell T shapes 1 references 0 top\n",
+        "",
+        0,
+    ),
+    ("cells tagged -", 1, UNREAD_FIRST, TRY_PROPERTIES, 2),
+    ("cells none -", 1, "", "lvl: cannot open none\n", 2),
+    ("cells square al", 0, "", BAD_IGNORE, 3),
     ("square - ALL", 0, "", BAD_IGNORE, 3),
     ("digest square - ,", 0, "", BAD_IGNORE, 3),
 ];

@@ -21,6 +21,8 @@ enum Asks<'a> {
     List(&'a [&'a str], Option<&'a str>, Option<&'a str>),
     /// A list to be checked, whether quietly, the top of each file, and what is ignored.
     Check(&'a str, bool, Option<&'a str>, Option<&'a str>),
+    /// A file whose cells are listed, and what is ignored.
+    Cells(&'a str, Option<&'a str>),
     /// The limits for whole chips, and anything else.
     Large,
     /// The reason of a difference, and anything else.
@@ -153,10 +155,21 @@ fn is_asked(asks: Asks<'_>, answer: &Result<Job, LineFault>) -> bool {
             ),
         ) => file.as_str() == a && is_text(top, name) && is_text(ignore, words),
         (
+            Asks::Cells(a, words),
+            Ok(
+                Job::Cells {
+                    file,
+                    ignore,
+                    large: false,
+                },
+            ),
+        ) => file.as_str() == a && is_text(ignore, words),
+        (
             Asks::Large,
             Ok(
                 Job::Compare { large, .. }
                 | Job::Show { large, .. }
+                | Job::Cells { large, .. }
                 | Job::Digest { large, .. }
                 | Job::List { large, .. }
                 | Job::Check { large, .. },
@@ -179,7 +192,7 @@ fn words_of(alloc: Global, line: &'static str) -> Result<Vec<&'static str>, Allo
     Ok(words)
 }
 
-static LINES: [(&str, Asks<'static>); 57] = [
+static LINES: [(&str, Asks<'static>); 62] = [
     ("lvl compare a b", Asks::Compare("a", "b", None, None)),
     (
         "lvl compare a b --top-a X --top-b Y",
@@ -247,6 +260,20 @@ static LINES: [(&str, Asks<'static>); 57] = [
     (
         "lvl show --ignore=X --top=all a",
         Asks::Show("a", Some("all"), Some("X")),
+    ),
+    ("lvl cells a", Asks::Cells("a", None)),
+    (
+        "lvl cells --ignore names a",
+        Asks::Cells("a", Some("names")),
+    ),
+    ("lvl cells --large a", Asks::Large),
+    (
+        "lvl cells a --top X",
+        Asks::Nothing(ErrorKind::UnknownArgument),
+    ),
+    (
+        "lvl cells",
+        Asks::Nothing(ErrorKind::MissingRequiredArgument),
     ),
     ("lvl digest a", Asks::Digest("a", None, None)),
     ("lvl digest --top X a", Asks::Digest("a", Some("X"), None)),

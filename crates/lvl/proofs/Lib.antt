@@ -12,3 +12,4 @@ pub mod Hashing
 pub mod Listing
 pub mod Reasoning
 pub mod Measuring
+pub mod CellLists

@@ -14,7 +14,7 @@ use Rattle.lvl_cells.proofs.Arcs.{once_named}
 use Rattle.std.proofs.lemmas.List.{length-map}
 use Rattle.std.proofs.lemmas.Option.{slice_get-get_or}
 use Rattle.lvl_cells.specs.Checks.{Settled, IsSettled}
-use Rattle.lvl_cells.specs.declared.fault.CellFault.{CellFault}
+use Rattle.lvl.specs.declared.verdict.CellRefusal.{CellRefusal}
 use Rattle.lvl_flat.specs.Flattened.{IsFlatFault, IsOutOfRange}
 use Rattle.lvl_flat.specs.declared.fault.FlatFault.{FlatFault}
 use Rattle.lvl_flat.specs.declared.fault.FlatFault.TheVariants.{OutOfRange}
@@ -49,7 +49,7 @@ by_found P file cells head read p others h s = subst P (found_as file cells head
 
 pub cell_reported : (file : File) (cells : List (PlainCell Rings)) (head : Head)
     → IsLayoutOf file.profile file.bytes cells head
-    → (fault : CellFault) → IsCellFault (record { limits = file.profile.limits; cells = cells; top = file.top }) fault
+    → (fault : CellRefusal) → IsCellFault (record { limits = file.profile.limits; cells = cells; top = file.top }) fault
     → (others : List Drawing) (h : Head) → Spells file.profile file.bytes others h
     → IsCellFault (kept_of file others) fault
 cell_reported file cells head read fault reported =
@@ -57,7 +57,7 @@ cell_reported file cells head read fault reported =
 
 pub cell_unaccepted : (file : File) (cells : List (PlainCell Rings)) (head : Head)
     → IsLayoutOf file.profile file.bytes cells head
-    → (fault : CellFault) → IsCellFault (record { limits = file.profile.limits; cells = cells; top = file.top }) fault → IsUnaccepted file
+    → (fault : CellRefusal) → IsCellFault (record { limits = file.profile.limits; cells = cells; top = file.top }) fault → IsUnaccepted file
 cell_unaccepted file cells head read fault reported others top accepted =
     let here = cell_reported file cells head read fault reported others accepted.head accepted.spelled in
     let fits = (fits_kept file.profile.limits figure_rings others top).0 accepted.fits in

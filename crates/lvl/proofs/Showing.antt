@@ -16,7 +16,7 @@ use Rattle.lvl.specs.declared.verdict.Refusal.{Refusal}
 use Rattle.lvl.specs.declared.verdict.Refusal.TheVariants.{File as FileRefusal, Cells as CellsRefusal}
 use Rattle.lvl.specs.declared.verdict.Refusal.TheVariants.{Flat as FlatRefusal, OutOfMemory}
 use Rattle.lvl.specs.Layouts.{File, Spells, SpellsSome, IsLayoutOf}
-use Rattle.lvl_cells.specs.declared.fault.CellFault.{CellFault}
+use Rattle.lvl.specs.declared.verdict.CellRefusal.{CellRefusal}
 use Rattle.lvl_flat.specs.declared.fault.FlatFault.{FlatFault}
 use Rattle.lvl_region.specs.declared.region.Side.{Side}
 use Rattle.lvl.specs.Kept.{Kept}
@@ -107,7 +107,7 @@ pub file_shown : (file : File) (found : List (PlainCell Rings)) (head : Head)
 file_shown file found head read (Ok shown) head_is k = shown_lifted file found head read shown head_is k
 file_shown file found head read (Err r) head_is k = tt
 
-passed_cells : (side : Side) (file : File) (f : CellFault) → side ≡ First → SpellsSome file.profile file.bytes
+passed_cells : (side : Side) (file : File) (f : CellRefusal) → side ≡ First → SpellsSome file.profile file.bytes
     → HasPassed First file (CellsRefusal side f)
 passed_cells First file f e some = some
 passed_cells Second file f e some = cc

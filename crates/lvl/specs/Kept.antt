@@ -1,5 +1,5 @@
 -- The steps after the reading, on libraries of rings.
-use Rattle.std.specs.Prelude.{◌≡◌, ⊤, ℕ, List, Option, Some, slice_get}
+use Rattle.std.specs.Prelude.{◌≡◌, ⊤, ℕ, List, Option, Some, None, slice_get}
 use Rattle.lvl_grid.specs.Winding.{SomeCovers}
 use Rattle.lvl_cells.specs.Cells.{PlainCell, Rings}
 use Rattle.lvl_grid.specs.declared.point.Square.{Square}
@@ -9,13 +9,14 @@ use Rattle.lvl_columns.specs.Windows.{IsShown}
 use Rattle.lvl_profile.specs.declared.limits.Limits.{Limits}
 use Rattle.lvl_cells.specs.Checks.{Settled, IsSettled, PlacesFew}
 use Rattle.lvl_cells.specs.Faults.{IsFaultOf, IsSoundWith}
-use Rattle.lvl_cells.specs.declared.fault.CellFault.{CellFault}
+use Rattle.lvl_count.specs.Listed.{tops}
 use Rattle.lvl_flat.specs.Flattened.{AllInRange, IsFlatFault}
 use Rattle.lvl_flat.specs.declared.fault.FlatFault.{FlatFault}
 use Rattle.lvl_region.specs.declared.region.Side.TheVariants.{First, Second}
 use Rattle.lvl_view.specs.Views.{PlainView}
 use Rattle.lvl_view.specs.Moved.{IsMoved}
 use Rattle.lvl.specs.Views.{IsVerdictOf}
+use Rattle.lvl.specs.declared.verdict.CellRefusal.{CellRefusal}
 use Rattle.lvl.specs.declared.verdict.Verdict.{Verdict}
 use Rattle.lvl.specs.declared.verdict.Refusal.{Refusal}
 use Rattle.lvl.specs.declared.verdict.Refusal.TheVariants.{File as FileRefusal, Cells as CellsRefusal}
@@ -36,10 +37,12 @@ pub record IsCheckedAs (k : Kept) (s : Settled) : Type 0 where
 abbrev pub Passes : Kept → Type 0
 Passes k = (s : Settled) × IsCheckedAs k s
 
--- the fault is true, so the check of cells refuses the library
-pub record IsCellFault (k : Kept) (fault : CellFault) : Type 0 where
-  pub reported : IsFaultOf k.limits k.cells k.top fault
+-- the fault is true, so the check of cells refuses the library; and if no top is named, the names are those of the cells
+-- to which no cell refers
+pub record IsCellFault (k : Kept) (r : CellRefusal) : Type 0 where
+  pub reported : IsFaultOf k.limits k.cells k.top r.fault
   pub unsound : ¬ IsSoundWith k.cells k.top (PlacesFew k.limits k.cells)
+  pub tops_are : k.top ≡ None → r.tops.items ≡ tops k.cells
 
 -- the library passes the check of cells, but what its top places is out of range, as the fault says
 pub record IsRangeFault (k : Kept) (fault : FlatFault) : Type 0 where

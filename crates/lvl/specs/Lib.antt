@@ -11,3 +11,4 @@ pub mod Views
 pub mod Reasons
 pub mod Steps
 pub mod Measured
+pub mod Listings

@@ -4,7 +4,8 @@
 //! Layer. It returns a [`Verdict`] or a [`Refusal`]. [`compare_view`] does the same with the Layers
 //! of the second file mapped, and only within a window, [`explain_files`] says why two files differ,
 //! and [`compare_measured`] compares only files whose grid steps agree. [`show_file`] returns what
-//! one file has, and [`digest_file`] a digest of the mask that it draws. Each format is a variant of
+//! one file has, [`digest_file`] a digest of the mask that it draws, and [`list_cells`] its cells,
+//! whether they are sound or not. Each format is a variant of
 //! [`Layout`], [`Head`] and [`FileFault`].
 //!
 //! `one` and `other` are two files in memory that draw the same:
@@ -24,20 +25,23 @@
 //! ```
 #![tactic(auto)]
 
+pub use cells::{CellList, list_cells};
 pub use compare::{compare_files, compare_layouts, compare_measured, compare_view, explain_files};
 pub use digest::{digest_file, digests_decide};
 pub use digested::{Digested, MaskDigest};
 pub use explained::Explained;
 pub use layout::{FileFault, Head, Layout, read_layout, read_layout_by, widening_keeps};
 pub use lvl_corners::{DigestedLayer, layer_line};
+pub use lvl_count::ListedCell;
 pub use lvl_why::{NamedStep, Why};
 pub use lvl_witness::PlacedRing;
 pub use measured::Measured;
 pub use show::show_file;
 pub use shown::Shown;
 pub use steps::agree_in_steps;
-pub use verdict::{Comparison, Refusal, Tops, Verdict};
+pub use verdict::{CellRefusal, Comparison, Refusal, Tops, Verdict};
 
+mod cells;
 mod compare;
 mod digest;
 mod digested;

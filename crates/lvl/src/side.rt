@@ -1,7 +1,8 @@
 //! The steps for one of two files: read it, check its cells, and test where its top places
 //! anything outside 64 bits.
-ghost use Rattle.std.specs.Prelude.{◌≡◌, ◌≢◌, List, ℕ, Some, Err, IfOk, IfErr, option_copied};
+ghost use Rattle.std.specs.Prelude.{◌≡◌, ◌≢◌, List, ℕ, Some, None, Err, IfOk, IfErr, option_copied};
 ghost use Rattle.lvl_io.specs.Bytes.{CountsFailure};
+ghost use Rattle.lvl_count.specs.Listed.{tops};
 ghost use Rattle.lvl_flat.specs.Flattened.{IsTopInRange};
 ghost use Rattle.lvl.specs.Layouts.{IsLayoutOf};
 ghost use Rattle.lvl.specs.Kept.{IsCheckedAs};
@@ -12,10 +13,12 @@ ghost use Rattle.lvl.specs.declared.layout.FileFault.{FileFault as FaultOfFile};
 ghost use Rattle.lvl.specs.declared.verdict.Refusal.TheVariants.{File as FileRefused, OutOfMemory};
 
 use crate::layout::{Head, read_layout_by};
-use crate::verdict::Refusal;
+use crate::verdict::{CellRefusal, Refusal};
 use lvl_cells::{Checked, Library, check_with};
+use lvl_count::top_names;
 use lvl_flat::Fitted;
 use lvl_io::Read;
+use lvl_names::Name;
 use lvl_profile::{Limits, Profile};
 use lvl_refusal::Cause;
 use lvl_region::Side;
@@ -57,6 +60,20 @@ fn name_of(top: &Option<Vec<u8>>) -> Option<&[u8]>
     }
 }
 
+/// The names of the cells to which no cell refers, if no top is named.
+fn tops_of(alloc: Global, library: &Library, top: Option<&[u8]>) -> Result<Vec<Name>, Refusal>
+    ensures names { IfOk result (λ names. option_copied top.entry ≡ None → names.items ≡ tops library.now) }
+    ensures memory { IfErr result (λ refusal. refusal ≡ OutOfMemory) }
+{
+    if top.is_some() {
+        return Ok(Vec::new(alloc));
+    }
+    match top_names(alloc, &library.cells) {
+        Ok(names) => Ok(names),
+        Err(_) => Err(Refusal::OutOfMemory),
+    }
+}
+
 /// The library, if it is sound for the top of that name and within the limits.
 pub(crate) fn check_named(
     alloc: Global,
@@ -68,9 +85,10 @@ pub(crate) fn check_named(
     ensures checked { IfOk result (IsCheckedAs (kept_named limits library (option_copied top.entry))) }
     ensures refused { IfErr result (IsCheckRefusal side (kept_named limits library (option_copied top.entry))) }
 {
+    let tops = tops_of(alloc, &library, top)?;
     match check_with(alloc, library, top, limits) {
         Ok(checked) => Ok(checked),
-        Err(Cause::Breach(fault)) => Err(Refusal::Cells(side, fault)),
+        Err(Cause::Breach(fault)) => Err(Refusal::Cells(side, CellRefusal { fault, tops })),
         Err(Cause::OutOfMemory) => Err(Refusal::OutOfMemory),
     }
 }

@@ -4,7 +4,7 @@ use crate::layout::{FileFault, Head};
 use lvl_cells::CellFault;
 use lvl_flat::FlatFault;
 use lvl_grid::Square;
-use lvl_names::Layer;
+use lvl_names::{Layer, Name};
 use lvl_region::Side;
 use thiserror::Error;
 
@@ -38,6 +38,14 @@ pub struct Comparison {
     pub verdict: Verdict,
 }
 
+/// Why the cells of a file aren't sound for its top, or place too much.
+#[derive(Debug, Drop)]
+pub struct CellRefusal {
+    pub fault: CellFault,
+    /// If no top was named, the names of the cells to which no cell refers, in file order.
+    pub tops: Vec<Name>,
+}
+
 /// Why two layouts weren't compared: the first step that failed, and for which side. The steps are to read
 /// both files, to check the cells of both, and to test that what both place is in range; always the first
 /// file before the second.
@@ -48,7 +56,7 @@ pub enum Refusal {
     File(Side, FileFault),
     /// Its cells aren't sound for the top, or they place too much.
     #[error("the cells of a file are refused")]
-    Cells(Side, CellFault),
+    Cells(Side, CellRefusal),
     /// What its top places doesn't fit in 64 signed bits.
     #[error("a file cannot be flattened")]
     Flat(Side, FlatFault),

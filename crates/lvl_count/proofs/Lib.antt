@@ -2,3 +2,4 @@ pub mod Listing
 pub mod Adding
 pub mod Growing
 pub mod Totals
+pub mod Referring

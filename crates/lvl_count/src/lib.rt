@@ -6,6 +6,9 @@
 //! cell is placed. Time and memory depend on the size of the library, and not on how much it
 //! places.
 //!
+//! [`listed_cells`] lists the cells of a library, sound or not, and [`top_names`] gives the names of
+//! those that could be its top.
+//!
 //! Here `checked` is a library whose top places a cell at 3 by 2 places, and that cell draws a
 //! square on `METAL`:
 //!
@@ -22,6 +25,8 @@
 #![tactic(auto)]
 
 pub use counts::{LayerRings, rings_by_layer};
+pub use listed::{ListedCell, listed_cells, top_names};
 
 mod counts;
 mod layers;
+mod listed;

@@ -5,14 +5,13 @@ use Rattle.std.specs.Io.KnownBytes.{Keeps}
 use Rattle.std.specs.Global.{Global}
 use Rattle.std.specs.Prelude.{String, string_bytes}
 use Rattle.lvl_line.specs.declared.job.Job.{Job}
-use Rattle.lvl_line.specs.declared.job.Job.TheVariants.{Compare, Digest, Show}
+use Rattle.lvl_line.specs.declared.job.Job.TheVariants.{Cells, Compare, Digest, Show}
 use Rattle.lvl_report.specs.declared.outcome.Outcome.{Outcome}
 use Rattle.lvl_report.specs.declared.status.RunFault.{RunFault}
 use Rattle.lvl_report.specs.declared.status.RunFault.TheVariants.{Output as RunOutput, OutOfMemory as RunOutOfMemory}
-use Rattle.lvl_report.specs.Runs.{Input, input, IsBegun, IsDigestedBy, IsShownBy}
-use Rattle.lvl_report.specs.Texts.{text_of_digested, text_of_shown}
-use Rattle.lvl_report.specs.Hints.{shown_outcome}
-use Rattle.lvl_report.specs.Writing.{ends_by}
+use Rattle.lvl_report.specs.Runs.{Input, input, IsBegun, IsDigestedBy, IsListedBy, IsShownBy}
+use Rattle.lvl_report.specs.Texts.{text_of_digested, text_of_list, text_of_shown}
+use Rattle.lvl_report.specs.Hints.{IsShownOutcome}
 use Rattle.lvl_report.specs.Writing.{is_output}
 use Rattle.lvl_view.specs.Views.{PlainView}
 use Rattle.lvl_job.specs.declared.fault.JobFault.{JobFault}
@@ -155,7 +154,7 @@ module _ {S : Type 0} (opens : S → List ℕ → Option (Option (List ℕ)) →
   module _ (file : String Global) (top ignored : Option (String Global)) (is_large : Bool) (profile : Profile)
       (given : IsProfileAsked (option_map string_bytes ignored) is_large profile) where
     pub shown_answered : (old new : S) (from to : Option (List ℕ)) (r : Result Outcome JobFault)
-        → IfOk r (IsOneAnswered opens IsShownBy text_of_shown (ends_by (shown_outcome profile))
+        → IfOk r (IsOneAnswered opens IsShownBy text_of_shown (IsShownOutcome profile)
         (named profile file top) old new from to)
         → IfOk r (IsAnswered opens (Show file top ignored is_large) old new from to)
     shown_answered old new from to (Ok status) h = record { profile = profile; asked = given; holds = h }
@@ -163,7 +162,7 @@ module _ {S : Type 0} (opens : S → List ℕ → Option (Option (List ℕ)) →
 
     pub digested_answered : (old new : S) (from to : Option (List ℕ)) (r : Result Outcome JobFault)
         → IfOk r
-        (IsOneAnswered opens IsDigestedBy text_of_digested (ends_by (shown_outcome profile))
+        (IsOneAnswered opens IsDigestedBy text_of_digested (IsShownOutcome profile)
         (named profile file top) old new from to)
         → IfOk r (IsAnswered opens (Digest file top ignored is_large) old new from to)
     digested_answered old new from to (Ok status) h = record { profile = profile; asked = given; holds = h }
@@ -182,6 +181,23 @@ module _ {S : Type 0} (opens : S → List ℕ → Option (Option (List ℕ)) →
         → IfErr r (IsFaultOfJob opens (Digest file top ignored is_large) old new from to)
     digested_fault old new from to =
         fault_of_one IsDigestedBy text_of_digested (Digest file top ignored is_large) profile file top old new from to
+        (λ name e o. record { profile = profile; asked = given; holds = (e, o) })
+        (λ h. record { profile = profile; asked = given; holds = h })
+
+  module _ (file : String Global) (ignored : Option (String Global)) (is_large : Bool) (profile : Profile)
+      (given : IsProfileAsked (option_map string_bytes ignored) is_large profile) where
+    pub cells_answered : (old new : S) (from to : Option (List ℕ)) (r : Result Outcome JobFault)
+        → IfOk r (IsOneAnswered opens IsListedBy text_of_list (IsShownOutcome profile)
+        (named profile file None) old new from to)
+        → IfOk r (IsAnswered opens (Cells file ignored is_large) old new from to)
+    cells_answered old new from to (Ok status) h = record { profile = profile; asked = given; holds = h }
+    cells_answered old new from to (Err fault) h = tt
+
+    pub cells_fault : (old new : S) (from to : Option (List ℕ)) (r : Result Outcome JobFault)
+        → IfErr r (IsOneFault opens IsListedBy text_of_list (named profile file None) old new from to)
+        → IfErr r (IsFaultOfJob opens (Cells file ignored is_large) old new from to)
+    cells_fault old new from to =
+        fault_of_one IsListedBy text_of_list (Cells file ignored is_large) profile file None old new from to
         (λ name e o. record { profile = profile; asked = given; holds = (e, o) })
         (λ h. record { profile = profile; asked = given; holds = h })
 
@@ -233,6 +249,12 @@ module _ {S : Type 0} (opens : S → List ℕ → Option (Option (List ℕ)) →
       → IsFaultOfJob opens (Digest file top ignored is_large) old old from from fault
   digested_ignore_fault file top ignored is_large old from fault =
       no_ignore (Digest file top ignored is_large) (option_map string_bytes ignored) old from fault (λ h. h)
+
+  pub cells_ignore_fault : (file : String Global) (ignored : Option (String Global)) (is_large : Bool) (old : S)
+      (from : Option (List ℕ)) (fault : JobFault) → IsNoIgnore (option_map string_bytes ignored) fault
+      → IsFaultOfJob opens (Cells file ignored is_large) old old from from fault
+  cells_ignore_fault file ignored is_large old from fault =
+      no_ignore (Cells file ignored is_large) (option_map string_bytes ignored) old from fault (λ h. h)
 
 pub cut_is : (fault : RunFault) → is_cut {A = Outcome} (Err (fault_of_run fault)) ≡ is_output {A = Outcome} (Err fault)
 cut_is RunOutput = refl

@@ -6,13 +6,12 @@ use Rattle.lvl_io.specs.Bytes.{CountsFailure}
 use Rattle.std.specs.Prelude.{string_bytes}
 use Rattle.lvl_profile.specs.Ignored.{comma}
 use Rattle.lvl_profile.specs.declared.ignore.Ignore.{Ignore}
-use Rattle.lvl_region.specs.declared.region.Side.{Side}
-use Rattle.lvl_region.specs.declared.region.Side.TheVariants.{First, Second}
 use Rattle.lvl_report.specs.declared.hint.Hint.{Hint}
-use Rattle.lvl_report.specs.declared.hint.Hint.TheVariants.{IgnoreMore, LiftLimits, Unpack, WithoutBlocks, NameTop}
-use Rattle.lvl_report.specs.declared.hint.Hint.TheVariants.{NameTopOf}
+use Rattle.lvl_report.specs.declared.hint.Hint.TheVariants.{IgnoreMore, LiftLimits, Unpack, WithoutBlocks}
 use Rattle.lvl_report.specs.declared.outcome.Outcome.{Outcome}
 use Rattle.lvl_text.specs.Faults.{ignore_fault, view_fault}
+use Rattle.lvl_view.specs.declared.fault.ViewFault.{ViewFault}
+use Rattle.lvl_view.specs.declared.fault.ViewFault.TheVariants.{EmptyWindow, MapText, MapTwice, WindowText}
 use Rattle.lvl_report.specs.Texts.{line}
 use Rattle.lvl_report.specs.Writing.{status_code, AppendsBeginning}
 use Rattle.lvl_job.specs.declared.fault.JobFault.{JobFault}
@@ -35,10 +34,21 @@ abbrev pub end_code : Result Outcome JobFault → ℕ
 end_code (Ok outcome) = status_code outcome.status
 end_code (Err fault) = fault_code fault
 
--- why a job has no answer, on one line
+-- the rest of the line of a fault of a view, and a line with the form that was expected
+abbrev pub view_form : ViewFault → List ℕ
+view_form MapText = codes "\nlvl: --map takes pairs L/D=L/D, joined by commas\n"
+view_form WindowText = codes "\nlvl: --window takes x=A..B,y=C..D\n"
+view_form (MapTwice layer) = codes "\n"
+view_form EmptyWindow = codes "\n"
+
+-- the same for a fault of what is ignored
+abbrev pub ignore_form : List ℕ
+ignore_form = codes "\nlvl: --ignore takes properties, texts, names, padding or all, joined by commas\n"
+
+-- why a job has no answer, on one line, and the form of a text that was expected on another
 abbrev pub fault_text : JobFault → List ℕ
-fault_text (BadView fault) = line (codes "lvl: bad view " ++ view_fault fault)
-fault_text (BadIgnore fault) = line (codes "lvl: bad ignore " ++ ignore_fault fault)
+fault_text (BadView fault) = codes "lvl: bad view " ++ view_fault fault ++ view_form fault
+fault_text (BadIgnore fault) = codes "lvl: bad ignore " ++ ignore_fault fault ++ ignore_form
 fault_text (NotOpened name) = line (codes "lvl: cannot open " ++ string_bytes name)
 fault_text (UnreadList name) = codes "lvl: " ++ string_bytes name ++ codes ": cannot read\n"
 fault_text (LongList name) = codes "lvl: " ++ string_bytes name ++ codes ": too long\n"
@@ -57,11 +67,6 @@ ignore_words i =
     ++ listed (i.properties || i.texts) i.names (codes "names")
     ++ listed (i.properties || i.texts || i.names) i.padding (codes "padding")
 
--- the option that names the top of one of two files
-abbrev pub top_option : Side → List ℕ
-top_option First = codes "--top-a"
-top_option Second = codes "--top-b"
-
 -- what would mend a refusal, on one line
 abbrev pub hint_text : Hint → List ℕ
 hint_text (IgnoreMore more) = codes "lvl: try --ignore " ++ ignore_words more ++ codes ", or --ignore all\n"
@@ -70,19 +75,17 @@ hint_text Unpack =
     line (codes "lvl: neither GDSII nor OASIS: " ++ codes "if the file is compressed (gzip), unpack it first")
 hint_text WithoutBlocks =
     line (codes "lvl: a compressed block: " ++ codes "write the file without CBLOCK compression")
-hint_text NameTop = line (codes "lvl: several cells could be the top: name one by " ++ codes "--top")
-hint_text (NameTopOf side) = line (codes "lvl: several cells could be the top: name one by " ++ top_option side)
 
--- what is written for an answer: its hint, or the line on grid steps
+-- what is written for an answer: its hint, or its line
 abbrev pub said_of : Option Hint → Option (List ℕ) → List ℕ
-said_of (Some hint) steps = hint_text hint
+said_of (Some hint) text = hint_text hint
 said_of None (Some text) = text
 said_of None None = []
 
--- what a job writes to standard error: the hint of its answer if it has one, that the grid steps of two files differ, or
--- why there is no answer
+-- what a job writes to standard error: the hint of its answer if it has one, or else which cells could be the top or that
+-- the grid steps of two files differ; or why there is no answer
 abbrev pub end_text : Result Outcome JobFault → List ℕ
-end_text (Ok outcome) = said_of outcome.hint (option_map (λ text. text.items) outcome.steps)
+end_text (Ok outcome) = said_of outcome.hint (option_map (λ text. text.items) outcome.line)
 end_text (Err fault) = fault_text fault
 
 -- whether the output of a job failed

@@ -15,13 +15,13 @@ use Rattle.lvl.specs.declared.measured.Measured.{Measured}
 use Rattle.lvl.specs.declared.verdict.Comparison.{Comparison}
 use Rattle.lvl.specs.declared.verdict.Refusal.{Refusal}
 use Rattle.lvl_line.specs.declared.job.Job.{Job}
-use Rattle.lvl_line.specs.declared.job.Job.TheVariants.{Check, Compare, Digest, List as ListJob, Show}
+use Rattle.lvl_line.specs.declared.job.Job.TheVariants.{Cells, Check, Compare, Digest, List as ListJob, Show}
 use Rattle.lvl_report.specs.declared.outcome.Outcome.{Outcome}
 use Rattle.lvl_report.specs.Runs.{Input, input, IsComparedBy, IsDigestedBy, IsExplainedBy, IsViewedBy, IsShownBy}
-use Rattle.lvl_report.specs.Runs.{IsWritten, IsBegun, IsMeasuredBy}
-use Rattle.lvl_report.specs.Texts.{text_of, text_of_digested, text_of_explained, text_of_measured, text_of_shown}
-use Rattle.lvl_report.specs.Hints.{IsExplainedOutcome, IsMeasuredOutcome, IsOutcomeOf, shown_outcome}
-use Rattle.lvl_report.specs.Writing.{ends_by}
+use Rattle.lvl_report.specs.Runs.{IsWritten, IsBegun, IsListedBy, IsMeasuredBy}
+use Rattle.lvl_report.specs.Texts.{text_of, text_of_digested, text_of_explained, text_of_list, text_of_measured}
+use Rattle.lvl_report.specs.Texts.{text_of_shown}
+use Rattle.lvl_report.specs.Hints.{IsExplainedOutcome, IsMeasuredOutcome, IsOutcomeOf, IsShownOutcome}
 use Rattle.lvl_view.specs.declared.fault.ViewFault.{ViewFault}
 use Rattle.lvl_view.specs.Views.{PlainView, IsViewOf, IsFaultOf, IsWhole}
 use Rattle.lvl_job.specs.declared.fault.JobFault.{JobFault}
@@ -172,10 +172,13 @@ IsAnswered opens (Compare first second top_a top_b map_text window_text ignored 
     IsPairWritten units why view profile a b from to outcome)))
 IsAnswered opens (Show file top ignored is_large) old new from to outcome =
     UnderProfile ignored is_large (λ profile. OfOne opens old new (named profile file top) (λ a.
-    IsWritten (IsShownBy a) text_of_shown (ends_by (shown_outcome profile)) from to outcome))
+    IsWritten (IsShownBy a) text_of_shown (IsShownOutcome profile) from to outcome))
 IsAnswered opens (Digest file top ignored is_large) old new from to outcome =
     UnderProfile ignored is_large (λ profile. OfOne opens old new (named profile file top) (λ a.
-    IsWritten (IsDigestedBy a) text_of_digested (ends_by (shown_outcome profile)) from to outcome))
+    IsWritten (IsDigestedBy a) text_of_digested (IsShownOutcome profile) from to outcome))
+IsAnswered opens (Cells file ignored is_large) old new from to outcome =
+    UnderProfile ignored is_large (λ profile. OfOne opens old new (named profile file None) (λ a.
+    IsWritten (IsListedBy a) text_of_list (IsShownOutcome profile) from to outcome))
 IsAnswered opens job old new from to outcome = ⊥
 
 -- a beginning of the answer to a job was written
@@ -191,6 +194,9 @@ IsCut opens (Show file top ignored is_large) old new from to =
 IsCut opens (Digest file top ignored is_large) old new from to =
     UnderProfile ignored is_large (λ profile.
     OfOne opens old new (named profile file top) (λ a. IsBegun (IsDigestedBy a) text_of_digested from to))
+IsCut opens (Cells file ignored is_large) old new from to =
+    UnderProfile ignored is_large (λ profile.
+    OfOne opens old new (named profile file None) (λ a. IsBegun (IsListedBy a) text_of_list from to))
 IsCut opens job old new from to = ⊥
 
 -- the file of this name is the first in the job that could not be opened
@@ -202,6 +208,8 @@ IsNotOpened opens (Compare first second top_a top_b map_text window_text ignored
 IsNotOpened opens (Show file top ignored is_large) old new name =
     UnderProfile ignored is_large (λ _. (name ≡ string_bytes file) × opens old name None new)
 IsNotOpened opens (Digest file top ignored is_large) old new name =
+    UnderProfile ignored is_large (λ _. (name ≡ string_bytes file) × opens old name None new)
+IsNotOpened opens (Cells file ignored is_large) old new name =
     UnderProfile ignored is_large (λ _. (name ≡ string_bytes file) × opens old name None new)
 IsNotOpened opens job old new name = ⊥
 
@@ -217,6 +225,7 @@ IsBadIgnore (Compare first second top_a top_b map_text window_text ignored is_la
     UnderView map_text window_text (λ _. IsIgnoreFault (option_map string_bytes ignored))
 IsBadIgnore (Show file top ignored is_large) = IsIgnoreFault (option_map string_bytes ignored)
 IsBadIgnore (Digest file top ignored is_large) = IsIgnoreFault (option_map string_bytes ignored)
+IsBadIgnore (Cells file ignored is_large) = IsIgnoreFault (option_map string_bytes ignored)
 IsBadIgnore job = ⊥
 
 -- the fault is true: if a text is bad, no file was opened; and unless the output failed, nothing was written

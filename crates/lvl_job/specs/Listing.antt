@@ -115,4 +115,4 @@ worst_checked done = worst checked_status Same done
 
 -- a job on several files ends with their status alone
 abbrev pub ended_with : Status → Outcome
-ended_with status = record { status = status; hint = None; steps = None }
+ended_with status = record { status = status; hint = None; line = None }

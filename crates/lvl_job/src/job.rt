@@ -1,5 +1,5 @@
 //! Does a job.
-ghost use Rattle.std.specs.Prelude.{◌≡◌, true, IfOk, IfErr, OnErr, Err, option_map, option_copied};
+ghost use Rattle.std.specs.Prelude.{◌≡◌, true, IfOk, IfErr, OnErr, Err, None, option_map, option_copied};
 ghost use Rattle.std.specs.Io.KnownBytes.{Keeps};
 ghost use Rattle.std.specs.Prelude.{string_bytes};
 ghost use Rattle.lvl.specs.Sides.{given_name};
@@ -11,10 +11,10 @@ ghost use Rattle.lvl_job.specs.Jobs.{IsPairBegun, IsPairWritten, IsProfileAsked,
 ghost use Rattle.lvl_job.specs.Opening.{held};
 ghost use Rattle.lvl_job.specs.inside.Parts.{IsOneAnswered, IsOneFault, IsPairAnswered, IsPairFault, IsViewFault};
 ghost use Rattle.lvl_job.specs.inside.Parts.{fault_of_run, IsNoIgnore};
-ghost use Rattle.lvl_report.specs.Runs.{IsBegun, IsDigestedBy, IsShownBy, IsWritten, input};
-ghost use Rattle.lvl_report.specs.Texts.{text_of, text_of_digested, text_of_explained, text_of_shown};
-ghost use Rattle.lvl_report.specs.Hints.{IsExplainedOutcome, IsOutcomeOf, shown_outcome};
-ghost use Rattle.lvl_report.specs.Writing.{ends_by, is_output};
+ghost use Rattle.lvl_report.specs.Runs.{IsBegun, IsDigestedBy, IsListedBy, IsShownBy, IsWritten, input};
+ghost use Rattle.lvl_report.specs.Texts.{text_of, text_of_digested, text_of_explained, text_of_list, text_of_shown};
+ghost use Rattle.lvl_report.specs.Hints.{IsExplainedOutcome, IsOutcomeOf, IsShownOutcome};
+ghost use Rattle.lvl_report.specs.Writing.{is_output};
 
 use crate::fault::JobFault;
 use crate::files::Files;
@@ -26,7 +26,7 @@ use lvl_io::Write;
 use lvl_line::Job;
 use lvl_profile::{Ignore, Limits, Profile};
 use lvl_refusal::Cause;
-use lvl_report::{Outcome, RunFault, run_digest, run_show_by};
+use lvl_report::{Outcome, RunFault, run_cells, run_digest, run_show_by};
 use lvl_view::View;
 use std::alloc::Global;
 
@@ -124,7 +124,7 @@ fn show<F: Files, O: Write>(
     files: &mut F,
     out: &mut O,
 ) -> Result<Outcome, JobFault>
-    ensures answered { IfOk result (IsOneAnswered F.opens IsShownBy text_of_shown (ends_by (shown_outcome profile))
+    ensures answered { IfOk result (IsOneAnswered F.opens IsShownBy text_of_shown (IsShownOutcome profile)
         (record { profile = profile; name = string_bytes name; top = option_copied top.entry })
         files.old files.new (O.contents out.old) (O.contents out.new)) }
     ensures fault { IfErr result (IsOneFault F.opens IsShownBy text_of_shown
@@ -148,7 +148,7 @@ fn digest<F: Files, O: Write>(
     files: &mut F,
     out: &mut O,
 ) -> Result<Outcome, JobFault>
-    ensures answered { IfOk result (IsOneAnswered F.opens IsDigestedBy text_of_digested (ends_by (shown_outcome profile))
+    ensures answered { IfOk result (IsOneAnswered F.opens IsDigestedBy text_of_digested (IsShownOutcome profile)
         (record { profile = profile; name = string_bytes name; top = option_copied top.entry })
         files.old files.new (O.contents out.old) (O.contents out.new)) }
     ensures fault { IfErr result (IsOneFault F.opens IsDigestedBy text_of_digested
@@ -158,6 +158,29 @@ fn digest<F: Files, O: Write>(
 {
     let mut file = open(files, name)?;
     match run_digest(alloc, &mut file, top, profile, out) {
+        Ok(outcome) => Ok(outcome),
+        Err(fault) => Err(fault_of(fault)),
+    }
+}
+
+/// Lists the cells of the file of a name.
+fn cells<F: Files, O: Write>(
+    alloc: Global,
+    name: String,
+    profile: Profile,
+    files: &mut F,
+    out: &mut O,
+) -> Result<Outcome, JobFault>
+    ensures answered { IfOk result (IsOneAnswered F.opens IsListedBy text_of_list (IsShownOutcome profile)
+        (record { profile = profile; name = string_bytes name; top = None })
+        files.old files.new (O.contents out.old) (O.contents out.new)) }
+    ensures fault { IfErr result (IsOneFault F.opens IsListedBy text_of_list
+        (record { profile = profile; name = string_bytes name; top = None })
+        files.old files.new (O.contents out.old) (O.contents out.new)) }
+    ensures errors { CountsFailure (O.write_errors out.old) (O.write_errors out.new) (is_cut result) }
+{
+    let mut file = open(files, name)?;
+    match run_cells(alloc, &mut file, profile, out) {
         Ok(outcome) => Ok(outcome),
         Err(fault) => Err(fault_of(fault)),
     }
@@ -214,6 +237,14 @@ fn perform<F: Files, O: Write>(
             let top = top_of(top);
             show(alloc, file, top.as_deref(), profile, files, out)
         }
+        Job::Cells {
+            file,
+            ignore,
+            large,
+        } => {
+            let profile = profile_of(alloc, &ignore, large)?;
+            cells(alloc, file, profile, files, out)
+        }
         Job::Digest {
             file,
             top,
@@ -263,11 +294,11 @@ fn answer<F: Files, O: Write, E: Write>(
 /// Does a job: reads the texts of its view and of what is ignored, takes the limits that it asks for,
 /// opens its files by `files`, the first before the second, and writes its answer to `out`. If there is
 /// no answer, it writes one line to `err` that says why; if the answer is a refusal that something would mend, one line
-/// that says what; and if it is a verdict on files whose grid steps differ, or if they aren't compared since these must
-/// agree, one line that says so.
+/// that says what; if it is a refusal since several cells could be the top, one line that names these; and if it is a
+/// verdict on files whose grid steps differ, or if they aren't compared since these must agree, one line that says so.
 ///
-/// It writes an answer that [`run_by`], [`run_view_by`], [`run_why`], [`run_measured`], [`run_show_by`] or [`run_digest`] may
-/// write for these files.
+/// It writes an answer that [`run_by`], [`run_view_by`], [`run_why`], [`run_measured`], [`run_show_by`],
+/// [`run_digest`] or [`run_cells`] may write for these files.
 ///
 /// A list of digests has a line for each file that has one, in the order of the files; why a file has none is a line on
 /// `err`. To check a list it first reads the whole list. If a line of it is bad, it opens no other file. Then it hashes

@@ -88,6 +88,6 @@ pub(crate) fn list<F: Files, O: Write, E: Write>(
     Ok(Outcome {
         status,
         hint: None,
-        steps: None,
+        line: None,
     })
 }

@@ -66,7 +66,7 @@ fn say_summary<E: Write>(
     Ok(Outcome {
         status: tally.status,
         hint: None,
-        steps: None,
+        line: None,
     })
 }
 

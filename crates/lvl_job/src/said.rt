@@ -3,7 +3,7 @@ ghost use Rattle.std.specs.Prelude.{◌≡◌, ◌++◌, codes, decimal, IfErr, 
 ghost use Rattle.std.specs.Prelude.{ℕ, List, Option};
 ghost use Rattle.std.specs.Io.KnownBytes.{Appends};
 ghost use Rattle.lvl_io.specs.Bytes.{CountsFailure, failed};
-ghost use Rattle.lvl_job.specs.Ends.{IsSaid, fault_text, end_text, hint_text, ignore_words, is_cut, said_of, top_option};
+ghost use Rattle.lvl_job.specs.Ends.{IsSaid, fault_text, end_text, hint_text, ignore_words, is_cut, said_of, view_form};
 ghost use Rattle.lvl_job.specs.inside.Steps.{IsPut, IsSaidBy, Says};
 ghost use Rattle.lvl_report.specs.Texts.{line};
 ghost use Rattle.lvl_report.specs.Writing.{AppendsBeginning};
@@ -12,9 +12,9 @@ use crate::fault::JobFault;
 use itoa::Buffer;
 use lvl_io::{Failure, Write};
 use lvl_profile::Ignore;
-use lvl_region::Side;
 use lvl_report::{Hint, Outcome};
 use lvl_text::{ignore_fault, view_fault};
+use lvl_view::ViewFault;
 
 /// Writes the whole text. It fails at the first error of any kind, or if a write takes nothing of
 /// some bytes; a beginning of the text was then written.
@@ -72,16 +72,31 @@ fn write_line<E: Write>(err: &mut E, why: &str, what: &str) -> Result<(), Failur
     write_all(err, b"\n")
 }
 
-/// Writes why the list in the file of a name isn't read.
-fn say_of_list<E: Write>(err: &mut E, name: &str, why: &str)
-    ensures { IsSaid (codes "lvl: " ++ name.now ++ why.now)
+/// Writes three texts. If that fails, nothing more is written.
+fn say_parts<E: Write>(err: &mut E, first: &str, what: &str, more: &str)
+    ensures { IsSaid (first.now ++ what.now ++ more.now)
         (E.contents err.old) (E.contents err.new) (E.write_errors err.old) (E.write_errors err.new) }
 {
     let mut said = Ok(());
-    say_more(err, &mut said, b"lvl: ");
-    say_more(err, &mut said, name.as_bytes());
-    say_more(err, &mut said, why.as_bytes());
+    say_more(err, &mut said, first.as_bytes());
+    say_more(err, &mut said, what.as_bytes());
+    say_more(err, &mut said, more.as_bytes());
 }
+
+/// What comes after the name of a fault of a view: the form that was expected, on a line of its own.
+fn view_form(fault: ViewFault) -> &'static str
+    ensures { result.now ≡ view_form fault }
+{
+    match fault {
+        ViewFault::MapText => "\nlvl: --map takes pairs L/D=L/D, joined by commas\n",
+        ViewFault::WindowText => "\nlvl: --window takes x=A..B,y=C..D\n",
+        ViewFault::MapTwice(_) | ViewFault::EmptyWindow => "\n",
+    }
+}
+
+/// What comes after the name of a fault of what is ignored: the words that are expected, on a line of their own.
+const IGNORE_FORM: &str =
+    "\nlvl: --ignore takes properties, texts, names, padding or all, joined by commas\n";
 
 /// Writes that a line of the list in the file of a name is bad.
 fn say_bad_line<E: Write>(err: &mut E, name: &str, number: usize)
@@ -113,17 +128,22 @@ pub(crate) fn say_text<E: Write>(err: &mut E, text: &str)
     let _ = write_all(err, text.as_bytes());
 }
 
-/// Writes on one line why a job has no answer. If that fails, nothing more is written.
+/// Writes on one line why a job has no answer, and if a text isn't of the form that was expected, that form on another.
+/// If that fails, nothing more is written.
 pub(crate) fn say<E: Write>(err: &mut E, fault: &JobFault)
     ensures { IsSaid (fault_text fault.now) (E.contents err.old) (E.contents err.new)
         (E.write_errors err.old) (E.write_errors err.new) }
 {
     match fault {
-        JobFault::BadView(fault) => say_line(err, "lvl: bad view ", view_fault(*fault)),
-        JobFault::BadIgnore(fault) => say_line(err, "lvl: bad ignore ", ignore_fault(*fault)),
+        JobFault::BadView(fault) => {
+            say_parts(err, "lvl: bad view ", view_fault(*fault), view_form(*fault))
+        }
+        JobFault::BadIgnore(fault) => {
+            say_parts(err, "lvl: bad ignore ", ignore_fault(*fault), IGNORE_FORM)
+        }
         JobFault::NotOpened(name) => say_line(err, "lvl: cannot open ", name.as_str()),
-        JobFault::UnreadList(name) => say_of_list(err, name.as_str(), ": cannot read\n"),
-        JobFault::LongList(name) => say_of_list(err, name.as_str(), ": too long\n"),
+        JobFault::UnreadList(name) => say_parts(err, "lvl: ", name.as_str(), ": cannot read\n"),
+        JobFault::LongList(name) => say_parts(err, "lvl: ", name.as_str(), ": too long\n"),
         JobFault::BadLine(name, line) => say_bad_line(err, name.as_str(), *line),
         JobFault::OutOfMemory => say_line(err, "lvl: out of memory", ""),
         JobFault::Output => say_line(err, "lvl: output failed", ""),
@@ -160,16 +180,6 @@ fn ignore_words(ignore: Ignore) -> &'static str
     }
 }
 
-/// The option that names the top of one of two files.
-fn top_option(side: Side) -> &'static str
-    ensures { result.now ≡ top_option side }
-{
-    match side {
-        Side::First => "--top-a",
-        Side::Second => "--top-b",
-    }
-}
-
 /// Writes what to ignore so that more is read, or that all may be ignored, since more may come.
 fn say_ignore<E: Write>(err: &mut E, more: Ignore)
     ensures { IsSaid (hint_text (Hint.IgnoreMore more)) (E.contents err.old) (E.contents err.new)
@@ -199,29 +209,19 @@ fn say_hint<E: Write>(err: &mut E, hint: Hint)
             "lvl: a compressed block: ",
             "write the file without CBLOCK compression",
         ),
-        Hint::NameTop => say_line(
-            err,
-            "lvl: several cells could be the top: name one by ",
-            "--top",
-        ),
-        Hint::NameTopOf(side) => say_line(
-            err,
-            "lvl: several cells could be the top: name one by ",
-            top_option(side),
-        ),
     }
 }
 
-/// Writes on one line what would mend a refusal, if anything would, or that the grid steps of two files differ. If that
-/// fails, nothing more is written.
+/// Writes on one line what would mend a refusal, if anything would, or else the line of the outcome: which cells could be
+/// the top, or that the grid steps of two files differ. If that fails, nothing more is written.
 pub(crate) fn say_outcome<E: Write>(err: &mut E, outcome: &Outcome)
-    ensures { IsSaid (said_of outcome.now.hint (option_map (λ text. text.items) outcome.now.steps))
+    ensures { IsSaid (said_of outcome.now.hint (option_map (λ text. text.items) outcome.now.line))
         (E.contents err.old) (E.contents err.new) (E.write_errors err.old) (E.write_errors err.new) }
 {
     if let Some(hint) = outcome.hint {
         return say_hint(err, hint);
     }
-    if let Some(text) = &outcome.steps {
+    if let Some(text) = &outcome.line {
         let _ = write_all(err, text);
     }
 }

@@ -160,6 +160,9 @@ show = option_map_or (λ s. s) (slice_get (built line).subs 1) (built line).top
 abbrev digest : Shape
 digest = option_map_or (λ s. s) (slice_get (built line).subs 2) (built line).top
 
+abbrev cells : Shape
+cells = option_map_or (λ s. s) (slice_get (built line).subs 3) (built line).top
+
 compare_gives : (rows : List Row) → HaveValues rows → misses compare.rules rows ≡ false
     → HasValue (codes "A") rows × HasValue (codes "B") rows
 compare_gives rows have none =
@@ -173,6 +176,9 @@ one_gives rows have none = given_has_first (codes "A") rows have (given_one (is_
 digest_gives : (rows : List Row) → HaveValues rows → misses digest.rules rows ≡ false → HasValue (codes "A") rows
 digest_gives rows have none = given_has_first (codes "A") rows have (given_one (is_given (codes "A") rows) _ none).0
 
+cells_gives : (rows : List Row) → HaveValues rows → misses cells.rules rows ≡ false → HasValue (codes "A") rows
+cells_gives rows have none = given_has_first (codes "A") rows have (given_one (is_given (codes "A") rows) _ none).0
+
 abbrev IsAJob : Option (Text × List Row) → Type 0
 IsAJob None = Unit {0}
 IsAJob (Some p) = IsJobOf p.0 p.1
@@ -181,12 +187,20 @@ job_named : (name own : Text) (rows found : List Row)
     → ◌≡◌ {A = Option (Text × List Row)} (Some (own, found)) (Some (name, rows)) → IsJobOf own found → IsJobOf name rows
 job_named name own rows found e is = subst IsAJob e is
 
+abbrev helping : Bool → Option Shape
+helping h = cond (h || false) (slice_get (built line).subs 4) None
+
+-- the subcommand whose name is the first that answers
+abbrev found_by : Bool → Bool → Bool → Bool → Bool → Option Shape
+found_by a b d e h =
+    cond a (Some compare) (cond b (Some show) (cond d (Some digest) (cond e (Some cells) (helping h))))
+
 at_subcommand : (p : Text × List Text) (name : Text) (rows : List Row) → bytes_eq p.0 help ≡ false
     → entered_fault (built line) (Some p) ≡ []
     → entered (built line) (Some p) ≡ Some (name, rows) → IsJobOf name rows
 at_subcommand p name rows other =
     go (answers_to p.0 (label_of compare)) (answers_to p.0 (label_of show)) (answers_to p.0 (label_of digest))
-    (bytes_eq help p.0) refl
+    (answers_to p.0 (label_of cells)) (bytes_eq help p.0) refl
   where
     no_help : bytes_eq help p.0 ≡ true → ⊥
     no_help e =
@@ -194,30 +208,28 @@ at_subcommand p name rows other =
         let bad : bytes_eq help help ≡ false = rw (← same) at other in
         cc
 
-    helping : Bool → Option Shape
-    helping h = cond (h || false) (slice_get (built line).subs 3) None
-
-    go : (a b d h : Bool) → bytes_eq help p.0 ≡ h
-        → option_map_or (λ (s : Shape). level_fault s [] nothing_held p.1 false [])
-        (cond a (Some compare) (cond b (Some show) (cond d (Some digest) (helping h)))) [] ≡ []
-        → option_map (λ (s : Shape). rows_at s p.1)
-        (cond a (Some compare) (cond b (Some show) (cond d (Some digest) (helping h))))
-        ≡ Some (name, rows)
+    go : (a b d e h : Bool) → bytes_eq help p.0 ≡ h
+        → option_map_or (λ (s : Shape). level_fault s [] nothing_held p.1 false []) (found_by a b d e h) [] ≡ []
+        → option_map (λ (s : Shape). rows_at s p.1) (found_by a b d e h) ≡ Some (name, rows)
         → IsJobOf name rows
-    go true b d h is none found =
+    go true b d e h is none found =
         let given = level_gives compare p.1 refl refl refl refl none in
         job_named name (codes "compare") rows (rows_after compare.rules [] p.1) found
         (inl (refl, (compare_gives _ given.0 given.1).0, (compare_gives _ given.0 given.1).1))
-    go false true d h is none found =
+    go false true d e h is none found =
         let given = level_gives show p.1 refl refl refl refl none in
         job_named name (codes "show") rows (rows_after show.rules [] p.1) found
         (inr (inl (refl, one_gives _ given.0 given.1)))
-    go false false true h is none found =
+    go false false true e h is none found =
         let given = level_gives digest p.1 refl refl refl refl none in
         job_named name (codes "digest") rows (rows_after digest.rules [] p.1) found
-        (inr (inr (refl, digest_gives _ given.0 given.1)))
-    go false false false true is none found = absurd (no_help is)
-    go false false false false is none found = cc
+        (inr (inr (inl (refl, digest_gives _ given.0 given.1))))
+    go false false false true h is none found =
+        let given = level_gives cells p.1 refl refl refl refl none in
+        job_named name (codes "cells") rows (rows_after cells.rules [] p.1) found
+        (inr (inr (inr (refl, cells_gives _ given.0 given.1))))
+    go false false false false true is none found = absurd (no_help is)
+    go false false false false false is none found = cc
 
 at_stop : (o : Option (Text × List Text)) (name : Text) (rows : List Row) → StopsAtNone o
     → entered_fault (built line) o ≡ []

@@ -55,6 +55,11 @@ digest_app = with_rule (with_rule (with_rule (with_rule (with_rule (with_rule (w
     (option_rule (codes "top"))) (option_rule (codes "ignore"))) (flag_rule (codes "large")))
     (flag_rule (codes "list"))) (flag_rule (codes "check"))) (flag_rule (codes "quiet"))
 
+-- `cells A [--ignore WORDS] [--large]`
+abbrev pub cells_app : App
+cells_app = with_rule (with_rule (with_rule (new_app (codes "cells")) (file_rule (codes "A")))
+    (option_rule (codes "ignore"))) (flag_rule (codes "large"))
+
 -- a subcommand with `[--progress] [--no-progress]` too, which no job depends on
 abbrev pub watched_app : App → App
 watched_app app = with_rule (with_rule app (flag_rule (codes "progress"))) (flag_rule (codes "no-progress"))
@@ -63,11 +68,11 @@ watched_app app = with_rule (with_rule app (flag_rule (codes "progress"))) (flag
 abbrev pub plain_line : App
 plain_line = new_app (codes "lvl")
 
--- the whole line: one of the three subcommands
+-- the whole line: one of the four subcommands
 abbrev pub line : App
-line = with_subcommand (with_subcommand (with_subcommand (record plain_line {
+line = with_subcommand (with_subcommand (with_subcommand (with_subcommand (record plain_line {
   top = record plain_line.top { has_version = true; subcommand_required = true };
-}) (watched_app compare_app).top) (watched_app show_app).top) (watched_app digest_app).top
+}) (watched_app compare_app).top) (watched_app show_app).top) (watched_app digest_app).top) (watched_app cells_app).top
 
 -- whether the option with no value is given: `clap` then gives it the text `true`
 abbrev pub is_set : Text → List Row → Bool
@@ -108,6 +113,11 @@ IsNamed (job.Show file top ignored large) (Some (name, rows)) =
     (name ≡ codes "show")
     × (first_of (codes "A") rows ≡ Some (string_bytes file))
     × (first_of (codes "top") rows ≡ option_map string_bytes top)
+    × (first_of (codes "ignore") rows ≡ option_map string_bytes ignored)
+    × (is_set (codes "large") rows ≡ large)
+IsNamed (job.Cells file ignored large) (Some (name, rows)) =
+    (name ≡ codes "cells")
+    × (first_of (codes "A") rows ≡ Some (string_bytes file))
     × (first_of (codes "ignore") rows ≡ option_map string_bytes ignored)
     × (is_set (codes "large") rows ≡ large)
 IsNamed (job.Digest file top ignored large) (Some (name, rows)) =

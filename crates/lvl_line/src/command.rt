@@ -1,9 +1,9 @@
 //! The command line of the program, as it is described to `clap`.
 ghost use Rattle.std.specs.Prelude.{◌≡◌, IfOk, false};
 ghost use Rattle.clap.specs.Words.{app_of, rule_of};
-ghost use Rattle.lvl_line.specs.Line.{compare_app, digest_app, file_rule, files_rule, flag_rule, line};
+ghost use Rattle.lvl_line.specs.Line.{cells_app, compare_app, digest_app, file_rule, files_rule, flag_rule, line};
 ghost use Rattle.lvl_line.specs.Line.{option_rule, show_app, watched_app};
-ghost use Rattle.lvl_line.specs.inside.Begun.{comparing_line, several_app, tops_app};
+ghost use Rattle.lvl_line.specs.inside.Begun.{comparing_line, hashing_line, several_app, tops_app};
 
 use clap::{Arg, ArgAction, Command};
 use std::alloc::{AllocError, Global};
@@ -147,6 +147,17 @@ fn digest<'a>(alloc: Global) -> Result<Command<'a>, AllocError>
         .arg(flag(alloc, "quiet", QUIET_HELP))
 }
 
+/// `cells A [--ignore WORDS] [--large]`.
+fn cells<'a>(alloc: Global) -> Result<Command<'a>, AllocError>
+    ensures { IfOk result (λ c. app_of c ≡ cells_app) }
+{
+    Command::new(alloc, "cells")
+        .about("Lists a layout's cells, and which of them could be its top")
+        .arg(file(alloc, "A", "The layout, GDSII or OASIS"))?
+        .arg(option(alloc, "ignore", "WORDS", IGNORE_HELP))?
+        .arg(flag(alloc, "large", LARGE_HELP))
+}
+
 /// A subcommand with `[--progress] [--no-progress]` too. No job depends on them.
 fn watched<'a>(alloc: Global, command: Command<'a>) -> Result<Command<'a>, AllocError>
     ensures { IfOk result (λ c. app_of c ≡ watched_app (app_of command.entry)) }
@@ -167,11 +178,18 @@ fn comparing<'a>(alloc: Global) -> Result<Command<'a>, AllocError>
         .subcommand(watched(alloc, compare(alloc)?)?)
 }
 
-/// The whole line: one of the subcommands `compare`, `show` and `digest`.
-pub(crate) fn program<'a>(alloc: Global) -> Result<Command<'a>, AllocError>
-    ensures { IfOk result (λ c. app_of c ≡ line) }
+/// The same with the subcommands `show` and `digest`.
+fn hashing<'a>(alloc: Global) -> Result<Command<'a>, AllocError>
+    ensures { IfOk result (λ c. app_of c ≡ hashing_line) }
 {
     comparing(alloc)?
         .subcommand(watched(alloc, show(alloc)?)?)?
         .subcommand(watched(alloc, digest(alloc)?)?)
+}
+
+/// The whole line: one of the subcommands `compare`, `show`, `digest` and `cells`.
+pub(crate) fn program<'a>(alloc: Global) -> Result<Command<'a>, AllocError>
+    ensures { IfOk result (λ c. app_of c ≡ line) }
+{
+    hashing(alloc)?.subcommand(watched(alloc, cells(alloc)?)?)
 }

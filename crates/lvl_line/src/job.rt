@@ -29,6 +29,13 @@ pub enum Job {
         /// Whether the limits are those for whole chips.
         large: bool,
     },
+    /// To list the cells of a file, with the text of what is ignored if it is given.
+    Cells {
+        file: String,
+        ignore: Option<String>,
+        /// Whether the limits are those for whole chips.
+        large: bool,
+    },
     /// To hash what a file draws, with the name of its top cell and the text of what is ignored if they are
     /// given.
     Digest {

@@ -77,6 +77,18 @@ fn show_of(alloc: Global, matches: &ArgMatches<'_>) -> Result<Job, AllocError>
     })
 }
 
+/// The job of `cells`.
+fn cells_of(alloc: Global, matches: &ArgMatches<'_>) -> Result<Job, AllocError>
+    requires { HasValue (codes "A") (rows_of (found_of matches.now)) }
+    ensures { IfOk result (λ job. IsNamed job (Some (codes "cells", rows_of (found_of matches.now)))) }
+{
+    Ok(Job::Cells {
+        file: file_of(alloc, matches, "A")?,
+        ignore: value_of(alloc, matches, "ignore")?,
+        large: is_set(matches, "large"),
+    })
+}
+
 /// Copies of texts, in their order.
 fn copies(alloc: Global, texts: &[&str]) -> Result<Vec<String>, AllocError>
     ensures { IfOk result (λ copies. map string_bytes copies.items ≡ map (λ s. s.now) texts.now) }
@@ -185,6 +197,7 @@ fn job_of(alloc: Global, name: &str, matches: &ArgMatches<'_>) -> Result<Job, Li
     let made = match name {
         "compare" => compare_of(alloc, matches),
         "show" => show_of(alloc, matches),
+        "cells" => cells_of(alloc, matches),
         _ => {
             if let Some(why) = misplaced(matches) {
                 return Err(conflict(alloc, why));

@@ -5,33 +5,33 @@ use Rattle.std.specs.Global.{Global}
 use Rattle.lvl.specs.declared.verdict.Comparison.{Comparison}
 use Rattle.lvl.specs.declared.verdict.Refusal.{Refusal}
 use Rattle.lvl_profile.specs.declared.profile.Profile.{Profile}
-use Rattle.lvl_report.specs.Hints.{IsOutcomeOf, hint_of_two}
+use Rattle.lvl_report.specs.Hints.{IsOutcomeOf, hint_of}
 use Rattle.lvl_report.specs.Writing.{verdict_status}
 use Rattle.lvl_report.specs.declared.hint.Hint.{Hint}
 use Rattle.lvl_report.specs.declared.status.Status.{Status}
 use Rattle.lvl_report.specs.declared.status.Status.TheVariants.{Refused}
-use Rattle.lvl_report.specs.inside.Steps.{AreStepsOf}
+use Rattle.lvl_report.specs.inside.Steps.{IsLineOf}
 
 pub verdict_end : (profile : Profile) (answer : Result Comparison Refusal) (comparison : Comparison) (status : Status)
-    (steps : Option (Vec ℕ Global)) → answer ≡ Ok comparison → status ≡ verdict_status comparison.verdict
-    → AreStepsOf answer (option_map (λ text. text.items) steps)
-    → IsOutcomeOf profile answer (record { status = status; hint = None; steps = steps })
-verdict_end profile answer comparison status steps is stated said =
-    subst (λ a. IsOutcomeOf profile a (record { status = status; hint = None; steps = steps })) (sym is)
+    (line : Option (Vec ℕ Global)) → answer ≡ Ok comparison → status ≡ verdict_status comparison.verdict
+    → IsLineOf answer (option_map (λ text. text.items) line)
+    → IsOutcomeOf profile answer (record { status = status; hint = None; line = line })
+verdict_end profile answer comparison status line is stated said =
+    subst (λ a. IsOutcomeOf profile a (record { status = status; hint = None; line = line })) (sym is)
     (record {
       status_is = stated;
       hint_is = refl;
-      steps = subst (λ a. AreStepsOf a (option_map (λ text. text.items) steps)) is said;
+      line_is = subst (λ a. IsLineOf a (option_map (λ text. text.items) line)) is said;
     })
 
 pub refused_end : (profile : Profile) (answer : Result Comparison Refusal) (refusal : Refusal) (hint : Option Hint)
-    (steps : Option (Vec ℕ Global)) → answer ≡ Err refusal → hint ≡ hint_of_two profile refusal
-    → AreStepsOf answer (option_map (λ text. text.items) steps)
-    → IsOutcomeOf profile answer (record { status = Refused; hint = hint; steps = steps })
-refused_end profile answer refusal hint steps is hinted said =
-    subst (λ a. IsOutcomeOf profile a (record { status = Refused; hint = hint; steps = steps })) (sym is)
+    (line : Option (Vec ℕ Global)) → answer ≡ Err refusal → hint ≡ hint_of profile refusal
+    → IsLineOf answer (option_map (λ text. text.items) line)
+    → IsOutcomeOf profile answer (record { status = Refused; hint = hint; line = line })
+refused_end profile answer refusal hint line is hinted said =
+    subst (λ a. IsOutcomeOf profile a (record { status = Refused; hint = hint; line = line })) (sym is)
     (record {
       status_is = refl;
       hint_is = hinted;
-      steps = subst (λ a. AreStepsOf a (option_map (λ text. text.items) steps)) is said;
+      line_is = subst (λ a. IsLineOf a (option_map (λ text. text.items) line)) is said;
     })

@@ -3,3 +3,4 @@ pub mod Hinting
 pub mod Decimals
 pub mod Ending
 pub mod Lining
+pub mod Naming

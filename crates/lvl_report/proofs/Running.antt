@@ -8,11 +8,16 @@ use Rattle.lvl.specs.Answers.{IsCompared}
 use Rattle.lvl.specs.Layouts.{File}
 use Rattle.lvl.specs.Views.{IsComparedIn}
 use Rattle.lvl.specs.declared.verdict.Comparison.{Comparison}
+use Rattle.lvl.specs.Shown.{IsOfFirst}
+use Rattle.lvl.specs.Sides.{IsOfFile}
 use Rattle.lvl.specs.declared.verdict.Refusal.{Refusal}
+use Rattle.lvl.specs.declared.verdict.Refusal.TheVariants.{File as FileRefusal, Cells as CellsRefusal}
+use Rattle.lvl.specs.declared.verdict.Refusal.TheVariants.{Flat as FlatRefusal, OutOfMemory}
+use Rattle.lvl_region.specs.declared.region.Side.TheVariants.{First}
 use Rattle.lvl.proofs.Viewing.{whole_verdict}
 use Rattle.lvl_report.specs.Runs.{Input, IsComparedBy, IsViewedBy, IsWritten, IsBegun}
 use Rattle.lvl_report.specs.declared.outcome.Outcome.{Outcome}
-use Rattle.lvl_report.specs.Hints.{IsOutcomeOf, shown_outcome}
+use Rattle.lvl_report.specs.Hints.{IsOutcomeOf, IsShownOutcome}
 use Rattle.lvl_report.specs.Writing.{AppendsBeginning, status_of, shown_status}
 
 pub was_written : {X T : Type 0} (Allowed : X → Type 0) (text : X → List ℕ) (Ends : X → T → Type 0)
@@ -92,9 +97,16 @@ status_is profile (Ok comparison) o end = end.status_is
 status_is profile (Err refusal) o end = end.status_is
 
 pub shown_status_is : {X : Type 0} (profile : Profile) (answer : Result X Refusal) (o : Outcome)
-    → o ≡ shown_outcome profile answer → o.status ≡ shown_status answer
-shown_status_is profile (Ok x) o end = ap (λ (p : Outcome). p.status) end
-shown_status_is profile (Err refusal) o end = ap (λ (p : Outcome). p.status) end
+    → IsShownOutcome profile answer o → o.status ≡ shown_status answer
+shown_status_is profile (Ok x) o end = end.status_is
+shown_status_is profile (Err refusal) o end = end.status_is
+
+-- a refusal of the first side's file is one of the first side
+pub of_first : (r : Refusal) → IsOfFile First r → IsOfFirst r
+of_first (FileRefusal side f) h = h
+of_first (CellsRefusal side f) h = absurd h
+of_first (FlatRefusal side f) h = absurd h
+of_first OutOfMemory h = tt
 
 whole_said : (view : PlainView) → IsWhole view → (a b : File) (answer : Result Comparison Refusal)
     → IfOk answer (IsComparedIn view a b) → IfOk answer (IsCompared a b)

@@ -1,8 +1,7 @@
--- What would mend a refusal: to ignore more, to lift limits, to give another option, or to use another program (own
--- rule).
+-- What would mend a refusal: to ignore more, to lift limits, or to use another program (own rule).
 use Rattle.std.specs.Prelude.{ℕ, ◌==◌, ◌&&◌, nat_lt, if◌then◌else◌, Bool, true, false, List, [], ◌∷◌, Option, Some, None}
 use Rattle.std.specs.Prelude.{◌≡◌, Result, Ok, Err, is_ok, option_map}
-use Rattle.lvl_cells.specs.declared.fault.CellFault.TheVariants.{ManyTops, TooManyPlacements, TooManyRings}
+use Rattle.lvl_cells.specs.declared.fault.CellFault.TheVariants.{TooManyPlacements, TooManyRings}
 use Rattle.lvl_cells.specs.declared.fault.CellFault.{CellFault}
 use Rattle.lvl_profile.specs.Limits.{large}
 use Rattle.lvl_profile.specs.declared.ignore.Ignore.{Ignore}
@@ -36,10 +35,10 @@ use Rattle.lvl_report.specs.declared.status.Status.{Status}
 use Rattle.lvl_report.specs.declared.status.Status.TheVariants.{Shown as ShownStatus, Refused}
 use Rattle.lvl_report.specs.Steps.{AreStepsSaid, IsDifferenceSaid}
 use Rattle.lvl_report.specs.Texts.{comparison_of}
+use Rattle.lvl_report.specs.Tops.{line_of_one, line_of_two}
 use Rattle.lvl_report.specs.declared.outcome.Outcome.{Outcome}
 use Rattle.lvl_report.specs.declared.hint.Hint.{Hint}
-use Rattle.lvl_report.specs.declared.hint.Hint.TheVariants.{IgnoreMore, LiftLimits, Unpack, WithoutBlocks, NameTop}
-use Rattle.lvl_report.specs.declared.hint.Hint.TheVariants.{NameTopOf}
+use Rattle.lvl_report.specs.declared.hint.Hint.TheVariants.{IgnoreMore, LiftLimits, Unpack, WithoutBlocks}
 
 -- whether records of the kind for which a GDSII file is refused are read under the profile
 abbrev pub reads_record : Profile → GdsKind → Bool
@@ -141,28 +140,24 @@ abbrev pub hint_of_file : Profile → FileFault → Option Hint
 hint_of_file given fault =
     if lifts_file given.limits fault then Some LiftLimits else ignore_or (to_ignore given fault) (other_program fault)
 
--- the hint if the only file is refused
-abbrev pub hint_of_one : Profile → Refusal → Option Hint
-hint_of_one given (File side fault) = hint_of_file given fault
-hint_of_one given (Cells side ManyTops) = Some NameTop
-hint_of_one given (Cells side fault) = if lifts_cells given.limits fault then Some LiftLimits else None
-hint_of_one given refusal = None
+-- the hint if a file is refused
+abbrev pub hint_of : Profile → Refusal → Option Hint
+hint_of given (File side fault) = hint_of_file given fault
+hint_of given (Cells side r) = if lifts_cells given.limits r.fault then Some LiftLimits else None
+hint_of given refusal = None
 
--- the hint if one of two files is refused
-abbrev pub hint_of_two : Profile → Refusal → Option Hint
-hint_of_two given (Cells side ManyTops) = Some (NameTopOf side)
-hint_of_two given refusal = hint_of_one given refusal
-
--- how a run on two files ends: of a verdict its status, and whether the grid steps differ; of a refusal its hint
-pub record IsEnd (status : Status) (hint : Option Hint) (Steps : Option (List ℕ) → Type 0) (o : Outcome) : Type 0 where
+-- how a run ends: its status, the hint of a refusal, and the line that is said beside the answer
+pub record IsEnd (status : Status) (hint : Option Hint) (Line : Option (List ℕ) → Type 0) (o : Outcome) : Type 0 where
   pub status_is : o.status ≡ status
   pub hint_is : o.hint ≡ hint
-  pub steps : Steps (option_map (λ text. text.items) o.steps)
+  pub line_is : Line (option_map (λ text. text.items) o.line)
 
+-- how a run on two files ends: of a verdict its status, and whether the grid steps differ; of a refusal its hint, or
+-- which cells could be the top
 abbrev pub IsOutcomeOf : Profile → Result Comparison Refusal → Outcome → Type 0
 IsOutcomeOf given (Ok comparison) =
     IsEnd (verdict_status comparison.verdict) None (AreStepsSaid comparison.first comparison.second)
-IsOutcomeOf given (Err refusal) = IsEnd Refused (hint_of_two given refusal) (λ text. text ≡ None)
+IsOutcomeOf given (Err refusal) = IsEnd Refused (hint_of given refusal) (λ text. text ≡ line_of_two refusal)
 
 -- how a run ends that also gives the reason: as its comparison does
 abbrev pub IsExplainedOutcome : Profile → Result Explained Refusal → Outcome → Type 0
@@ -176,6 +171,6 @@ IsMeasuredOutcome given (Ok (StepsDiffer first second)) = IsEnd Refused None (Is
 IsMeasuredOutcome given (Err refusal) = IsOutcomeOf given (Err refusal)
 
 -- how a run on a single file ends
-abbrev pub shown_outcome : {X : Type 0} → Profile → Result X Refusal → Outcome
-shown_outcome given (Ok x) = record { status = ShownStatus; hint = None; steps = None }
-shown_outcome given (Err refusal) = record { status = Refused; hint = hint_of_one given refusal; steps = None }
+abbrev pub IsShownOutcome : {X : Type 0} → Profile → Result X Refusal → Outcome → Type 0
+IsShownOutcome given (Ok x) = IsEnd ShownStatus None (λ text. text ≡ None)
+IsShownOutcome given (Err refusal) = IsEnd Refused (hint_of given refusal) (λ text. text ≡ line_of_one refusal)

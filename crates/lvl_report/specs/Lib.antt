@@ -4,3 +4,4 @@ pub mod Hints
 pub mod Steps
 pub mod inside
 pub mod Runs
+pub mod Tops

@@ -5,6 +5,8 @@ use Rattle.lvl_profile.specs.declared.profile.Profile.{Profile}
 use Rattle.lvl_io.specs.Bytes.{CountsFailure}
 use Rattle.lvl_region.specs.declared.region.Side.TheVariants.{First, Second}
 use Rattle.lvl.specs.Digested.{IsDigestedFile}
+use Rattle.lvl.specs.Listings.{IsListedFile}
+use Rattle.lvl.specs.declared.cells.CellList.{CellList}
 use Rattle.lvl.specs.declared.digested.Digested.{Digested}
 use Rattle.lvl.specs.declared.shown.Shown.{Shown}
 use Rattle.lvl.specs.declared.measured.Measured.{Measured}
@@ -12,7 +14,7 @@ use Rattle.lvl.specs.declared.verdict.Comparison.{Comparison}
 use Rattle.lvl.specs.declared.layout.FileFault.{FileFault}
 use Rattle.lvl.specs.declared.verdict.Refusal.{Refusal}
 use Rattle.lvl.specs.declared.verdict.Refusal.TheVariants.{File as FileRefusal}
-use Rattle.lvl.specs.Sides.{file_named}
+use Rattle.lvl.specs.Sides.{IsOfFile, file_named}
 use Rattle.lvl.specs.Layouts.{File}
 use Rattle.lvl.specs.Measured.{IsAfterSteps, IsBySteps, IsMeasuredIn}
 use Rattle.lvl.specs.Reasons.{IsExplainedIn}
@@ -101,6 +103,11 @@ IsShownBy = IsFoundBy IsShownFile
 -- the answer is possible for the digest of the file
 abbrev pub IsDigestedBy : Input → Result Digested Refusal → Type 0
 IsDigestedBy = IsFoundBy IsDigestedFile
+
+-- the answer is possible for the list of the file's cells; a refusal is that the file wasn't read, or out of memory
+pub record IsListedBy (a : Input) (answer : Result CellList Refusal) : Type 0 where
+  pub found : IsFoundBy IsListedFile a answer
+  pub read_only : IfErr answer (IsOfFile First)
 
 -- the whole text of an answer that is allowed was written, and the run ends as it may for this answer
 pub record IsWritten {X T : Type 0} (Allowed : X → Type 0) (text : X → List ℕ) (Ends : X → T → Type 0)

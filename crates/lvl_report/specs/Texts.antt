@@ -1,6 +1,6 @@
 -- The text of an answer in bytes (own rule): two heads and a verdict, and why; what is shown of a layout, its digest, or
 -- a refusal.
-use Rattle.std.specs.Prelude.{ℕ, ◌+◌, Bool, true, false, List, [], ◌∷◌, ◌++◌, flat_map, codes, decimal, Option, Some, None}
+use Rattle.std.specs.Prelude.{ℕ, ◌+◌, Bool, true, false, List, [], ◌∷◌, ◌++◌, flat_map, length, codes, decimal, Option, Some, None}
 use Rattle.std.specs.Prelude.{Result, Ok, Err}
 use Rattle.std.specs.Fmt.{signed_decimal}
 use Rattle.lvl_grid.specs.declared.map.Map.{Map}
@@ -20,6 +20,7 @@ use Rattle.lvl.specs.declared.verdict.Verdict.TheVariants.{Same, Differ}
 use Rattle.lvl.specs.declared.verdict.Comparison.{Comparison}
 use Rattle.lvl.specs.declared.verdict.Refusal.{Refusal}
 use Rattle.lvl.specs.declared.verdict.Refusal.TheVariants.{File, Cells, Flat, OutOfMemory}
+use Rattle.lvl.specs.declared.cells.CellList.{CellList}
 use Rattle.lvl.specs.declared.digested.Digested.{Digested}
 use Rattle.lvl.specs.declared.digested.MaskDigest.{MaskDigest}
 use Rattle.lvl.specs.declared.shown.Shown.{Shown}
@@ -28,6 +29,7 @@ use Rattle.lvl_why.specs.declared.why.NamedStep.{NamedStep}
 use Rattle.lvl_why.specs.declared.why.Why.{Why}
 use Rattle.lvl_witness.specs.declared.witness.PlacedRing.{PlacedRing}
 use Rattle.lvl_count.specs.declared.counts.LayerRings.{LayerRings}
+use Rattle.lvl_count.specs.declared.listed.ListedCell.{ListedCell}
 use Rattle.lvl_text.specs.Faults.{spaced, cell_fault, flat_fault}
 use Rattle.lvl_text.specs.Gds.{gds_fault, gds_head_text, hex}
 use Rattle.lvl_text.specs.Oasis.{oasis_fault, oasis_head_text}
@@ -61,7 +63,7 @@ file_fault (OasisFile fault) = codes "oasis " ++ oasis_fault fault
 -- the side, the step and the fault; out of memory names neither a side nor a step
 abbrev pub refusal_text : Refusal → List ℕ
 refusal_text (File side fault) = codes "refused: " ++ side_text side ++ codes ": " ++ file_fault fault
-refusal_text (Cells side fault) = codes "refused: " ++ side_text side ++ codes ": cells " ++ cell_fault fault
+refusal_text (Cells side r) = codes "refused: " ++ side_text side ++ codes ": cells " ++ cell_fault r.fault
 refusal_text (Flat side fault) = codes "refused: " ++ side_text side ++ codes ": flat " ++ flat_fault fault
 refusal_text OutOfMemory = codes "refused: out of memory"
 
@@ -163,6 +165,28 @@ shown_text shown =
 abbrev pub text_of_shown : Result Shown Refusal → List ℕ
 text_of_shown (Ok shown) = shown_text shown
 text_of_shown (Err refusal) = line (refusal_text refusal)
+
+-- a cell to which no cell refers is marked
+abbrev pub top_mark : Bool → List ℕ
+top_mark false = []
+top_mark true = codes " top"
+
+-- the line of a cell that is listed
+abbrev pub cell_line : ListedCell → List ℕ
+cell_line c =
+    line (codes "cell" ++ spaced c.name ++ codes " shapes " ++ decimal c.shapes ++ codes " references "
+    ++ decimal c.references ++ top_mark c.is_top)
+
+-- what is listed of a layout: its head, the number of its cells, and a line for each
+abbrev pub list_text : CellList → List ℕ
+list_text list =
+    line (codes "file: " ++ head_text list.head) ++ line (codes "cells: " ++ decimal (length list.cells.items))
+    ++ flat_map cell_line list.cells.items
+
+-- the text of what is listed, or of a refusal
+abbrev pub text_of_list : Result CellList Refusal → List ℕ
+text_of_list (Ok list) = list_text list
+text_of_list (Err refusal) = line (refusal_text refusal)
 
 -- a line for each Layer that has a digest, and one with the SHA-256 of the mask, which is that of these lines
 abbrev pub mask_text : MaskDigest → List ℕ

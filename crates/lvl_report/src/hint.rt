@@ -1,17 +1,15 @@
-//! What would mend a refusal: to ignore more, to lift limits, to give another option, or to use another
-//! program.
+//! What would mend a refusal: to ignore more, to lift limits, or to use another program.
 ghost use Rattle.std.specs.Prelude.{◌≡◌};
 ghost use Rattle.lvl_report.specs.Hints.{reads_record, reads_spelling, is_read_by, with_one_more, first_that_reads};
 ghost use Rattle.lvl_report.specs.Hints.{to_ignore, is_headless, of_first, of_block, other_program, ignore_or};
 ghost use Rattle.lvl_report.specs.Hints.{lifts_gds, lifts_oasis, lifts_file, lifts_cells};
-ghost use Rattle.lvl_report.specs.Hints.{hint_of_file, hint_of_one, hint_of_two};
+ghost use Rattle.lvl_report.specs.Hints.{hint_of, hint_of_file};
 
 use gds_library::{ElementRule, GdsKind, Misplaced, RecordFault};
 use gds_records::is_ignored;
 use lvl::{FileFault, Refusal};
 use lvl_cells::CellFault;
 use lvl_profile::{Ignore, Limits, Profile};
-use lvl_region::Side;
 use oasis_library::{OasisFault, OasisKind, RecordRule, ValueFault};
 use oasis_records::RecordType;
 
@@ -31,10 +29,6 @@ pub enum Hint {
     Unpack,
     /// To write the OASIS file without compressed blocks (CBLOCK).
     WithoutBlocks,
-    /// To name the top of the only file, since several cells could be it.
-    NameTop,
-    /// To name the top of this one of two files, since several cells could be it.
-    NameTopOf(Side),
 }
 
 /// Whether records of the kind for which a GDSII file is refused are read under the profile.
@@ -220,24 +214,15 @@ fn hint_of_file(given: Profile, fault: &FileFault) -> Option<Hint>
     }
 }
 
-/// The hint if the only file is refused. `given` is its profile.
-pub(crate) fn hint_of_one(given: Profile, refusal: &Refusal) -> Option<Hint>
-    ensures { result ≡ hint_of_one given refusal.now }
+/// The hint if a file is refused. `given` is its profile.
+pub(crate) fn hint_of(given: Profile, refusal: &Refusal) -> Option<Hint>
+    ensures { result ≡ hint_of given refusal.now }
 {
     match refusal {
         Refusal::File(_, fault) => hint_of_file(given, fault),
-        Refusal::Cells(_, CellFault::ManyTops) => Some(Hint::NameTop),
-        Refusal::Cells(_, fault) if lifts_cells(given.limits, fault) => Some(Hint::LiftLimits),
+        Refusal::Cells(_, refused) if lifts_cells(given.limits, &refused.fault) => {
+            Some(Hint::LiftLimits)
+        }
         _ => None,
-    }
-}
-
-/// The hint if one of two files is refused. `given` is its profile.
-pub(crate) fn hint_of_two(given: Profile, refusal: &Refusal) -> Option<Hint>
-    ensures { result ≡ hint_of_two given refusal.now }
-{
-    match refusal {
-        Refusal::Cells(side, CellFault::ManyTops) => Some(Hint::NameTopOf(*side)),
-        _ => hint_of_one(given, refusal),
     }
 }

@@ -3,10 +3,10 @@
 //!
 //! [`run`] compares two files, [`run_view`] compares them under a view, [`run_why`] also says why
 //! they differ, [`run_measured`] compares only files whose grid steps agree, [`run_show`] shows
-//! one, and [`run_digest`] hashes what one draws. Each makes the whole text of the answer, writes
+//! one, [`run_digest`] hashes what one draws, and [`run_cells`] lists the cells of one. Each makes the whole text of the answer, writes
 //! it, and returns a [`Status`], which gives the exit status of the program. The calls that take
 //! what is ignored return an [`Outcome`], which also has a [`Hint`] if something would mend a
-//! refusal. [`form`], [`form_shown`] and [`form_digest`] only make the text.
+//! refusal. [`form`], [`form_shown`], [`form_digest`] and [`form_list`] only make the text.
 //!
 //! `bytes` is a file that draws one square:
 //!
@@ -23,15 +23,18 @@
 
 pub use digest::form_digest;
 pub use hint::Hint;
+pub use list::form_list;
 pub use outcome::Outcome;
 pub use runs::{
-    run, run_by, run_digest, run_measured, run_show, run_show_by, run_view, run_view_by, run_why,
+    run, run_by, run_cells, run_digest, run_measured, run_show, run_show_by, run_view, run_view_by,
+    run_why,
 };
 pub use status::{RunFault, Status};
 pub use text::{form, form_shown};
 
 mod digest;
 mod hint;
+mod list;
 mod outcome;
 mod output;
 mod runs;
@@ -39,4 +42,5 @@ mod status;
 mod steps;
 mod tell;
 mod text;
+mod tops;
 mod why;

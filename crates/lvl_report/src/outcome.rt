@@ -1,21 +1,22 @@
 //! How a run with an answer ends.
 ghost use Rattle.std.specs.Prelude.{◌≡◌, option_map};
-ghost use Rattle.lvl_report.specs.Hints.{IsOutcomeOf, shown_outcome};
-ghost use Rattle.lvl_report.specs.inside.Steps.{AreStepsOf};
+ghost use Rattle.lvl_report.specs.Hints.{IsOutcomeOf, IsShownOutcome};
+ghost use Rattle.lvl_report.specs.inside.Steps.{IsLineOf, IsLineOfOne};
 ghost use Rattle.lvl_report.specs.Writing.{verdict_status};
 
-use crate::hint::{Hint, hint_of_one, hint_of_two};
+use crate::hint::{Hint, hint_of};
 use crate::status::Status;
 use lvl::{Comparison, Refusal, Verdict};
 use lvl_profile::Profile;
 
-/// Which answer was written; if it is a refusal, what would mend it; and if the grid steps of the two files differ, the
-/// line that says so, beside a verdict or in place of one.
+/// Which answer was written; if it is a refusal, what would mend it; and what else is to be said, as a line: if the grid
+/// steps of the two files differ, that they do, beside a verdict or in place of one; and if a file is refused since
+/// several cells could be its top, which these are.
 #[derive(Debug, Drop, PartialEq, Eq)]
 pub struct Outcome {
     pub status: Status,
     pub hint: Option<Hint>,
-    pub steps: Option<Vec<u8>>,
+    pub line: Option<Vec<u8>>,
 }
 
 fn verdict_status(verdict: &Verdict) -> Status
@@ -27,43 +28,48 @@ fn verdict_status(verdict: &Verdict) -> Status
     }
 }
 
-/// How a run on two files ends. `ignore` is what was ignored, `steps` the line on their grid steps.
+/// How a run on two files ends. `line` is what else is to be said.
 pub(crate) fn outcome_of(
     profile: Profile,
     answer: &Result<Comparison, Refusal>,
-    steps: Option<Vec<u8>>,
+    line: Option<Vec<u8>>,
 ) -> Outcome
-    requires { AreStepsOf answer.now (option_map (λ text. text.items) steps) }
+    requires { IsLineOf answer.now (option_map (λ text. text.items) line) }
     ensures { IsOutcomeOf profile answer.now result }
 {
     match answer {
         Ok(comparison) => Outcome {
             status: verdict_status(&comparison.verdict),
             hint: None,
-            steps,
+            line,
         },
         Err(refusal) => Outcome {
             status: Status::Refused,
-            hint: hint_of_two(profile, refusal),
-            steps,
+            hint: hint_of(profile, refusal),
+            line,
         },
     }
 }
 
-/// How a run on one file ends. `ignore` is what was ignored.
-pub(crate) fn shown_outcome<X>(profile: Profile, answer: &Result<X, Refusal>) -> Outcome
-    ensures { result ≡ shown_outcome profile answer.now }
+/// How a run on one file ends. `line` is what else is to be said.
+pub(crate) fn shown_outcome<X>(
+    profile: Profile,
+    answer: &Result<X, Refusal>,
+    line: Option<Vec<u8>>,
+) -> Outcome
+    requires { IsLineOfOne answer.now (option_map (λ text. text.items) line) }
+    ensures { IsShownOutcome profile answer.now result }
 {
     match answer {
         Ok(_) => Outcome {
             status: Status::Shown,
             hint: None,
-            steps: None,
+            line,
         },
         Err(refusal) => Outcome {
             status: Status::Refused,
-            hint: hint_of_one(profile, refusal),
-            steps: None,
+            hint: hint_of(profile, refusal),
+            line,
         },
     }
 }

@@ -1,21 +1,23 @@
 //! The runs of the program: each finds an answer and writes its text.
-ghost use Rattle.std.specs.Prelude.{◌≡◌, OnErr, IfOk, Err, option_copied};
+ghost use Rattle.std.specs.Prelude.{◌≡◌, OnErr, IfOk, Err, None, option_copied};
 ghost use Rattle.std.specs.Io.KnownBytes.{Keeps};
 ghost use Rattle.lvl_io.specs.Bytes.{CountsFailure};
 ghost use Rattle.lvl_report.specs.Runs.{IsComparedBy, IsDigestedBy, IsExplainedBy, IsShownBy, IsViewedBy, IsWritten};
-ghost use Rattle.lvl_report.specs.Runs.{IsBegun, IsMeasuredBy, input};
+ghost use Rattle.lvl_report.specs.Runs.{IsBegun, IsListedBy, IsMeasuredBy, input};
 ghost use Rattle.lvl.specs.Sides.{given_name};
 ghost use Rattle.lvl_profile.specs.Profiles.{strict};
 ghost use Rattle.lvl_report.specs.Texts.{text_of, text_of_digested, text_of_explained, text_of_measured};
-ghost use Rattle.lvl_report.specs.Texts.{text_of_shown};
-ghost use Rattle.lvl_report.specs.Hints.{IsExplainedOutcome, IsMeasuredOutcome, IsOutcomeOf, shown_outcome};
+ghost use Rattle.lvl_report.specs.Texts.{text_of_list, text_of_shown};
+ghost use Rattle.lvl_report.specs.Hints.{IsExplainedOutcome, IsMeasuredOutcome, IsOutcomeOf, IsShownOutcome};
 ghost use Rattle.lvl_report.specs.Writing.{ends_by, status_of, shown_status, is_output};
 
 use crate::outcome::Outcome;
 use crate::status::{RunFault, Status};
-use crate::tell::{tell, tell_both, tell_digest, tell_measured, tell_shown};
+use crate::tell::{tell, tell_both, tell_digest, tell_list, tell_measured, tell_shown};
 use crate::why::parts_of;
-use lvl::{Tops, compare_files, compare_measured, digest_file, explain_files, show_file};
+use lvl::{
+    Tops, compare_files, compare_measured, digest_file, explain_files, list_cells, show_file,
+};
 use lvl_io::{Read, Write};
 use lvl_profile::Profile;
 use lvl_view::View;
@@ -265,7 +267,7 @@ pub fn run_show_by<R: Read, W: Write>(
     ensures written { IfOk result (IsWritten
         (IsShownBy (input profile (R.remaining reader.old) (R.remaining reader.new)
         (R.read_errors reader.old) (R.read_errors reader.new) (option_copied top.entry)))
-        text_of_shown (ends_by (shown_outcome profile)) (W.contents out.old) (W.contents out.new)) }
+        text_of_shown (IsShownOutcome profile) (W.contents out.old) (W.contents out.new)) }
     ensures begun { OnErr result (IsBegun
         (IsShownBy (input profile (R.remaining reader.old) (R.remaining reader.new)
         (R.read_errors reader.old) (R.read_errors reader.new) (option_copied top.entry)))
@@ -294,7 +296,7 @@ pub fn run_digest<R: Read, W: Write>(
     ensures written { IfOk result (IsWritten
         (IsDigestedBy (input profile (R.remaining reader.old) (R.remaining reader.new)
         (R.read_errors reader.old) (R.read_errors reader.new) (option_copied top.entry)))
-        text_of_digested (ends_by (shown_outcome profile)) (W.contents out.old) (W.contents out.new)) }
+        text_of_digested (IsShownOutcome profile) (W.contents out.old) (W.contents out.new)) }
     ensures begun { OnErr result (IsBegun
         (IsDigestedBy (input profile (R.remaining reader.old) (R.remaining reader.new)
         (R.read_errors reader.old) (R.read_errors reader.new) (option_copied top.entry)))
@@ -305,4 +307,31 @@ pub fn run_digest<R: Read, W: Write>(
 {
     let answer = digest_file(alloc, reader, top, profile);
     tell_digest(alloc, profile, &answer, out)
+}
+
+/// Lists the cells of a file, whether they are sound or not: writes what it says about itself, the number of its
+/// cells, and for each cell, in file order, its name, the numbers of its shapes and of its references, and whether no
+/// cell of the file refers to it; or the refusal on one line. The whole text is made before any of it is written.
+///
+/// It writes an answer that [`list_cells`](lvl::list_cells) may return for this file.
+pub fn run_cells<R: Read, W: Write>(
+    alloc: Global,
+    reader: &mut R,
+    profile: Profile,
+    out: &mut W,
+) -> Result<Outcome, RunFault>
+    ensures written { IfOk result (IsWritten
+        (IsListedBy (input profile (R.remaining reader.old) (R.remaining reader.new)
+        (R.read_errors reader.old) (R.read_errors reader.new) None))
+        text_of_list (IsShownOutcome profile) (W.contents out.old) (W.contents out.new)) }
+    ensures begun { OnErr result (IsBegun
+        (IsListedBy (input profile (R.remaining reader.old) (R.remaining reader.new)
+        (R.read_errors reader.old) (R.read_errors reader.new) None))
+        text_of_list (W.contents out.old) (W.contents out.new)) }
+    ensures nothing { result ≡ Err RunFault.OutOfMemory → Keeps (W.contents out.old) (W.contents out.new) }
+    ensures errors { CountsFailure (W.write_errors out.old) (W.write_errors out.new) (is_output result) }
+    ensures same { W.lent out.new ≡ W.lent out.old }
+{
+    let answer = list_cells(alloc, reader, profile);
+    tell_list(alloc, profile, &answer, out)
 }

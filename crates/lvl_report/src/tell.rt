@@ -4,25 +4,26 @@ ghost use Rattle.std.specs.Io.KnownBytes.{Appends, Keeps};
 ghost use Rattle.lvl_io.specs.Bytes.{CountsFailure};
 ghost use Rattle.lvl.specs.Measured.{IsBySteps};
 ghost use Rattle.lvl.specs.Steps.{DifferInSteps};
-ghost use Rattle.lvl_report.specs.Texts.{reason_text, text_of, text_of_digested, text_of_measured, text_of_shown};
-ghost use Rattle.lvl_report.specs.Hints.{IsEnd, IsMeasuredOutcome, IsOutcomeOf, shown_outcome};
+ghost use Rattle.lvl_report.specs.Texts.{reason_text, text_of, text_of_digested, text_of_list, text_of_measured};
+ghost use Rattle.lvl_report.specs.Texts.{text_of_shown};
+ghost use Rattle.lvl_report.specs.Hints.{IsEnd, IsMeasuredOutcome, IsOutcomeOf, IsShownOutcome};
 ghost use Rattle.lvl_report.specs.Steps.{IsDifferenceSaid};
 ghost use Rattle.lvl_report.specs.Writing.{AppendsBeginning, is_output};
 
 use crate::digest::form_digest;
+use crate::list::form_list;
 use crate::outcome::{Outcome, outcome_of, shown_outcome};
 use crate::output::put;
 use crate::status::{RunFault, Status};
-use crate::steps::{difference_line, steps_of};
+use crate::steps::{difference_line, line_beside, line_beside_one};
 use crate::text::{form, form_shown};
 use crate::why::{form_both, parts_of};
-use lvl::{Comparison, Digested, Head, Measured, Refusal, Shown, Why};
+use lvl::{CellList, Comparison, Digested, Head, Measured, Refusal, Shown, Why};
 use lvl_io::Write;
 use lvl_profile::Profile;
 use std::alloc::Global;
 
-/// Writes the text of an answer about two files, and returns how the run ends. `ignore` is what was
-/// ignored.
+/// Writes the text of an answer about two files, and returns how the run ends.
 pub(crate) fn tell<W: Write>(
     alloc: Global,
     profile: Profile,
@@ -39,11 +40,11 @@ pub(crate) fn tell<W: Write>(
     let Ok(text) = form(alloc, answer) else {
         return Err(RunFault::OutOfMemory);
     };
-    let Ok(steps) = steps_of(alloc, answer) else {
+    let Ok(line) = line_beside(alloc, answer) else {
         return Err(RunFault::OutOfMemory);
     };
     put(out, &text)?;
-    Ok(outcome_of(profile, answer, steps))
+    Ok(outcome_of(profile, answer, line))
 }
 
 /// Writes the text of an answer about two files and of its reason, and returns how the run ends.
@@ -66,11 +67,11 @@ pub(crate) fn tell_both<W: Write>(
     let Ok(text) = form_both(alloc, answer, why) else {
         return Err(RunFault::OutOfMemory);
     };
-    let Ok(steps) = steps_of(alloc, answer) else {
+    let Ok(line) = line_beside(alloc, answer) else {
         return Err(RunFault::OutOfMemory);
     };
     put(out, &text)?;
-    Ok(outcome_of(profile, answer, steps))
+    Ok(outcome_of(profile, answer, line))
 }
 
 /// How a run on two files ends that weren't compared, since their grid steps differ.
@@ -83,7 +84,7 @@ fn outcome_of_steps(alloc: Global, first: &Head, second: &Head) -> Result<Outcom
         Ok(line) => Ok(Outcome {
             status: Status::Refused,
             hint: None,
-            steps: Some(line),
+            line: Some(line),
         }),
         Err(_) => Err(RunFault::OutOfMemory),
     }
@@ -116,7 +117,7 @@ pub(crate) fn tell_measured<W: Write>(
     }
 }
 
-/// Writes the text of what is shown, and returns how the run ends. `ignore` is what was ignored.
+/// Writes the text of what is shown, and returns how the run ends.
 pub(crate) fn tell_shown<W: Write>(
     alloc: Global,
     profile: Profile,
@@ -124,7 +125,7 @@ pub(crate) fn tell_shown<W: Write>(
     out: &mut W,
 ) -> Result<Outcome, RunFault>
     ensures whole { OnOk result (Appends (W.contents out.old) (W.contents out.new) (text_of_shown answer.now)) }
-    ensures outcome { IfOk result (λ outcome. outcome ≡ shown_outcome profile answer.now) }
+    ensures outcome { IfOk result (IsShownOutcome profile answer.now) }
     ensures begun { OnErr result
         (AppendsBeginning (W.contents out.old) (W.contents out.new) (text_of_shown answer.now)) }
     ensures nothing { result ≡ Err RunFault.OutOfMemory → Keeps (W.contents out.old) (W.contents out.new) }
@@ -134,11 +135,14 @@ pub(crate) fn tell_shown<W: Write>(
     let Ok(text) = form_shown(alloc, answer) else {
         return Err(RunFault::OutOfMemory);
     };
+    let Ok(line) = line_beside_one(alloc, answer) else {
+        return Err(RunFault::OutOfMemory);
+    };
     put(out, &text)?;
-    Ok(shown_outcome(profile, answer))
+    Ok(shown_outcome(profile, answer, line))
 }
 
-/// Writes the text of a digest, and returns how the run ends. `ignore` is what was ignored.
+/// Writes the text of a digest, and returns how the run ends.
 pub(crate) fn tell_digest<W: Write>(
     alloc: Global,
     profile: Profile,
@@ -146,7 +150,7 @@ pub(crate) fn tell_digest<W: Write>(
     out: &mut W,
 ) -> Result<Outcome, RunFault>
     ensures whole { OnOk result (Appends (W.contents out.old) (W.contents out.new) (text_of_digested answer.now)) }
-    ensures outcome { IfOk result (λ outcome. outcome ≡ shown_outcome profile answer.now) }
+    ensures outcome { IfOk result (IsShownOutcome profile answer.now) }
     ensures begun { OnErr result
         (AppendsBeginning (W.contents out.old) (W.contents out.new) (text_of_digested answer.now)) }
     ensures nothing { result ≡ Err RunFault.OutOfMemory → Keeps (W.contents out.old) (W.contents out.new) }
@@ -156,6 +160,34 @@ pub(crate) fn tell_digest<W: Write>(
     let Ok(text) = form_digest(alloc, answer) else {
         return Err(RunFault::OutOfMemory);
     };
+    let Ok(line) = line_beside_one(alloc, answer) else {
+        return Err(RunFault::OutOfMemory);
+    };
     put(out, &text)?;
-    Ok(shown_outcome(profile, answer))
+    Ok(shown_outcome(profile, answer, line))
+}
+
+/// Writes the text of what is listed, and returns how the run ends.
+pub(crate) fn tell_list<W: Write>(
+    alloc: Global,
+    profile: Profile,
+    answer: &Result<CellList, Refusal>,
+    out: &mut W,
+) -> Result<Outcome, RunFault>
+    ensures whole { OnOk result (Appends (W.contents out.old) (W.contents out.new) (text_of_list answer.now)) }
+    ensures outcome { IfOk result (IsShownOutcome profile answer.now) }
+    ensures begun { OnErr result
+        (AppendsBeginning (W.contents out.old) (W.contents out.new) (text_of_list answer.now)) }
+    ensures nothing { result ≡ Err RunFault.OutOfMemory → Keeps (W.contents out.old) (W.contents out.new) }
+    ensures errors { CountsFailure (W.write_errors out.old) (W.write_errors out.new) (is_output result) }
+    ensures same { W.lent out.new ≡ W.lent out.old }
+{
+    let Ok(text) = form_list(alloc, answer) else {
+        return Err(RunFault::OutOfMemory);
+    };
+    let Ok(line) = line_beside_one(alloc, answer) else {
+        return Err(RunFault::OutOfMemory);
+    };
+    put(out, &text)?;
+    Ok(shown_outcome(profile, answer, line))
 }

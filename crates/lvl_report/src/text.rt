@@ -16,7 +16,7 @@ use std::alloc::{AllocError, Global};
 use std::io;
 use std::io::Write;
 
-fn side_name(side: Side) -> &'static str
+pub(crate) fn side_name(side: Side) -> &'static str
     ensures { result.now ≡ side_text side }
 {
     match side {
@@ -66,7 +66,7 @@ fn push_file_fault(text: &mut Vec<u8>, fault: &FileFault) -> io::Result<()>
 }
 
 /// Appends what a file says about itself.
-fn push_head(text: &mut Vec<u8>, head: &Head) -> io::Result<()>
+pub(crate) fn push_head(text: &mut Vec<u8>, head: &Head) -> io::Result<()>
     ensures { OnOk result (text.new.items ≡ text.old.items ++ head_text head.now) }
 {
     match head {
@@ -84,9 +84,9 @@ pub(crate) fn push_refusal(text: &mut Vec<u8>, refusal: &Refusal) -> io::Result<
             write!(text, "refused: {}: ", side_name(*side))?;
             push_file_fault(text, fault)
         }
-        Refusal::Cells(side, fault) => {
+        Refusal::Cells(side, refused) => {
             write!(text, "refused: {}: cells ", side_name(*side))?;
-            push_cell_fault(text, fault)
+            push_cell_fault(text, &refused.fault)
         }
         Refusal::Flat(side, fault) => {
             write!(text, "refused: {}: flat ", side_name(*side))?;

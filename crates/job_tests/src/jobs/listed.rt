@@ -93,7 +93,8 @@ fn job_of(alloc: Global, line: &str) -> Result<Job, AllocError> {
 }
 
 /// What is said of a bad word.
-const BAD_IGNORE: &str = "lvl: bad ignore 1 IgnoreText\n";
+const BAD_IGNORE: &str = "lvl: bad ignore 1 IgnoreText\n\
+    lvl: --ignore takes properties, texts, names, padding or all, joined by commas\n";
 
 /// A list of two files that are the same.
 const SAME: &[u8] = b"\

@@ -12,6 +12,7 @@ Commands:
   compare  Says whether two layouts draw the same mask
   show     Shows a layout's top cell, and how many rings it places on each layer
   digest   Hashes what a layout draws: layouts of the same mask have the same digest
+  cells    Lists a layout's cells, and which of them could be its top
   help     Print this message or the help of the given subcommand(s)
 
 Options:
@@ -79,9 +80,25 @@ Options:
   -h, --help            Print help
 ";
 
+const CELLS: &str = "\
+Lists a layout's cells, and which of them could be its top
+
+Usage: lvl cells [OPTIONS] <A>
+
+Arguments:
+  <A>  The layout, GDSII or OASIS
+
+Options:
+      --ignore <WORDS>  Records to read and ignore: properties, texts, names, padding or all, joined by commas
+      --large           Takes the limits for whole chips
+      --progress        Shows on standard error how far it is, also if that isn't a terminal
+      --no-progress     Doesn't show how far it is
+  -h, --help            Print help
+";
+
 const BARE: &str = "\
 error: 'lvl' requires a subcommand but one was not provided
-  [subcommands: compare, show, digest, help]
+  [subcommands: compare, show, digest, cells, help]
 
 Usage: lvl <COMMAND>
 
@@ -112,7 +129,7 @@ Usage: lvl <COMMAND>
 For more information, try '--help'.
 ";
 
-static TEXTS: [(&str, &str); 12] = [
+static TEXTS: [(&str, &str); 13] = [
     ("lvl --help", LVL),
     ("lvl -h", LVL),
     ("lvl help", LVL),
@@ -120,6 +137,7 @@ static TEXTS: [(&str, &str); 12] = [
     ("lvl help compare", COMPARE),
     ("lvl show --help", SHOW),
     ("lvl digest --help", DIGEST),
+    ("lvl cells --help", CELLS),
     ("lvl --version", "lvl 2.0.0\n"),
     ("lvl", BARE),
     ("lvl digest a b", SEVERAL),

@@ -10,11 +10,12 @@ use Rattle.lvl_line.specs.declared.job.LineFault.TheVariants as fault
 abbrev pub HasValue : Text → List Row → Type 0
 HasValue id rows = is_some (first_of id rows) ≡ true
 
--- the subcommand is one of the three, and its files are given
+-- the subcommand is one of the four, and its files are given
 abbrev pub IsJobOf : Text → List Row → Type 0
 IsJobOf name rows = ((name ≡ codes "compare") × HasValue (codes "A") rows × HasValue (codes "B") rows)
     ⊎ ((name ≡ codes "show") × HasValue (codes "A") rows)
     ⊎ ((name ≡ codes "digest") × HasValue (codes "A") rows)
+    ⊎ ((name ≡ codes "cells") × HasValue (codes "A") rows)
 
 -- the fault is an error of a conflict
 abbrev pub IsConflictFault : LineFault → Type 0

@@ -51,7 +51,7 @@ fn measured(
 
 /// The row's line is the last that is written, or all that is said where nothing is.
 fn check(rt: &impl Abort, text: &[u8], outcome: &Outcome, line: &str, name: &str) {
-    let said = outcome.steps.as_deref();
+    let said = outcome.line.as_deref();
     if !line.starts_with("lvl: ") {
         assert!(rt; last_line(text) == line.as_bytes(), "{name}");
         assert!(rt; said.is_none(), "{name}");

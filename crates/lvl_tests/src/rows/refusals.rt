@@ -1,7 +1,7 @@
 //! The texts of refusals that no file brings about, and of one with a name that no file has.
 
 use gds_library::{ElementRule, GdsFault, GdsKind};
-use lvl::{Comparison, FileFault, Refusal};
+use lvl::{CellRefusal, Comparison, FileFault, Refusal};
 use lvl_cells::CellFault;
 use lvl_path::PathFault;
 use lvl_region::Side;
@@ -47,7 +47,11 @@ fn faults_of_paths(rt: HostRuntime) -> Result<(), Fail> {
 fn names_as_bytes_and_memory(rt: HostRuntime) -> Result<(), Fail> {
     let from = Vec::from_slice(rt.alloc(), b"B")?;
     let name = Vec::from_slice(rt.alloc(), b"X\xFF")?;
-    let missing = Refusal::Cells(Side::First, CellFault::MissingCell(from, name));
+    let refused = CellRefusal {
+        fault: CellFault::MissingCell(from, name),
+        tops: Vec::new(rt.alloc()),
+    };
+    let missing = Refusal::Cells(Side::First, refused);
     let text = reported(rt.alloc(), missing)?;
     assert!(rt; text.as_slice() == b"refused: first: cells 3 MissingCell B X\xFF\n".as_slice());
     let text = reported(rt.alloc(), Refusal::OutOfMemory)?;

@@ -1,13 +1,12 @@
 use Rattle.lvl_report.specs.Texts.{text_of_digested}
-use Rattle.lvl_report.specs.Hints.{shown_outcome}
-use Rattle.lvl_report.specs.Writing.{ends_by}
+use Rattle.lvl_report.specs.Hints.{IsShownOutcome}
 use Rattle.lvl_report.proofs.Running.{was_written, was_begun}
 use Rattle.lvl_report.proofs.runs.run_digest.Goals as goal
 
 pub returns-clause-written : goal.returns-clause-written
 returns-clause-written g c =
     let found = c.digest_file-answer.ensures in
-    was_written _ text_of_digested (ends_by (shown_outcome c.args.profile)) _ _ c.digest_file-answer.result c.tell_digest.result
+    was_written _ text_of_digested (IsShownOutcome c.args.profile) _ _ c.digest_file-answer.result c.tell_digest.result
     (record {
       found = found.digested;
       refused = found.refused;

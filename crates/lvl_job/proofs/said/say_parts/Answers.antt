@@ -1,6 +1,6 @@
 use Rattle.lvl_job.specs.inside.Steps.{Speaking}
 use Rattle.lvl_job.proofs.Telling.{said_from_start, says_then, silent}
-use Rattle.lvl_job.proofs.said.say_of_list.Goals as goal
+use Rattle.lvl_job.proofs.said.say_parts.Goals as goal
 
 pub returns : goal.returns
 returns g c =
@@ -23,4 +23,4 @@ returns g c =
     let all = said_from_start _ _ _ three
     (says_then _ _ start two three (says_then _ _ start one two c.say_more.ensures c.say_more-2.ensures)
     c.say_more-3.ensures) in
-    rw (c.as_bytes.ensures.value, c.as_bytes-2.ensures.value) at all
+    rw (c.as_bytes.ensures.value, c.as_bytes-2.ensures.value, c.as_bytes-3.ensures.value) at all

@@ -1,0 +1,18 @@
+use Rattle.std.proofs.Common.{◌≡◌, ◌∙◌, ap, ap₂, codes}
+use Rattle.std.proofs.lemmas.Result.{IfOk-weaker}
+use Rattle.clap.specs.Words.{app_of, new_app, with_rule}
+use Rattle.clap.specs.Simple.{app_of_fields}
+use Rattle.lvl_line.specs.Line.{file_rule, option_rule}
+use Rattle.lvl_line.proofs.command.cells.Goals as goal
+
+pub returns : goal.returns
+returns c =
+    let fresh : app_of c.about.result ≡ new_app (codes "cells") =
+    ap app_of_fields c.about.ensures ∙ c.new.ensures.app in
+    let filed : app_of c.in_ok-arg.field-0 ≡ with_rule (new_app (codes "cells")) (file_rule (codes "A")) =
+    c.in_ok-arg.ensures.shape c.file.ensures.local ∙ ap₂ with_rule fresh c.file.ensures.rule in
+    let ignored : app_of c.in_ok-arg-2.field-0
+    ≡ with_rule (with_rule (new_app (codes "cells")) (file_rule (codes "A"))) (option_rule (codes "ignore")) =
+    c.in_ok-arg-2.ensures.shape c.option.ensures.local ∙ ap₂ with_rule filed c.option.ensures.rule in
+    IfOk-weaker c.arg-3.result _ _
+    (λ r h. h.shape c.flag.ensures.local ∙ ap₂ with_rule ignored c.flag.ensures.rule) c.arg-3.ensures
