@@ -1,12 +1,12 @@
 -- The laws of the spelling of a block.
-use Rattle.std.proofs.Common.{◌==◌, ℕ, Bool, true, false, Ok}
-use Rattle.oasis_values.proofs.Codes.{IsCode, gives_code, seen_code, then_code}
+use Rattle.std.proofs.Common.{ℕ}
+use Rattle.oasis_values.proofs.Codes.{IsCode, seen_code, then_code}
 use Rattle.oasis_values.proofs.Integers.{unsigned_code}
 use Rattle.oasis_values.proofs.Values.{string_code}
 use Rattle.oasis_values.specs.Known.{Seen}
 use Rattle.oasis_values.specs.Texts.{IsString}
 use Rattle.oasis_values.specs.declared.text.Text.TheVariants.{B}
-use Rattle.oasis_blocks.specs.Blocks.{IsPacked, IsBlockOf, IsBlock, most_packed}
+use Rattle.oasis_blocks.specs.Blocks.{IsPacked, most_packed}
 use Rattle.oasis_blocks.specs.Packed.{packed}
 
 pub packed_of_code : (count : ℕ) → IsCode (Seen (packed count) (IsString B most_packed))
@@ -14,10 +14,3 @@ packed_of_code count = seen_code (packed count) (string_code B most_packed)
 
 pub packed_code : IsCode IsPacked
 packed_code = then_code unsigned_code packed_of_code
-
-pub block_of_code : (deflate : Bool) → IsCode (IsBlockOf deflate)
-block_of_code true = seen_code Ok packed_code
-block_of_code false = gives_code
-
-pub block_code : IsCode IsBlock
-block_code = then_code unsigned_code (λ kind. block_of_code (kind == 0))

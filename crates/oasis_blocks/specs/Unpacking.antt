@@ -3,7 +3,7 @@ use Rattle.std.specs.Prelude.{◌≡◌, ◌≢◌, ℕ, ◌<◌, ◌≤◌, Lis
 use Rattle.lvl_inflate.specs.Streams.{inflated}
 use Rattle.oasis_blocks.specs.Packed.{Packed}
 use Rattle.oasis_blocks.specs.declared.fault.BlockRule.{BlockRule}
-use Rattle.oasis_blocks.specs.declared.fault.BlockRule.TheVariants.{CompressionType, TooLong, Deflate, BlockLength}
+use Rattle.oasis_blocks.specs.declared.fault.BlockRule.TheVariants.{TooLong, Deflate, BlockLength}
 
 -- the block has these bytes: the packed bytes are one stream that spells them, and there are as many as it says
 pub record Unpacks (p : Packed) (ys : List ℕ) : Type 0 where
@@ -13,7 +13,6 @@ pub record Unpacks (p : Packed) (ys : List ℕ) : Type 0 where
 -- the block breaches the rule, if only so many unpacked bytes are left within the limit. Own rule: where the packed
 -- bytes spell nothing, either of the last two can be reported, by what is seen first
 abbrev pub Breaches : ℕ → Packed → BlockRule → Type 0
-Breaches room p CompressionType = ⊥
 Breaches room p TooLong = room < p.count
 Breaches room p Deflate = (p.count ≤ room) × (inflated p.bytes ≡ None)
 Breaches room p BlockLength = (p.count ≤ room) × ((ys : List ℕ) → inflated p.bytes ≡ Some ys → length ys ≢ p.count)

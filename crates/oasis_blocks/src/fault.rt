@@ -1,14 +1,10 @@
 //! Why a block is refused.
 
-use oasis_values::ValueFault;
 use thiserror::Error;
 
-/// A rule of compressed blocks that was breached.
+/// A rule that a block breaches when it is unpacked.
 #[derive(Clone, Copy, Debug, Drop, PartialEq, Eq, Error)]
 pub enum BlockRule {
-    /// The type of compression isn't 0.
-    #[error("a block has an unknown type of compression")]
-    CompressionType,
     /// It has more bytes, unpacked, than are left within the limit (own rule).
     #[error("a block unpacks to too many bytes")]
     TooLong,
@@ -19,15 +15,4 @@ pub enum BlockRule {
     /// their stream.
     #[error("a block has another length than it says")]
     BlockLength,
-}
-
-/// Why no block was returned.
-#[derive(Clone, Copy, Debug, PartialEq, Eq, Error)]
-pub enum BlockFault {
-    /// A value couldn't be read. After this, every call returns `Failed`.
-    #[error("a value of a block can't be read")]
-    Value(ValueFault),
-    /// The bytes taken breach a rule of blocks. What comes after them can still be read.
-    #[error("a block breaches a rule")]
-    Rule(BlockRule),
 }

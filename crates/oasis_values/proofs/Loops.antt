@@ -4,9 +4,12 @@ use Rattle.std.proofs.Common.{Result, Ok, Err, refl, sym, ap, subst, append_asso
 use Rattle.std.specs.Prelude.{Option}
 use Rattle.std.specs.Borrow.{GName}
 use Rattle.lvl_refusal.specs.declared.Cause.{Cause}
+use Rattle.lvl_refusal.specs.declared.Cause.TheVariants.{OutOfMemory}
 use Rattle.oasis_values.specs.Input.{has_failed}
 use Rattle.oasis_values.specs.Reads.{Reads}
+use Rattle.oasis_values.specs.inside.Stopped.{HasStopped}
 use Rattle.oasis_values.proofs.Reading.{reads_err, reads_then, reads_nothing, reads_seen, reads_seen_err}
+use Rattle.oasis_values.proofs.Reading.{reads_stopped}
 use Rattle.oasis_values.specs.Spelling.{Spelling, Gives, Then, Chain}
 use Rattle.oasis_values.proofs.Codes.{IsCode, gives_code, then_code, chain_code}
 use Rattle.oasis_values.specs.declared.fault.ValueFault.{ValueFault}
@@ -94,6 +97,16 @@ going_err {remaining = remaining} {errors = errors} {lent = lent} {S = S} {show 
     let next = subst (λ i. Going remaining errors lent S show n a first now i b said) h g in
     next.goes new (Err e) (reads_err (λ x. Then (Chain S show k x) (λ ys. Gives (Ok (show x ∷ ys))))
     (λ x. then_code (chain_code {S = S} show k x can) (λ ys. gives_code)) p)
+
+-- an allocation failed
+pub going_stop : {R A B : Type 0} {remaining : R → Option (List ℕ)} {errors : R → ℕ} {lent : R → List GName}
+    {S : A → Spelling A} {show : A → B} {n : ℕ} {a : A} {first now new : Input R}
+    {left : ℕ} {b : A} {said : List B}
+    → Going remaining errors lent S show n a first now left b said → HasStopped now new
+    → Reads remaining errors lent (Chain S show n a) first new (Err OutOfMemory)
+going_stop {new = new} g stop =
+    let none : ℕ = 0 in
+    g.goes new (Err OutOfMemory) (reads_stopped g.live (reads_nothing none g.live) stop)
 
 -- all values were read
 pub going_end : {R A B : Type 0} {remaining : R → Option (List ℕ)} {errors : R → ℕ} {lent : R → List GName}

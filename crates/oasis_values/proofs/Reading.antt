@@ -269,10 +269,10 @@ pub reads_seen_err : {R A B : Type 0} {remaining : R → Option (List ℕ)} {err
 reads_seen_err g p = reads_err (λ y. Gives (Ok (g y))) (λ y. gives_code) p
 
 -- a value was read, and then an allocation failed
-pub reads_stopped : {R A : Type 0} {remaining : R → Option (List ℕ)} {errors : R → ℕ} {lent : R → List GName}
-    {S : Spelling A} {old now new : Input R} {x : A}
+pub reads_stopped : {R A B : Type 0} {remaining : R → Option (List ℕ)} {errors : R → ℕ} {lent : R → List GName}
+    {S : Spelling A} {T : Spelling B} {old now new : Input R} {x : A}
     → has_failed old ≡ false → Reads remaining errors lent S old now (Ok x) → HasStopped now new
-    → Reads remaining errors lent S old new (Err OutOfMemory)
+    → Reads remaining errors lent T old new (Err OutOfMemory)
 reads_stopped {remaining = remaining} {errors = errors} {lent = lent} {old = old} {now = now} {new = new} live p stop =
     record {
       again = λ h. absurd (let k : true ≡ false = sym h ∙ live in cc);

@@ -8,6 +8,10 @@ use lvl_io::Read;
 use lvl_refusal::Cause;
 use std::alloc::Global;
 
+/// How many bytes of a string memory is taken for before any is read, at most. A longer one takes more as they come, so
+/// that a length alone takes no memory.
+const TAKEN_FIRST: usize = 65_536;
+
 /// The kinds of strings.
 #[derive(Clone, Copy, Debug, Drop, PartialEq, Eq)]
 pub enum Text {
@@ -75,7 +79,7 @@ impl<R: Read> Input<R> {
     ghost use Rattle.oasis_values.specs.Texts.{IsUnkeptString};
 
     /// A string of at most `most` bytes. The length is tested before it allocates, and each byte when it is
-    /// read.
+    /// read. It takes memory for 65,536 bytes at most before they come.
     pub fn string(
         &mut self,
         alloc: Global,
@@ -101,13 +105,16 @@ impl<R: Read> Input<R> {
         ensures reads { Reads R.remaining R.read_errors R.lent
             (AreCharacters kind len) self.old self.new (items result) }
     {
-        let Ok(mut text) = Vec::with_capacity(alloc, len) else {
+        let Ok(mut text) = Vec::with_capacity(alloc, len.min(TAKEN_FIRST)) else {
             self.stop();
             return Err(Cause::OutOfMemory);
         };
         for n in 0..len {
             let byte = self.character(kind)?;
-            text.push_reserved(byte);
+            let Ok(()) = text.push(byte) else {
+                self.stop();
+                return Err(Cause::OutOfMemory);
+            };
         }
         Ok(text)
     }

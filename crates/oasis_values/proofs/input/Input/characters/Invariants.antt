@@ -1,11 +1,10 @@
-use Rattle.std.proofs.Common.{ℕ, ◌≡◌, ◌≤◌, ◌-◌, vec_len, vec_capacity}
+use Rattle.std.proofs.Common.{ℕ, ◌-◌}
 use Rattle.oasis_values.specs.Texts.{IsCharacter}
 use Rattle.oasis_values.proofs.Loops.{Going}
 use Rattle.oasis_values.proofs.input.Input.characters.Given as goal
 
--- the characters so far were read, for any last one, and there is capacity for the others
+-- the characters so far were read, for any last one
 abbrev pub invariant-loop-n : goal.invariant-loop-n
 invariant-loop-n g l =
     (last : ℕ) × Going g.R.Read.remaining g.R.Read.read_errors g.R.Read.lent (λ _. IsCharacter l.kind) (λ c. c)
     l.len 0 l.initial.self l.self (l.len - l.n) last l.text.items
-    × (vec_len l.text ≡ l.n) × (l.len ≤ vec_capacity l.text)
