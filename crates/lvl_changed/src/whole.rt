@@ -1,5 +1,5 @@
 //! Comparison of two cells as a whole, with all that they place.
-ghost use Rattle.std.specs.Prelude.{◌≡◌, ◌↔◌, IfOk, IsTrue, false};
+ghost use Rattle.std.specs.Prelude.{◌≡◌, ◌↔◌, IfOk, IfSome, IsTrue, false};
 ghost use Rattle.lvl_grid.specs.declared.point.Square.{Square};
 ghost use Rattle.lvl_names.specs.declared.layer.Layer.{Layer};
 ghost use Rattle.lvl_flat.specs.Flattened.{CoversAt, TopCovers};
@@ -113,11 +113,26 @@ impl Budget {
         most
     }
 
-    /// Stores that a cell was compared in vain, so many levels with those below it.
-    fn add_in_vain(&mut self, cell: usize, levels: u8) {
+    fn set_in_vain(&mut self, cell: usize, levels: u8) {
         if let Some(kept) = self.in_vain.get_mut(cell) {
             *kept = levels;
         }
+    }
+
+    /// Notes what a comparison of a cell found.
+    fn settle(&mut self, cell: usize, is_same: bool) {
+        if is_same {
+            self.set_in_vain(cell, 0);
+        }
+    }
+
+    /// Whether it may pay to compare a cell. Until it is found to draw the same as its partner, that
+    /// counts as in vain.
+    fn takes_on(&mut self, checked: &Checked, cell: usize) -> bool {
+        let below = self.in_vain_below(checked, cell);
+        self.set_in_vain(cell, below.saturating_add(1));
+        let each = self.each;
+        below < MOST_IN_VAIN && self.takes(each)
     }
 
     /// Whether this much is left, which is then taken.
@@ -158,6 +173,35 @@ fn are_same_tops(
     Ok(found.is_none())
 }
 
+/// Two cells, each as the top of its library.
+#[derive(Drop)]
+struct Roots {
+    ours: Fitted,
+    theirs: Fitted,
+}
+
+/// Two cells as tops, or None if one of them can't be one.
+fn roots_of(
+    alloc: Global,
+    first: &Fitted,
+    ours: usize,
+    second: &Fitted,
+    theirs: usize,
+) -> Result<Option<Roots>, AllocError>
+    ensures ours { IfOk result (λ found. IfSome found (λ roots.
+        roots.ours ≡ record { cells = first.now.cells; top = ours; order = first.now.order })) }
+    ensures theirs { IfOk result (λ found. IfSome found (λ roots.
+        roots.theirs ≡ record { cells = second.now.cells; top = theirs; order = second.now.order })) }
+{
+    let Some(ours) = first.rooted(alloc, ours)? else {
+        return Ok(None);
+    };
+    let Some(theirs) = second.rooted(alloc, theirs)? else {
+        return Ok(None);
+    };
+    Ok(Some(Roots { ours, theirs }))
+}
+
 /// Whether two cells draw the same, with all that they place, if they do so outside of the area.
 /// `false` says nothing if the comparison would cost too much.
 fn are_same_cells(
@@ -176,31 +220,18 @@ fn are_same_cells(
         → (layer : Layer) (s : Square) → CoversAt first.now.cells ours layer s
         ↔ IsMoved view.now.pairs (CoversAt second.now.cells theirs) layer s) }
 {
-    let below = budget.in_vain_below(first.checked(), ours);
-    budget.add_in_vain(ours, below);
-    let each = budget.each;
-    if below >= MOST_IN_VAIN || !budget.takes(each) {
-        return Ok(false);
-    }
     let Some(changes) = area.changes(alloc)? else {
         return Ok(false);
     };
-    let Some(our_top) = first.rooted(alloc, ours)? else {
-        return Ok(false);
-    };
-    let Some(their_top) = second.rooted(alloc, theirs)? else {
-        return Ok(false);
-    };
-    let is_same = are_same_tops(alloc, &our_top, &their_top, view, &changes, budget)?;
-    if !is_same {
-        budget.add_in_vain(ours, below.saturating_add(1));
+    match roots_of(alloc, first, ours, second, theirs)? {
+        Some(roots) => are_same_tops(alloc, &roots.ours, &roots.theirs, view, &changes, budget),
+        None => Ok(false),
     }
-    Ok(is_same)
 }
 
 /// Whether a cell draws the same as its partner, with all that they place, if it does so outside of
 /// the area that was found. `false` says nothing if nothing was found, if the cell is placed only
-/// once, or if the comparison would cost too much.
+/// once, if what it places was compared in vain, or if the comparison would cost too much.
 pub(crate) fn is_same_pair(
     alloc: Global,
     first: &Fitted,
@@ -219,19 +250,13 @@ pub(crate) fn is_same_pair(
     let Some(theirs) = found.partner else {
         return Ok(false);
     };
-    if times < 2 || found.area.windows.is_empty() {
+    if times < 2 || found.area.windows.is_empty() || !budget.takes_on(first.checked(), cell) {
         return Ok(false);
     }
-    are_same_cells(
-        alloc,
-        first,
-        cell,
-        second,
-        theirs,
-        view,
-        &found.area,
-        budget,
-    )
+    let area = &found.area;
+    let is_same = are_same_cells(alloc, first, cell, second, theirs, view, area, budget)?;
+    budget.settle(cell, is_same);
+    Ok(is_same)
 }
 
 /// What was found, with an empty area if the cell draws the same as its partner.

@@ -1,7 +1,9 @@
 use Rattle.std.proofs.Common.{◌≡◌, ◌<◌, ◌-◌, ℕ, List, Option, Some, None, length, get_or, slice_get, sym, ap, ◌∙◌}
-use Rattle.std.proofs.Common.{subst, arith}
+use Rattle.std.proofs.Common.{◌↔◌, IsTrue, subst, arith}
 use Rattle.std.proofs.lemmas.List.FromFn.{length-map-range_with_len}
 use Rattle.std.proofs.lemmas.Option.{slice_get_within, slice_get-get_or}
+use Rattle.lvl_grid.specs.declared.point.Square.{Square}
+use Rattle.lvl_names.specs.declared.layer.Layer.{Layer}
 use Rattle.lvl_cells.specs.Cells.{PlainCell, Rings}
 use Rattle.lvl_cells.specs.Checks.{Settled}
 use Rattle.lvl_cells.specs.Soundness.{IsOrder}
@@ -11,7 +13,7 @@ use Rattle.lvl_view.specs.declared.map.LayerPair.{LayerPair}
 use Rattle.lvl_view.specs.Moved.{IsMoved}
 use Rattle.lvl_changed.specs.Changed.{DrawSameBut}
 use Rattle.lvl_changed.specs.declared.found.Found.{Found}
-use Rattle.lvl_changed.specs.inside.Finding.{AreFound, IsFound}
+use Rattle.lvl_changed.specs.inside.Finding.{AreFound, IsFound, PartnerCovers}
 use Rattle.lvl_changed.proofs.Finding.{found_more, none_found, settled_found, some_weaker, unknown}
 use Rattle.lvl_changed.proofs.cells.changed.Goals as goal
 

@@ -1,19 +1,15 @@
 use Rattle.std.proofs.Common.{◌↔◌, sym, subst}
-use Rattle.std.proofs.lemmas.Result.{IfOk-weaker}
 use Rattle.lvl_flat.specs.Flattened.{CoversAt}
 use Rattle.lvl_changed.specs.inside.Finding.{PartnerCovers}
 use Rattle.lvl_changed.proofs.whole.is_same_pair.Goals as goal
 
 pub returns : goal.returns
-returns c =
-    IfOk-weaker c.are_same_cells.result _ _
-    (λ same h is found l s.
+returns c = λ is found l s.
     subst
     (λ o. CoversAt c.args.first.now.cells c.args.cell l s
     ↔ PartnerCovers c.args.view.now.pairs c.args.second.now.cells o l s) (sym c.in-Some.is)
-    (h is
+    (c.in_ok-is_same.ensures is
     (λ k q out.
     subst
     (λ o. CoversAt c.args.first.now.cells c.args.cell k q
-    ↔ PartnerCovers c.args.view.now.pairs c.args.second.now.cells o k q) c.in-Some.is (found k q out)) l s))
-    c.are_same_cells.ensures
+    ↔ PartnerCovers c.args.view.now.pairs c.args.second.now.cells o k q) c.in-Some.is (found k q out)) l s)
