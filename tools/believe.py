@@ -22,7 +22,8 @@ SUBJECTS = {
     "What is ignored": ["lvl_profile"],
     "Streams of records, and spellings": ["lvl_grammar", "lvl_io"],
     "GDSII": ["gds_library", "gds_elements", "gds_records"],
-    "OASIS": ["oasis_library", "oasis_stream", "oasis_figures", "oasis_records", "oasis_values"],
+    "OASIS": ["oasis_library", "oasis_stream", "oasis_figures", "oasis_records", "oasis_blocks", "oasis_values"],
+    "DEFLATE": ["lvl_inflate"],
     "Views": ["lvl_view", "lvl_compare", "lvl_columns"],
     "Digests": ["lvl_corners"],
     "Reasons": ["lvl_why", "lvl_witness"],
@@ -47,6 +48,7 @@ DEFINITION = re.compile(r"^(?:(?:abbrev|unfoldable|pub|record|data)\s+)+(\S+)", 
 SECTIONS = {
     "GDSII": re.compile(r"GDSII Stream Format Manual, Release 6.*?(\"[A-Z]|[A-Z]{4})", re.S),
     "OASIS": re.compile(r"SEMI P39 OASIS 1\.0.*?(\"[A-Z]|section of each)", re.S),
+    "DEFLATE": re.compile(r"RFC 1951"),
 }
 OWN = re.compile(r"own (rule|notation)", re.I)
 

@@ -1,8 +1,9 @@
 """A second implementation of the OASIS rules: reads bytes as a library, or refuses them with an offset."""
+import oasis_blocks
 import oasis_ignored
 from answers import NOTHING, ONCE, Cell, Library, Reference, Refused, Shape
 from answers import band_rings, in_range, oblique, path_fault
-from oasis_values import A_STRING, N_STRING, Values, moved
+from oasis_values import A_STRING, B_STRING, N_STRING, Values, moved
 
 MAGIC = b"%SEMI-OASIS\r\n"
 LAYERS = 2**32
@@ -29,9 +30,10 @@ def ratio(real):
 
 
 class Reader(Values):
-    def __init__(self, data, ignore):
+    def __init__(self, data, ignore, unpack=False):
         super().__init__(data, ignore)
-        self.known = KNOWN + oasis_ignored.ids(ignore)
+        self.known = KNOWN + oasis_ignored.ids(ignore) + ((oasis_blocks.CBLOCK,) if unpack else ())
+        self.inside, self.room = False, oasis_blocks.MOST_BYTES
         self.cells, self.in_cell, self.modal = [], False, {}
         self.names, self.numbers, self.used, self.name_kind = set(), {}, [], None
 
@@ -53,7 +55,8 @@ class Reader(Values):
     def judge(self, id):
         """Refuses an id that breaches a rule by itself."""
         self.refuse_if(id not in self.known, 24, "Unsupported", id)
-        self.refuse_if(id == 1 or (id in IN_CELL and not self.in_cell), 23, "Unexpected", id)
+        outer = self.inside and id in oasis_blocks.OUTER
+        self.refuse_if(outer or id == 1 or (id in IN_CELL and not self.in_cell), 23, "Unexpected", id)
         self.refuse_if(id in (3, 4) and self.name_kind not in (None, id), 26, "MixedNames")
         self.refuse_if(id in (13, 14) and len(self.cells) == 1_048_576, 39, "TooManyCells")
 
@@ -107,6 +110,8 @@ class Reader(Values):
         elif id in oasis_ignored.RECORDS:
             self.in_cell = self.in_cell and id not in oasis_ignored.NAMES
             oasis_ignored.RECORDS[id](self)
+        elif id == oasis_blocks.CBLOCK:
+            oasis_blocks.take(self, lambda: self.string(B_STRING).encode("latin-1"))
         elif id != 0:
             {20: self.rectangle, 21: self.polygon, 22: self.path}[id]()
 
@@ -233,5 +238,5 @@ class Reader(Values):
         self.cells[-1][1].append(Shape(layer, band_rings(points, half, start, end), shifts))
 
 
-def read(data, ignore=NOTHING):
-    return Reader(data, ignore).library()
+def read(data, ignore=NOTHING, unpack=False):
+    return Reader(data, ignore, unpack).library()

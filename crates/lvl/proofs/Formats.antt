@@ -24,8 +24,9 @@ use Rattle.oasis_records.specs.Rules.{Must, UnlessRuled, obeyed}
 use Rattle.oasis_records.specs.declared.fault.RecordRule.{RecordRule}
 use Rattle.oasis_records.specs.declared.fault.RecordRule.TheVariants.{Magic}
 use Rattle.oasis_records.specs.declared.record.Record.TheVariants.{End}
-use Rattle.oasis_stream.specs.Items.{Item, item, IsEnded}
-use Rattle.oasis_stream.specs.Front.{oasis, of_magic, IsItem}
+use Rattle.oasis_stream.specs.Items.{Item, item, as_packed, IsEnded}
+use Rattle.oasis_stream.specs.Next.{of_magic, IsItem}
+use Rattle.oasis_stream.specs.Front.{oasis}
 use Rattle.oasis_library.specs.Library.{SpellsLibrary as SpellsOasis}
 use Rattle.oasis_library.specs.declared.head.OasisHead.{OasisHead}
 use Rattle.lvl.specs.Drawing.{Drawing}
@@ -145,8 +146,8 @@ items_begin : (profile : Profile) (bytes : List ℕ) (is : List Item) → Spells
     → BeginsWith 0x25 bytes
 items_begin profile bytes [] s e = absurd (ended_nothing e.0 (item (End e.1)) e.2)
 items_begin profile bytes (i ∷ is) s e =
-    let p : IsItem [] profile s.0 (Ok (Ok i)) = s.2 in
-    goes_on 0x25 bytes s.0 s.1 s.4 (item_first profile i s.0 p.first p.second p.value p.joined p.first_says
+    let p : IsItem [] profile s.0 (Ok (Ok (as_packed i))) = s.2 in
+    goes_on 0x25 bytes s.0 s.1 s.4 (item_first profile (as_packed i) s.0 p.first p.second p.value p.joined p.first_says
     p.second_says)
 
 pub oasis_begins : (profile : Profile) (bytes : List ℕ) (cells : List Drawing) (h : OasisHead)

@@ -11,7 +11,9 @@ use Rattle.oasis_values.specs.declared.number.Real.TheVariants.{Whole, NegWhole,
 use Rattle.oasis_values.specs.declared.number.Real.TheVariants.{NegRatio, Four, Eight}
 use Rattle.oasis_records.specs.declared.fault.RecordRule.{RecordRule}
 use Rattle.oasis_records.specs.declared.fault.RecordRule.TheVariants.{Magic, Version, Unit, Unsupported, Info}
-use Rattle.oasis_records.specs.declared.fault.RecordRule.TheVariants.{EndLength, Scheme}
+use Rattle.oasis_records.specs.declared.fault.RecordRule.TheVariants.{EndLength, Scheme, CompressionType}
+use Rattle.oasis_blocks.specs.declared.fault.BlockRule.{BlockRule}
+use Rattle.oasis_blocks.specs.declared.fault.BlockRule.TheVariants.{TooLong as OverLimit, Deflate, BlockLength}
 use Rattle.oasis_figures.specs.declared.rule.FigureRule.{FigureRule}
 use Rattle.oasis_figures.specs.declared.rule.FigureRule.TheVariants.{Undefined, Layer, OutOfRange as OutsideRange}
 use Rattle.oasis_figures.specs.declared.rule.FigureRule.TheVariants.{Magnification}
@@ -21,7 +23,7 @@ use Rattle.oasis_stream.specs.declared.fault.NameRule.{NameRule}
 use Rattle.oasis_stream.specs.declared.fault.NameRule.TheVariants.{Mixed, NumberTwice, NameTwice}
 use Rattle.oasis_stream.specs.declared.fault.OasisKind.{OasisKind}
 use Rattle.oasis_stream.specs.declared.fault.OasisKind.TheVariants.{Value, Record, Figure, Unexpected, Name, AfterEnd}
-use Rattle.oasis_stream.specs.declared.fault.OasisKind.TheVariants.{TooManyCells}
+use Rattle.oasis_stream.specs.declared.fault.OasisKind.TheVariants.{TooManyCells, Block}
 use Rattle.oasis_library.specs.declared.fault.OasisFault.{OasisFault}
 use Rattle.oasis_library.specs.declared.fault.OasisFault.TheVariants.{At, Unresolved}
 use Rattle.oasis_library.specs.declared.head.OasisHead.{OasisHead}
@@ -76,6 +78,7 @@ record_rule (Unsupported id) = codes "24 Unsupported " ++ decimal id
 record_rule Info = codes "29 Info"
 record_rule EndLength = codes "35 EndLength"
 record_rule Scheme = codes "36 Scheme"
+record_rule CompressionType = codes "41 CompressionType"
 
 -- a rule of figures or placements
 abbrev pub figure_rule : FigureRule → List ℕ
@@ -94,6 +97,12 @@ name_rule Mixed = codes "26 MixedNames"
 name_rule NumberTwice = codes "27 NumberTwice"
 name_rule NameTwice = codes "28 NameTwice"
 
+-- a rule of blocks; one that unpacks to too many bytes is as a file that is too long
+abbrev pub block_rule : BlockRule → List ℕ
+block_rule OverLimit = codes "11 TooLong"
+block_rule Deflate = codes "42 Deflate"
+block_rule BlockLength = codes "43 BlockLength"
+
 -- a fault of an OASIS file, without its offset
 abbrev pub oasis_kind : OasisKind → List ℕ
 oasis_kind (Value fault) = value_fault fault
@@ -103,6 +112,7 @@ oasis_kind (Unexpected id) = codes "23 Unexpected " ++ decimal id
 oasis_kind (Name rule) = name_rule rule
 oasis_kind AfterEnd = codes "37 AfterEnd"
 oasis_kind TooManyCells = codes "39 TooManyCells"
+oasis_kind (Block rule) = block_rule rule
 
 -- a fault of an OASIS file, with its offset in bytes if it has one
 abbrev pub oasis_fault : OasisFault → List ℕ

@@ -2,12 +2,12 @@
 ghost use Rattle.std.specs.Prelude.{◌≡◌, ◌++◌, OnOk, codes};
 ghost use Rattle.lvl_text.specs.Oasis.{real, signature, oasis_head_text, value_fault, record_rule};
 ghost use Rattle.lvl_text.specs.Gds.{hex};
-ghost use Rattle.lvl_text.specs.Oasis.{figure_rule, name_rule, oasis_kind, oasis_fault};
+ghost use Rattle.lvl_text.specs.Oasis.{block_rule, figure_rule, name_rule, oasis_kind, oasis_fault};
 
 use crate::faults::path_fault;
 use crate::gds::push_hex;
 use oasis_library::{
-    FigureRule, NameRule, OasisFault, OasisHead, OasisKind, Real, RecordRule, ValueFault,
+    BlockRule, FigureRule, NameRule, OasisFault, OasisHead, OasisKind, Real, RecordRule, ValueFault,
 };
 use std::io;
 use std::io::Write;
@@ -92,6 +92,7 @@ fn push_record_rule(text: &mut Vec<u8>, rule: RecordRule) -> io::Result<()>
         RecordRule::Info => write!(text, "29 Info"),
         RecordRule::EndLength => write!(text, "35 EndLength"),
         RecordRule::Scheme => write!(text, "36 Scheme"),
+        RecordRule::CompressionType => write!(text, "41 CompressionType"),
     }
 }
 
@@ -128,6 +129,17 @@ fn name_rule(rule: NameRule) -> &'static str
     }
 }
 
+/// The text of a rule of blocks. One that unpacks to too many bytes is as a file that is too long.
+fn block_rule(rule: BlockRule) -> &'static str
+    ensures { result.now ≡ block_rule rule }
+{
+    match rule {
+        BlockRule::TooLong => "11 TooLong",
+        BlockRule::Deflate => "42 Deflate",
+        BlockRule::BlockLength => "43 BlockLength",
+    }
+}
+
 /// Appends a fault of an OASIS file, without its offset.
 fn push_oasis_kind(text: &mut Vec<u8>, kind: OasisKind) -> io::Result<()>
     ensures { OnOk result (text.new.items ≡ text.old.items ++ oasis_kind kind) }
@@ -140,6 +152,7 @@ fn push_oasis_kind(text: &mut Vec<u8>, kind: OasisKind) -> io::Result<()>
         OasisKind::Name(rule) => text.write_all(name_rule(rule).as_bytes()),
         OasisKind::AfterEnd => write!(text, "37 AfterEnd"),
         OasisKind::TooManyCells => write!(text, "39 TooManyCells"),
+        OasisKind::Block(rule) => text.write_all(block_rule(rule).as_bytes()),
     }
 }
 

@@ -1,6 +1,7 @@
 -- What was read is updated with one more record.
-use Rattle.std.proofs.Common.{◌≡◌, false, List, [], ◌∷◌, ◌++◌, map, refl, sym, ap, ◌∙◌, subst, if◌then◌else◌, Result}
-use Rattle.std.proofs.Common.{Ok, Err, IfOk, OnOk}
+use Rattle.std.proofs.Common.{◌≡◌, ◌+◌, false, List, [], ◌∷◌, ◌++◌, map, refl, sym, ap, ◌∙◌, subst, if◌then◌else◌}
+use Rattle.std.proofs.Common.{Result, Ok, Err, IfOk, OnOk, append_assoc, arith}
+use Rattle.std.proofs.lemmas.List.{append-nil}
 use Rattle.std.specs.Prelude.{flat_map, Option, Some, None}
 use Rattle.lvl_refusal.specs.declared.Cause.{Cause}
 use Rattle.lvl_refusal.specs.declared.Cause.TheVariants.{Breach, OutOfMemory}
@@ -19,7 +20,8 @@ use Rattle.oasis_values.specs.declared.number.Real.TheVariants.{Whole}
 use Rattle.oasis_records.specs.declared.end.Validation.TheVariants.{Absent}
 use Rattle.oasis_records.specs.declared.record.Record.{Record}
 use Rattle.oasis_figures.specs.Keeping.{StandsFor}
-use Rattle.oasis_stream.specs.Items.{Item, magic, item, records}
+use Rattle.oasis_blocks.specs.Packed.{Packed}
+use Rattle.oasis_stream.specs.Items.{Item, magic, item, block, records, unpacked}
 use Rattle.oasis_stream.specs.Order.{last_or, name_in, names_in}
 use Rattle.oasis_stream.specs.Rules.{is_cell, since_cell, KeepsRules}
 use Rattle.oasis_stream.specs.inside.Reached.{HasReached, passed}
@@ -62,6 +64,23 @@ pub records-snoc : (is : List Item) (r : Record) → records (is ++ item r ∷ [
 records-snoc [] r = refl
 records-snoc (magic ∷ is) r = records-snoc is r
 records-snoc (item x ∷ is) r = ap (λ l. x ∷ l) (records-snoc is r)
+records-snoc (block p rs ∷ is) r =
+    ap (λ l. rs ++ l) (records-snoc is r) ∙ sym (append_assoc rs (records is) (r ∷ []))
+
+-- the same for a block
+pub records-block : (is : List Item) (p : Packed) (rs : List Record) → records (is ++ block p rs ∷ []) ≡ records is ++ rs
+records-block [] p rs = append-nil rs
+records-block (magic ∷ is) p rs = records-block is p rs
+records-block (item x ∷ is) p rs = ap (λ l. x ∷ l) (records-block is p rs)
+records-block (block q ss ∷ is) p rs =
+    ap (λ l. ss ++ l) (records-block is p rs) ∙ sym (append_assoc ss (records is) rs)
+
+-- what is unpacked after one more item
+pub unpacked-snoc : (is : List Item) (i : Item) → unpacked (is ++ i ∷ []) ≡ unpacked is + unpacked (i ∷ [])
+unpacked-snoc [] i = omega arith
+unpacked-snoc (magic ∷ is) i = unpacked-snoc is i
+unpacked-snoc (item x ∷ is) i = unpacked-snoc is i
+unpacked-snoc (block q ss ∷ is) i = omega (arith, unpacked-snoc is i)
 
 -- after a CELL
 pub cell_goes : (x y : Reading) (rs : List Record) (next : Record) (name : CellRef) → next ≡ Cell name → Holds x rs

@@ -10,3 +10,4 @@ pub mod Ignoring
 pub mod Placing
 pub mod Referring
 pub mod Pieces
+pub mod Inside

@@ -14,6 +14,7 @@ use Rattle.lvl_cells.specs.Cells.{PlainCell, Rings}
 use Rattle.lvl_profile.specs.declared.profile.Profile.{Profile}
 use Rattle.oasis_values.specs.declared.fault.ValueFault.TheVariants.{Truncated, Read}
 use Rattle.oasis_stream.specs.Ends.{ReportsAt}
+use Rattle.oasis_stream.specs.Blocks.{cause}
 use Rattle.oasis_stream.specs.Front.{oasis}
 use Rattle.oasis_stream.specs.Faults.{oasis_faults}
 use Rattle.oasis_stream.specs.Items.{Item, records}
@@ -94,7 +95,7 @@ reports_at : (profile : Profile) (xs : List ℕ) (left : Option (List ℕ)) (at 
     → RefusesAt profile xs left at k → ReportsAt profile xs at k
 reports_at profile xs left at (Value Truncated) x = x
 reports_at profile xs left at (Value Read) x = unread_front (oasis_faults profile) xs left at x
-reports_at profile xs left at other x = seen_stuck (oasis_faults profile) (are_faults profile) xs at left other x
+reports_at profile xs left at other x = seen_stuck (oasis_faults profile) (are_faults profile) xs at left (cause other) x
 
 reports : (profile : Profile) (xs : List ℕ) (left : Option (List ℕ)) (f : OasisFault) → Refuses profile xs left f
     → Reports profile xs f
@@ -110,7 +111,7 @@ none_at profile xs left at (Value Truncated) x n = none_spelled profile xs
 none_at profile xs left at (Value Read) x n = absurd (n tt)
 none_at profile xs left at other x n =
     none_spelled profile xs (stuck_none (oasis profile) xs at
-    (seen_stuck (oasis_faults profile) (are_faults profile) xs at left other x).0)
+    (seen_stuck (oasis_faults profile) (are_faults profile) xs at left (cause other) x).0)
 
 none_of : (profile : Profile) (xs : List ℕ) (left : Option (List ℕ)) (f : OasisFault) → Refuses profile xs left f
     → (IsExcused f → ⊥)
@@ -123,7 +124,7 @@ early_at : (profile : Profile) (xs : List ℕ) (left : Option (List ℕ)) (at : 
     → IsHopeless (oasis profile) xs left
 early_at profile xs left at (Value Truncated) x i = absurd i
 early_at profile xs left at (Value Read) x i = absurd i
-early_at profile xs left at other x i = seen_hopeless (oasis_faults profile) (are_faults profile) xs at left other x
+early_at profile xs left at other x i = seen_hopeless (oasis_faults profile) (are_faults profile) xs at left (cause other) x
 
 early_of : (profile : Profile) (xs : List ℕ) (left : Option (List ℕ)) (f : OasisFault) → Refuses profile xs left f
     → IsEarly f

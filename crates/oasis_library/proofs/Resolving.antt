@@ -208,7 +208,7 @@ abbrev pub is_refusal_read : Cause OasisFault → Bool
 is_refusal_read (Breach f) = is_read_error f
 is_refusal_read OutOfMemory = false
 
-is_read_err : (A : Type 0) (e : Cause OasisFault) → is_read {A = A} (Err e) ≡ is_refusal_read e
+pub is_read_err : (A : Type 0) (e : Cause OasisFault) → is_read {A = A} (Err e) ≡ is_refusal_read e
 is_read_err A (Breach f) = refl
 is_read_err A OutOfMemory = refl
 

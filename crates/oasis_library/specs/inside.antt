@@ -3,6 +3,7 @@ pub mod Taken
 pub mod Answers
 pub mod Ended
 pub mod Holds
+pub mod Blocks
 pub mod Refuses
 pub mod Resolved
 pub mod Stored

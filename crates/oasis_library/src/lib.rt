@@ -21,10 +21,11 @@ pub use fault::OasisFault;
 pub use head::OasisHead;
 pub use oasis_figures::{FigureRule, Variable};
 pub use oasis_records::RecordRule;
-pub use oasis_stream::{NameRule, OasisKind};
+pub use oasis_stream::{BlockRule, NameRule, OasisKind};
 pub use oasis_values::{Real, ValueFault};
 pub use read::{read_oasis, read_oasis_by};
 
+mod blocks;
 mod cells;
 mod drawing;
 mod drawings;

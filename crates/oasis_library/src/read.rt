@@ -12,10 +12,11 @@ ghost use Rattle.oasis_stream.specs.Items.{IsEnded};
 ghost use Rattle.oasis_library.specs.inside.Holds.{is_end};
 ghost use Rattle.oasis_library.specs.Ends.{Reports, ReportsUnread, IsExcused, IsEarly, is_read};
 ghost use Rattle.oasis_library.specs.Library.{IsRead, SpellsNone};
-ghost use Rattle.oasis_library.specs.inside.Holds.{Holds, HasWhole};
+ghost use Rattle.oasis_library.specs.inside.Holds.{HasRead, HasWhole};
 ghost use Rattle.oasis_library.specs.inside.Ended.{is_truncated};
 ghost use Rattle.oasis_library.specs.inside.Refuses.{Refuses, refused_at};
 
+use crate::blocks::take_next;
 use crate::fault::OasisFault;
 use crate::head::OasisHead;
 use crate::reading::Reading;
@@ -125,7 +126,8 @@ fn read_library<R: Read>(
         (R.read_errors (input_reader input.new)) (is_read result) }
     ensures same { R.lent (input_reader input.new) ≡ R.lent (input_reader input.old) }
 {
-    let mut reading = Reading::new(alloc);
+    let profile = input.profile();
+    let mut reading = Reading::new(alloc, profile.limits.file);
     read_records(alloc, input, &mut reading)?;
     read_nothing(input)?;
     match reading.finish(alloc) {
@@ -135,27 +137,28 @@ fn read_library<R: Read>(
     }
 }
 
-// Reads the magic string, and records up to END, when none was read before.
+// Reads the magic string, and records and blocks up to END, when none was read before.
 fn read_records<R: Read>(
     alloc: Global,
     input: &mut Input<R>,
     reading: &mut Reading,
 ) -> Result<(), Cause<OasisFault>>
-    requires none { Holds reading.old [] }
+    requires none { HasRead (input_profile input.old) reading.old [] }
     requires fresh { has_failed input.old ≡ false }
     requires start { input_offset input.old ≡ 0 }
     ensures refused { (xs : List ℕ) → bytes_left R.remaining input.old ≡ Some xs
         → IfErr result (λ refusal. Says refusal (Refuses (input_profile input.old) xs
         (R.remaining (input_reader input.new)))) }
     ensures whole { OnOk result ((xs : List ℕ) → bytes_left R.remaining input.old ≡ Some xs
-        → ReadTo (oasis (input_profile input.old)) xs (input_offset input.new) (HasWhole reading.new)
-        (bytes_left R.remaining input.new)) }
+        → ReadTo (oasis (input_profile input.old)) xs (input_offset input.new)
+        (HasWhole (input_profile input.old) reading.new) (bytes_left R.remaining input.new)) }
     ensures fresh { OnOk result (has_failed input.new ≡ false) }
     ensures profile { OnOk result (input_profile input.new ≡ input_profile input.old) }
     ensures reads { CountsFailure (R.read_errors (input_reader input.old))
         (R.read_errors (input_reader input.new)) (is_read result) }
     ensures same { R.lent (input_reader input.new) ≡ R.lent (input_reader input.old) }
 {
+    let profile = input.profile();
     match read_first(input) {
         Ok(()) => {}
         Err(kind) => return Err(refuse(0, kind)),
@@ -167,7 +170,7 @@ fn read_records<R: Read>(
             Err(refusal) => return Err(refused_at(offset, refusal)),
         };
         let is_end = is_end(&record);
-        match reading.take(alloc, record) {
+        match take_next(alloc, reading, record, profile) {
             Ok(()) => {}
             Err(refusal) => return Err(refused_at(offset, refusal)),
         }

@@ -22,7 +22,7 @@ use oasis_stream::{NameRule, OasisKind, Order};
 use std::alloc::Global;
 
 /// What was read so far: which records may come next, the names, the modal variables of the last cell, the
-/// cells, and what START and END say.
+/// cells, what START and END say, and how many bytes may still be unpacked.
 #[derive(Drop)]
 pub(crate) struct Reading {
     order: Order,
@@ -30,6 +30,7 @@ pub(crate) struct Reading {
     modal: Modal,
     cells: Cells,
     head: HeadRecords,
+    pub(crate) room: u64,
 }
 
 // The same result, with a rule of names as one of the file.
@@ -57,9 +58,10 @@ fn of_figure(
 }
 
 impl Reading {
-    /// The state before the first record.
-    pub(crate) fn new(alloc: Global) -> Reading
-        ensures { Holds result [] }
+    /// The state before the first record, if blocks may have `room` bytes.
+    pub(crate) fn new(alloc: Global, room: u64) -> Reading
+        ensures holds { Holds result [] }
+        ensures room { result.room ≡ room }
     {
         Reading {
             order: Order::new(),
@@ -67,6 +69,7 @@ impl Reading {
             modal: Modal::new(),
             cells: Cells::new(alloc),
             head: HeadRecords::new(),
+            room,
         }
     }
 
@@ -85,6 +88,7 @@ impl Reading {
         ensures kept { OnOk result
             ((rs : List ARecord) → Holds self.old rs → Holds self.new (rs ++ next ∷ [])) }
         ensures none { OnOk result ((rs : List ARecord) → Holds self.old rs → KeepsRules rs next) }
+        ensures room { OnOk result (self.new.room ≡ self.old.room) }
     {
         self.order.pass(&next);
         self.head.pass(&next);
@@ -113,6 +117,7 @@ impl Reading {
             modal: _modal,
             cells,
             head,
+            room: _,
         } = self;
         let cells = resolve_cells(alloc, &names, cells.into_drawings(alloc)?)?;
         Ok((Library { cells }, head.head()))

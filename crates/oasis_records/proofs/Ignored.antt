@@ -170,7 +170,7 @@ type_grows less more within n t e =
                                                       p,
                                                       (
                                                         m,
-                                                        (m, tt),
+                                                        (m, ((λ h. h), tt)),
                                                       ),
                                                     ),
                                                   ),

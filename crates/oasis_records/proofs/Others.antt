@@ -4,6 +4,8 @@ use Rattle.oasis_values.proofs.Codes.{gives_code, then_code, chain_code, seen_co
 use Rattle.oasis_values.proofs.Integers.{byte_code, unsigned_code}
 use Rattle.oasis_values.proofs.Values.{real_code, string_code}
 use Rattle.oasis_values.specs.declared.text.Text.TheVariants.{A, N}
+use Rattle.oasis_blocks.proofs.Codes.{packed_code}
+use Rattle.oasis_records.specs.Blocks.{IsBlockOf, IsBlock}
 use Rattle.oasis_records.specs.Fields.{has}
 use Rattle.oasis_records.specs.Cells.{IsCellRef, IsCell, unnumbered, IsCellName, numbered, IsNumberedName}
 use Rattle.oasis_records.specs.Placements.{turn_of, placement, IsCellIf, IsTurnedOf, IsTurned, IsScaledOf, IsScaled}
@@ -11,7 +13,7 @@ use Rattle.oasis_records.specs.Starts.{IsVersionText, IsVersion, IsUnit, IsFlag,
 use Rattle.oasis_records.specs.Starts.{IsStartOf, IsStart}
 use Rattle.oasis_records.specs.declared.cell.CellRef.TheVariants.{Number, Name}
 use Rattle.oasis_records.specs.declared.placement.Transform.TheVariants.{Turned, Scaled}
-use Rattle.oasis_records.specs.declared.record.Record.TheVariants.{Cell}
+use Rattle.oasis_records.specs.declared.record.Record.TheVariants.{Cell, Block}
 use Rattle.oasis_records.proofs.Codes.{if_code, position_code}
 use Rattle.oasis_records.proofs.Ruling.{and_then_code}
 
@@ -72,3 +74,9 @@ start_of_code =
 
 pub start_code : IsCode IsStart
 start_code = and_then_code version_code (λ _. start_of_code)
+
+pub block_of_code : IsCode IsBlockOf
+block_of_code = seen_code Block packed_code
+
+pub block_code : IsCode IsBlock
+block_code = and_then_code (then_code unsigned_code (λ k. gives_code)) (λ _. seen_code Ok block_of_code)

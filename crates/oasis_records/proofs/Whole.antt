@@ -20,8 +20,9 @@ use Rattle.oasis_records.specs.declared.record_type.RecordType.TheVariants.{Plac
 use Rattle.oasis_records.specs.declared.record_type.RecordType.TheVariants.{ScaledPlacement as OfScaledPlacement}
 use Rattle.oasis_records.specs.declared.record_type.RecordType.TheVariants.{Rectangle as OfRectangle}
 use Rattle.oasis_records.specs.declared.record_type.RecordType.TheVariants.{Polygon as OfPolygon, Path as OfPath}
+use Rattle.oasis_records.specs.declared.record_type.RecordType.TheVariants.{Block as OfBlock}
 use Rattle.oasis_records.proofs.Ignored.{entry_code, label_code, property_code}
-use Rattle.oasis_records.proofs.Others.{cell_code, cell_name_code, numbered_name_code, turned_code, scaled_code}
+use Rattle.oasis_records.proofs.Others.{block_code, cell_code, cell_name_code, numbered_name_code, turned_code, scaled_code}
 use Rattle.oasis_records.proofs.Others.{tables_code, start_code}
 use Rattle.oasis_records.proofs.Ruling.{and_then_code}
 use Rattle.oasis_records.proofs.Shapes.{rectangle_code, polygon_code, path_code}
@@ -79,3 +80,4 @@ fields_code b n OfScaledPlacement = seen_code Ok scaled_code
 fields_code b n OfRectangle = rectangle_code
 fields_code b n OfPolygon = polygon_code
 fields_code b n OfPath = path_code
+fields_code b n OfBlock = block_code

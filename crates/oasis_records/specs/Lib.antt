@@ -5,6 +5,7 @@ pub mod Rectangles
 pub mod Polygons
 pub mod Paths
 pub mod Placements
+pub mod Blocks
 pub mod Cells
 pub mod Names
 pub mod Labels

@@ -6,6 +6,7 @@ use Rattle.oasis_values.specs.Numbers.{IsUnsigned}
 use Rattle.oasis_values.specs.Spelling.{Spelling, Gives, Then}
 use Rattle.oasis_values.specs.declared.fault.ValueFault.{ValueFault}
 use Rattle.oasis_values.specs.declared.text.Text.TheVariants.{A, B, N}
+use Rattle.oasis_records.specs.Blocks.{IsBlock}
 use Rattle.oasis_records.specs.Cells.{IsCell, IsCellName, IsNumberedName}
 use Rattle.oasis_records.specs.Ends.{IsEnd}
 use Rattle.oasis_records.specs.Labels.{IsLabel}
@@ -39,6 +40,7 @@ use Rattle.oasis_records.specs.declared.record_type.RecordType.TheVariants.{Plac
 use Rattle.oasis_records.specs.declared.record_type.RecordType.TheVariants.{ScaledPlacement as OfScaledPlacement}
 use Rattle.oasis_records.specs.declared.record_type.RecordType.TheVariants.{Rectangle as OfRectangle}
 use Rattle.oasis_records.specs.declared.record_type.RecordType.TheVariants.{Polygon as OfPolygon, Path as OfPath}
+use Rattle.oasis_records.specs.declared.record_type.RecordType.TheVariants.{Block as OfBlock}
 
 -- a type of records: its id, and whether it is read, by what is ignored
 pub record Row : Type 0 where
@@ -65,6 +67,10 @@ texts profile = profile.ignore.texts
 -- a type is read if properties are ignored
 abbrev pub properties : Profile → Bool
 properties profile = profile.ignore.properties
+
+-- blocks: no profile reads them yet
+abbrev pub blocks : Profile → Bool
+blocks profile = false
 
 -- the types of records that are read, always or if they are ignored
 abbrev pub types : List Row
@@ -96,6 +102,7 @@ types =
     ∷ row 29 properties OfLastProperty
     ∷ row 30 names (OfEntry XName)
     ∷ row 31 names (OfEntry NumberedXName)
+    ∷ row 34 blocks OfBlock
     ∷ []
 
 -- the type if it is read, else Unsupported
@@ -133,6 +140,7 @@ AreFields at_end id_len OfScaledPlacement = Seen Ok IsScaled
 AreFields at_end id_len OfRectangle = IsRectangle
 AreFields at_end id_len OfPolygon = IsPolygon
 AreFields at_end id_len OfPath = IsPath
+AreFields at_end id_len OfBlock = IsBlock
 
 -- an id, and the fields of its record
 abbrev pub IsRecord : Bool → Spelling (Result Record RecordRule)

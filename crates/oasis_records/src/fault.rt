@@ -30,6 +30,9 @@ pub enum RecordRule {
     /// The validation scheme is over 2 (SEMI P39, "END record").
     #[error("unknown validation scheme")]
     Scheme,
+    /// The type of compression of a block isn't 0, that of DEFLATE (SEMI P39, "CBLOCK record").
+    #[error("unknown type of compression")]
+    CompressionType,
 }
 
 /// Why no record was returned.

@@ -38,6 +38,7 @@ pub use rectangle::Rectangle;
 pub use start::Start;
 pub use text::Name;
 
+mod block;
 mod cell;
 mod end;
 mod fault;

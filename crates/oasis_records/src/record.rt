@@ -5,6 +5,7 @@ ghost use Rattle.oasis_values.specs.Reads.{Reads};
 ghost use Rattle.oasis_records.specs.Records.{AreFields};
 ghost use Rattle.oasis_records.specs.Rules.{reported, Denies};
 
+use crate::block::read_block;
 use crate::cell::{CellName, CellRef, read_cell, read_cell_name, read_numbered_name};
 use crate::end::{Validation, read_end};
 use crate::fault::RecordFault;
@@ -20,6 +21,7 @@ use crate::rules::of_values;
 use crate::start::{Start, read_start};
 use lvl_io::Read;
 use lvl_refusal::Cause;
+use oasis_blocks::Block;
 use oasis_values::{Input, Repetition};
 use std::alloc::Global;
 
@@ -43,6 +45,8 @@ pub enum Record {
     Rectangle(Rectangle),
     Polygon(Polygon),
     Path(Path),
+    /// A CBLOCK, as it is packed.
+    Block(Block),
 }
 
 /// Reads the fields of a record of that type, after its id, which has `id_len` bytes. The offsets of tables
@@ -104,5 +108,6 @@ fn fields_of<R: Read>(
         RecordType::Rectangle => read_rectangle(input, alloc),
         RecordType::Polygon => read_polygon(input, alloc),
         RecordType::Path => read_path(input, alloc),
+        RecordType::Block => read_block(input, alloc),
     }
 }

@@ -17,7 +17,8 @@ use Rattle.oasis_values.specs.declared.fault.ValueFault.{ValueFault}
 use Rattle.oasis_values.specs.declared.fault.ValueFault.TheVariants.{Truncated, TooLong, Read, Failed}
 use Rattle.oasis_values.specs.declared.input.Input.{Input}
 use Rattle.oasis_stream.specs.Items.{Item, IsEnded}
-use Rattle.oasis_stream.specs.Front.{IsItem, oasis}
+use Rattle.oasis_stream.specs.Next.{IsItem}
+use Rattle.oasis_stream.specs.Front.{oasis}
 use Rattle.oasis_stream.specs.Faults.{oasis_faults}
 use Rattle.oasis_stream.specs.inside.Refuses.{RefusesAt}
 use Rattle.oasis_stream.specs.declared.fault.OasisKind.TheVariants.{Value, AfterEnd}

@@ -1,10 +1,13 @@
 pub mod Items
+pub mod Fronts
 pub mod Reached
 pub mod Instance
 pub mod Typed
 pub mod Once
+pub mod Blocks
 pub mod Only
 pub mod Seen
 pub mod Steps
 pub mod Ending
 pub mod Growing
+pub mod Within

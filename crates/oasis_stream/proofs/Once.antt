@@ -1,18 +1,18 @@
 -- A complete record breaches at most one rule.
-use Rattle.std.proofs.Common.{◌≡◌, ◌<◌, ◌⊎◌, List, ◌∷◌, Some, refl, sym, ap, ◌∙◌, subst, arith, inl, inr}
+use Rattle.std.proofs.Common.{◌≡◌, ◌<◌, ◌⊎◌, List, ◌∷◌, Some, None, refl, sym, ap, ◌∙◌, subst, arith, inl, inr}
 use Rattle.lvl_path.specs.declared.fault.PathFault.{PathFault}
 use Rattle.oasis_records.specs.declared.cell.CellName.{CellName as AName}
 use Rattle.oasis_records.specs.declared.record.Record.{Record as ARecord}
-use Rattle.oasis_records.specs.declared.record.Record.TheVariants.{CellName, Path}
+use Rattle.oasis_records.specs.declared.record.Record.TheVariants.{CellName, Path, Block}
+use Rattle.oasis_blocks.specs.Packed.{Packed}
 use Rattle.oasis_figures.specs.Figures.{path_points}
 use Rattle.oasis_figures.specs.Rules.{Breaks, HasPathFault, order, Breaches as FigureBreaches}
 use Rattle.oasis_figures.specs.declared.rule.FigureRule.{FigureRule}
 use Rattle.oasis_figures.specs.declared.rule.FigureRule.TheVariants.{Undefined, Layer, OutOfRange, Magnification, Angle}
 use Rattle.oasis_figures.specs.declared.rule.FigureRule.TheVariants.{Extension, Oblique, Path as PathRule}
-use Rattle.oasis_stream.specs.Items.{Item, magic, item, records}
 use Rattle.oasis_stream.specs.Names.{RepeatsNumber}
 use Rattle.oasis_stream.specs.Order.{names_in}
-use Rattle.oasis_stream.specs.Rules.{since_cell, NameBreaches, NamingBreaches, RecordBreaches, Breaches}
+use Rattle.oasis_stream.specs.Rules.{since_cell, NameBreaches, NamingBreaches, RecordBreaches, KeepsRules}
 use Rattle.oasis_stream.specs.declared.fault.NameRule.{NameRule}
 use Rattle.oasis_stream.specs.declared.fault.NameRule.TheVariants.{Mixed, NumberTwice, NameTwice}
 use Rattle.oasis_stream.specs.declared.fault.OasisKind.{OasisKind}
@@ -108,7 +108,7 @@ either_rule rs r (Name j) b = inl (j, refl, b)
 either_rule rs r (Figure f) b = inr (f, refl, b)
 either_rule rs r _ b = absurd b
 
-record_once : (rs : List ARecord) (r : ARecord) (j k : OasisKind) → RecordBreaches rs r j → RecordBreaches rs r k
+pub record_once : (rs : List ARecord) (r : ARecord) (j k : OasisKind) → RecordBreaches rs r j → RecordBreaches rs r k
     → j ≡ k
 record_once rs r j k p q = elim (either_rule rs r j p) [
   | inl a ↦ elim (either_rule rs r k q) [
@@ -121,8 +121,20 @@ record_once rs r j k p q = elim (either_rule rs r j p) [
   ]
 ]
 
--- an item breaches at most one rule
-pub breaches_once : (before : List Item) (i : Item) (j k : OasisKind) → Breaches before i j → Breaches before i k
-    → j ≡ k
-breaches_once before magic j k p q = absurd p
-breaches_once before (item r) j k p q = record_once (records before) r j k p q
+-- a record that breaches no rule breaches none
+pub record_keeps : (rs : List ARecord) (r : ARecord) (k : OasisKind) → KeepsRules rs r → RecordBreaches rs r k → ⊥
+record_keeps rs r (Name j) g b = g.0 j b
+record_keeps rs r (Figure j) g b = g.1 j b.broken
+record_keeps rs r _ g b = b
+
+-- a block by itself draws nothing
+block_draws : (earlier : List ARecord) (p : Packed) (f : FigureRule) → Breaks earlier (Block p) f → ⊥
+block_draws earlier p (Undefined v) x = (let z : None ≡ Some v = x in cc)
+block_draws earlier p (PathRule f) x = x
+block_draws earlier p _ x = x
+
+-- and breaches no rule of records
+pub block_keeps : (rs : List ARecord) (p : Packed) (k : OasisKind) → RecordBreaches rs (Block p) k → ⊥
+block_keeps rs p (Name j) b = b
+block_keeps rs p (Figure f) b = block_draws (since_cell rs) p f b.broken
+block_keeps rs p _ b = b

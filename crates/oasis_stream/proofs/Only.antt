@@ -8,28 +8,59 @@ use Rattle.lvl_io.proofs.Spelling.{front_only, begun_open}
 use Rattle.lvl_profile.specs.declared.profile.Profile.{Profile}
 use Rattle.oasis_values.specs.declared.fault.ValueFault.{ValueFault}
 use Rattle.oasis_values.specs.declared.fault.ValueFault.TheVariants.{TooLong}
-use Rattle.oasis_stream.specs.Items.{Item, IsEnded}
-use Rattle.oasis_stream.specs.Rules.{Breaches}
-use Rattle.oasis_stream.specs.Front.{IsItem}
+use Rattle.oasis_records.specs.declared.record.Record.{Record as ARecord}
+use Rattle.oasis_records.specs.declared.record.Record.TheVariants.{Block as Packed}
+use Rattle.oasis_stream.specs.Items.{Item, magic, item, block, records, IsEnded}
+use Rattle.oasis_stream.specs.Next.{IsItem}
+use Rattle.oasis_stream.specs.Rules.{RecordBreaches}
+use Rattle.oasis_stream.specs.Front.{PackedBreaches, Breaches}
 use Rattle.oasis_stream.specs.Faults.{IsTooLong, BreaksRule, IsWrong}
 use Rattle.oasis_stream.specs.declared.fault.OasisKind.{OasisKind}
 use Rattle.oasis_stream.specs.declared.fault.OasisKind.TheVariants.{Value, Record, Unexpected, Name, Figure, AfterEnd}
-use Rattle.oasis_stream.specs.declared.fault.OasisKind.TheVariants.{TooManyCells}
+use Rattle.oasis_stream.specs.declared.fault.OasisKind.TheVariants.{TooManyCells, Block}
 use Rattle.oasis_stream.proofs.Items.{item_free}
-use Rattle.oasis_stream.proofs.Instance.{front_in}
-use Rattle.oasis_stream.proofs.Once.{breaches_once}
+use Rattle.oasis_stream.proofs.Fronts.{front_in}
+use Rattle.oasis_stream.proofs.Blocks.{block_once}
+use Rattle.oasis_stream.proofs.Once.{record_once, block_keeps}
+
+-- a block breaches no rule of records, and a record that isn't a block none of blocks
+apart : (profile : Profile) (before : List Item) (r : ARecord) (j k : OasisKind) → RecordBreaches (records before) r j
+    → PackedBreaches profile before r k → ⊥
+apart profile before (Packed p) j k x y = block_keeps (records before) p j x
+apart profile before _ j k x y = y
+
+packed_once : (profile : Profile) (before : List Item) (r : ARecord) (j k : OasisKind)
+    → PackedBreaches profile before r j → PackedBreaches profile before r k → j ≡ k
+packed_once profile before (Packed p) j k x y = block_once profile before p j k x y
+packed_once profile before _ j k x y = absurd x
+
+-- an item breaches at most one rule
+breaches_once : (profile : Profile) (before : List Item) (i : Item) (j k : OasisKind) → Breaches profile before i j
+    → Breaches profile before i k → j ≡ k
+breaches_once profile before magic j k p q = absurd p
+breaches_once profile before (block b rs) j k p q = absurd p
+breaches_once profile before (item r) j k p q = elim p [
+  | inl x ↦ elim q [
+    | inl y ↦ record_once (records before) r j k x y
+    | inr y ↦ absurd (apart profile before r j k x y)
+  ]
+  | inr x ↦ elim q [
+    | inl y ↦ absurd (apart profile before r k j y x)
+    | inr y ↦ packed_once profile before r j k x y
+  ]
+]
 
 -- what bytes say about the next item is why the rule is breached
-abbrev Explains : List Item → Result (Result Item OasisKind) ValueFault → OasisKind → Type 0
-Explains before (Err f) k = k ≡ Value f
-Explains before (Ok (Err r)) k = k ≡ r
-Explains before (Ok (Ok i)) k = Breaches before i k
+abbrev Explains : Profile → List Item → Result (Result Item OasisKind) ValueFault → OasisKind → Type 0
+Explains profile before (Err f) k = k ≡ Value f
+Explains profile before (Ok (Err r)) k = k ≡ r
+Explains profile before (Ok (Ok i)) k = Breaches profile before i k
 
-explains_once : (before : List Item) (x : Result (Result Item OasisKind) ValueFault) (j k : OasisKind)
-    → Explains before x j → Explains before x k → j ≡ k
-explains_once before (Err f) j k p q = p ∙ sym q
-explains_once before (Ok (Err r)) j k p q = p ∙ sym q
-explains_once before (Ok (Ok i)) j k p q = breaches_once before i j k p q
+explains_once : (profile : Profile) (before : List Item) (x : Result (Result Item OasisKind) ValueFault) (j k : OasisKind)
+    → Explains profile before x j → Explains profile before x k → j ≡ k
+explains_once profile before (Err f) j k p q = p ∙ sym q
+explains_once profile before (Ok (Err r)) j k p q = p ∙ sym q
+explains_once profile before (Ok (Ok i)) j k p q = breaches_once profile before i j k p q
 
 -- bytes at the front, within the limit, are why
 record IsExplained (profile : Profile) (before : List Item) (room : ℕ) (ys : List ℕ) (k : OasisKind) : Type 0 where
@@ -38,7 +69,7 @@ record IsExplained (profile : Profile) (before : List Item) (room : ℕ) (ys : L
   within : count ≤ room
   said : Result (Result Item OasisKind) ValueFault
   front : FirstBytesSay (IsItem before profile) ys count said
-  why : Explains before said k
+  why : Explains profile before said k
 
 record IsLong (profile : Profile) (before : List Item) (room : ℕ) (ys : List ℕ) (k : OasisKind) : Type 0 where
   kind : k ≡ Value TooLong
@@ -67,14 +98,17 @@ cause : (profile : Profile) (before : List Item) (room : ℕ) (ys : List ℕ) (k
     → Explained profile before room ys k
 cause profile before room ys (Value f) w = elim w [
   | inl p ↦ inr (inl (record { kind = ap Value p.0; long = p.1 }))
-  | inr p ↦ inl (record {
-    unended = p.0;
-    count = p.2.count;
-    within = p.2.within;
-    said = Err f;
-    front = p.2.front;
-    why = refl;
-  })
+  | inr q ↦ elim q [
+    | inl p ↦ inl (record {
+      unended = p.0;
+      count = p.2.count;
+      within = p.2.within;
+      said = Err f;
+      front = p.2.front;
+      why = refl;
+    })
+    | inr p ↦ by_rule profile before room ys (Value f) p
+  ]
 ]
 cause profile before room ys AfterEnd w = inr (inr (record { kind = refl; ended = w.0; room_is = w.1; some = w.2 }))
 cause profile before room ys (Record k) w = by_rule profile before room ys (Record k) w
@@ -82,6 +116,7 @@ cause profile before room ys (Unexpected id) w = by_rule profile before room ys 
 cause profile before room ys (Name k) w = by_rule profile before room ys (Name k) w
 cause profile before room ys (Figure k) w = by_rule profile before room ys (Figure k) w
 cause profile before room ys TooManyCells w = by_rule profile before room ys TooManyCells w
+cause profile before room ys (Block k) w = by_rule profile before room ys (Block k) w
 
 -- if the bytes within the limit are an unfinished beginning, they have no complete item at their front
 long_open : (profile : Profile) (before : List Item) (room : ℕ) (ys : List ℕ) (n : ℕ)
@@ -117,8 +152,8 @@ one_cause : (profile : Profile) (before : List Item) (room : ℕ) (ys : List ℕ
     → Explained profile before room ys k → j ≡ k
 one_cause profile before room ys j k p q = elim p [
   | inl a ↦ elim q [
-    | inl b ↦ explains_once before a.said j k a.why
-        (subst (λ x. Explains before x k)
+    | inl b ↦ explains_once profile before a.said j k a.why
+        (subst (λ x. Explains profile before x k)
         (sym (front_same profile before ys a.count b.count a.said b.said a.front b.front))
         b.why)
     | inr r ↦ elim r [

@@ -9,7 +9,7 @@ use Rattle.oasis_records.specs.declared.cell.CellName.{CellName as AName}
 use Rattle.oasis_records.specs.declared.record.Record.{Record}
 use Rattle.oasis_records.specs.declared.record.Record.TheVariants.{Pad, Start, End, CellName, Cell, XyAbsolute}
 use Rattle.oasis_records.specs.declared.record.Record.TheVariants.{XyRelative, Placement, Rectangle, Polygon, Path}
-use Rattle.oasis_records.specs.declared.record.Record.TheVariants.{Entry, Text, Property}
+use Rattle.oasis_records.specs.declared.record.Record.TheVariants.{Entry, Text, Property, Block}
 use Rattle.oasis_stream.specs.Order.{last_or, opens, flags, name_in, names_in, cell_in, cells_in, in_cell}
 use Rattle.oasis_stream.specs.Order.{at_end, any_numbered, any_unnumbered}
 use Rattle.oasis_stream.specs.declared.order.Order.{Order}
@@ -134,6 +134,7 @@ law_passed o rs Entry h =
     (sym (or_false o.has_unnumbered)) refl
 law_passed o rs (Text p) h = after_other o rs (Text p) h refl refl refl refl
 law_passed o rs Property h = after_other o rs Property h refl refl refl refl
+law_passed o rs (Block p) h = after_other o rs (Block p) h refl refl refl refl
 law_passed o rs Pad h = after_other o rs Pad h refl refl refl refl
 law_passed o rs (End v) h = after_other o rs (End v) h refl refl refl refl
 law_passed o rs XyAbsolute h = after_other o rs XyAbsolute h refl refl refl refl

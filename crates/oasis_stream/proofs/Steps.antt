@@ -19,16 +19,20 @@ use Rattle.oasis_values.specs.declared.fault.ValueFault.TheVariants.{RepetitionT
 use Rattle.oasis_values.specs.declared.fault.ValueFault.TheVariants.{TooLong, Read, Failed, NoModal}
 use Rattle.oasis_values.specs.declared.input.Input.{Input}
 use Rattle.oasis_values.proofs.Reading.{front_rest}
-use Rattle.oasis_stream.specs.Items.{Item, magic, item, IsEnded}
-use Rattle.oasis_stream.specs.Rules.{Breaches, MayFollow}
-use Rattle.oasis_stream.specs.Front.{IsItem, oasis}
+use Rattle.oasis_blocks.specs.declared.fault.BlockRule.TheVariants.{TooLong as OverLimit, Deflate, BlockLength}
+use Rattle.oasis_records.specs.declared.record.Record.{Record as ARecord}
+use Rattle.oasis_records.specs.declared.record.Record.TheVariants.{Block as Packed}
+use Rattle.oasis_stream.specs.Items.{Item, magic, item, block, as_packed, IsEnded}
+use Rattle.oasis_stream.specs.Next.{IsItem}
+use Rattle.oasis_stream.specs.Blocks.{cause}
+use Rattle.oasis_stream.specs.Front.{PackedBreaches, Breaches, MayFollow, oasis}
 use Rattle.oasis_stream.specs.Faults.{BreaksRule, IsWrong, oasis_faults}
 use Rattle.oasis_stream.specs.Reported.{of_kind}
 use Rattle.oasis_stream.specs.inside.Refuses.{RefusesAt}
 use Rattle.oasis_stream.specs.declared.fault.OasisKind.{OasisKind}
 use Rattle.oasis_stream.specs.declared.fault.OasisKind.TheVariants.{Value, Record, Unexpected, Name, Figure, AfterEnd}
-use Rattle.oasis_stream.specs.declared.fault.OasisKind.TheVariants.{TooManyCells}
-use Rattle.oasis_stream.proofs.Items.{never_after}
+use Rattle.oasis_stream.specs.declared.fault.OasisKind.TheVariants.{TooManyCells, Block}
+use Rattle.oasis_stream.proofs.Items.{item_unsaid}
 use Rattle.oasis_stream.proofs.Only.{only_wrong}
 use Rattle.oasis_stream.proofs.Seen.{IsSeen, law_seen, front_seen, room_seen, answers_under}
 
@@ -38,8 +42,8 @@ pub item_on : {R : Type 0} {remaining : R → Option (List ℕ)} {errors : R →
     (Has Has' : List Item → Type 0) {old new : Input R}
     (to : ReadTo (oasis profile) xs (input_offset old) Has (bytes_left remaining old)) (i : Item)
     → has_failed old ≡ false → input_profile old ≡ profile
-    → Reads remaining errors lent (IsItem to.records) old new (Ok (Ok i))
-    → MayFollow to.records i → Has' (to.records ++ i ∷ [])
+    → Reads remaining errors lent (IsItem to.records) old new (Ok (Ok (as_packed i)))
+    → MayFollow profile to.records i → Has' (to.records ++ i ∷ [])
     → ReadTo (oasis profile) xs (input_offset new) Has' (bytes_left remaining new)
 item_on {remaining = remaining} profile xs Has Has' {old = old} {new = new} to i live under p follows has =
     let at = input_offset old in
@@ -51,7 +55,7 @@ item_on {remaining = remaining} profile xs Has Has' {old = old} {new = new} to i
     (omega (arith, f.count, a.1)) has in
     let here : at + length f.bytes ≡ input_offset new = omega (arith, f.count, p.forward) in
     let left : Some f.rest ≡ bytes_left remaining new =
-    ap (λ (l : List ℕ). Some l) (sym (front_rest (IsItem to.records profile) (drop at xs) n (Ok (Ok i)) f))
+    ap (λ (l : List ℕ). Some l) (sym (front_rest (IsItem to.records profile) (drop at xs) n (Ok (Ok (as_packed i))) f))
     ∙ sym (p.left (drop at xs) to.left_is) in
     subst (λ l. ReadTo (oasis profile) xs (input_offset new) Has' l) left
     (subst (λ j. ReadTo (oasis profile) xs j Has' (Some f.rest)) here
@@ -106,7 +110,7 @@ item_refuses : {R : Type 0} {remaining : R → Option (List ℕ)} {errors : R �
     (to : ReadTo (oasis profile) xs (input_offset old) Has (bytes_left remaining old)) (i : Item) (k : OasisKind)
     → has_failed old ≡ false → input_profile old ≡ profile → ¬ IsEnded to.records
     → ((room : ℕ) (ys : List ℕ) → BreaksRule profile to.records room ys k → IsWrong profile to.records room ys k)
-    → Breaches to.records i k
+    → Breaches profile to.records i k
     → Reads remaining errors lent (IsItem to.records) old new (Ok (Ok i))
     → IsSeenWrong (oasis_faults profile) xs (input_offset old) (remaining (input_reader new)) k
 item_refuses {remaining = remaining} profile xs {old = old} {new = new} to i k live under unended is_wrong breach p =
@@ -126,18 +130,66 @@ item_refuses {remaining = remaining} profile xs {old = old} {new = new} to i k l
       ),
     ))
 
+-- a rule of values that is breached inside a block is a rule
+rule_inside : (profile : Profile) (before : List Item) (r : ARecord) (f : ValueFault)
+    → PackedBreaches profile before r (Value f) → is_rule f ≡ true
+rule_inside profile before (Packed p) f b = b.1.2.wrong.0
+rule_inside profile before _ f b = absurd b
+
+pub rule_in_item : (profile : Profile) (before : List Item) (i : Item) (f : ValueFault)
+    → Breaches profile before i (Value f) → is_rule f ≡ true
+rule_in_item profile before (item r) f b = elim b [
+  | inl x ↦ absurd x
+  | inr x ↦ rule_inside profile before r f x
+]
+rule_in_item profile before _ f b = absurd b
+
+-- nothing is after END inside a block
+none_after : (profile : Profile) (before : List Item) (r : ARecord) → PackedBreaches profile before r AfterEnd → ⊥
+none_after profile before (Packed p) b = b.1.2.wrong
+none_after profile before _ b = b
+
+never_ends : (profile : Profile) (before : List Item) (i : Item) → Breaches profile before i AfterEnd → ⊥
+never_ends profile before (item r) b = elim b [
+  | inl x ↦ x
+  | inr x ↦ none_after profile before r x
+]
+never_ends profile before _ b = b
+
+-- a rule is neither that the input ends nor that the reader failed
+rule_seen : (profile : Profile) (xs : List ℕ) (left : Option (List ℕ)) (at : ℕ) (f : ValueFault) → is_rule f ≡ true
+    → IsSeenWrong (oasis_faults profile) xs at left (Value f) → RefusesAt profile xs left at (Value f)
+rule_seen profile xs left at Truncated rule w = (let z : false ≡ true = rule in cc)
+rule_seen profile xs left at Read rule w = (let z : false ≡ true = rule in cc)
+rule_seen profile xs left at _ rule w = w
+
 pub breach_refuses : {R : Type 0} {remaining : R → Option (List ℕ)} {errors : R → ℕ} {lent : R → List GName}
     {Has : List Item → Type 0} (profile : Profile) (xs : List ℕ) {old new : Input R}
     (to : ReadTo (oasis profile) xs (input_offset old) Has (bytes_left remaining old)) (i : Item) (k : OasisKind)
-    → has_failed old ≡ false → input_profile old ≡ profile → ¬ IsEnded to.records → Breaches to.records i k
+    → has_failed old ≡ false → input_profile old ≡ profile → ¬ IsEnded to.records
+    → Breaches profile to.records i (cause k)
     → Reads remaining errors lent (IsItem to.records) old new (Ok (Ok i))
     → RefusesAt profile xs (remaining (input_reader new)) (input_offset old) k
-breach_refuses profile xs to magic k live under unended b p = absurd b
-breach_refuses profile xs to (item r) (Name k) live under unended b p =
-    item_refuses profile xs to (item r) (Name k) live under unended (λ room ys w. w) b p
-breach_refuses profile xs to (item r) (Figure k) live under unended b p =
-    item_refuses profile xs to (item r) (Figure k) live under unended (λ room ys w. w) b p
-breach_refuses profile xs to (item r) _ live under unended b p = absurd b
+breach_refuses {remaining = remaining} profile xs {old = old} {new = new} to i (Value f) live under unended b p =
+    rule_seen profile xs (remaining (input_reader new)) (input_offset old) f (rule_in_item profile to.records i f b)
+    (item_refuses profile xs to i (Value f) live under unended (λ room ys w. inr (inr w)) b p)
+breach_refuses profile xs to i AfterEnd live under unended b p = absurd (never_ends profile to.records i b)
+breach_refuses profile xs to i (Block OverLimit) live under unended b p =
+    item_refuses profile xs to i (Block OverLimit) live under unended (λ room ys w. w) b p
+breach_refuses profile xs to i (Block Deflate) live under unended b p =
+    item_refuses profile xs to i (Block BlockLength) live under unended (λ room ys w. w) b p
+breach_refuses profile xs to i (Block BlockLength) live under unended b p =
+    item_refuses profile xs to i (Block BlockLength) live under unended (λ room ys w. w) b p
+breach_refuses profile xs to i (Record k) live under unended b p =
+    item_refuses profile xs to i (Record k) live under unended (λ room ys w. w) b p
+breach_refuses profile xs to i (Unexpected k) live under unended b p =
+    item_refuses profile xs to i (Unexpected k) live under unended (λ room ys w. w) b p
+breach_refuses profile xs to i (Name k) live under unended b p =
+    item_refuses profile xs to i (Name k) live under unended (λ room ys w. w) b p
+breach_refuses profile xs to i (Figure k) live under unended b p =
+    item_refuses profile xs to i (Figure k) live under unended (λ room ys w. w) b p
+breach_refuses profile xs to i TooManyCells live under unended b p =
+    item_refuses profile xs to i TooManyCells live under unended (λ room ys w. w) b p
 
 -- a rule of values is breached
 value_refuses : {Has : List Item → Type 0} {was left : Option (List ℕ)} (profile : Profile) (xs : List ℕ) (at had : ℕ)
@@ -148,7 +200,7 @@ value_refuses : {Has : List Item → Type 0} {was left : Option (List ℕ)} (pro
 value_refuses profile xs at had to f unended rule s p =
     let b = p.breached rule in
     wrong_seen profile xs at had to (Value f) s
-    (λ more. inr (
+    (λ more. inr (inl (
       unended,
       rule,
       record {
@@ -156,7 +208,7 @@ value_refuses profile xs at had to f unended rule s p =
         within = b.within;
         front = front_seen (IsItem to.records profile) (drop at xs) had b.count (Err f) b.front b.seen more;
       },
-    ))
+    )))
 
 long_refuses : {Has : List Item → Type 0} {was left : Option (List ℕ)} (profile : Profile) (xs : List ℕ) (at had : ℕ)
     (to : ReadTo (oasis profile) xs at Has was) → ¬ IsEnded to.records
@@ -220,7 +272,10 @@ next_refuses profile xs {old = old} {new = new} to (Value f) live under u p =
     (answers_under profile under p live (drop (input_offset old) xs) to.left_is)
 next_refuses profile xs {old = old} to AfterEnd live under u p =
     let f = (answers_under profile under p live (drop (input_offset old) xs) to.left_is).0 in
-    absurd (never_after profile to.records f.bytes f.says)
+    let z : true ≡ false = item_unsaid profile to.records f.bytes AfterEnd f.says in cc
+next_refuses profile xs {old = old} to (Block k) live under u p =
+    let f = (answers_under profile under p live (drop (input_offset old) xs) to.left_is).0 in
+    let z : true ≡ false = item_unsaid profile to.records f.bytes (Block k) f.says in cc
 next_refuses profile xs to (Record k) live under u p = rule_refuses profile xs to (Record k) live under u
     (λ room ys w. w) p
 next_refuses profile xs to (Unexpected id) live under u p = rule_refuses profile xs to (Unexpected id) live under u

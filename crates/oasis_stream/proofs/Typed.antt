@@ -26,8 +26,8 @@ use Rattle.oasis_records.specs.declared.record.Record.{Record}
 use Rattle.oasis_records.specs.declared.record_type.RecordType.{RecordType}
 use Rattle.oasis_stream.specs.Items.{Item}
 use Rattle.lvl_profile.specs.declared.limits.Limits.{Limits}
-use Rattle.oasis_stream.specs.Order.{at_end, cells_in, opens_cell, mixes, is_expected, allowed, type_after}
-use Rattle.oasis_stream.specs.Front.{of_magic, of_record, IsTyped, IsNext, IsItem, IsTypedAfter}
+use Rattle.oasis_stream.specs.Order.{at_end, cells_in, opens_cell, mixes, is_expected_in, allowed, type_after}
+use Rattle.oasis_stream.specs.Next.{of_magic, of_record, IsTyped, IsNext, IsItem, IsTypedAfter}
 use Rattle.oasis_stream.specs.Reported.{of_kind, reported_record, of_fault, reported_magic, of_magic_fault}
 use Rattle.oasis_stream.specs.declared.fault.NameRule.TheVariants.{Mixed}
 use Rattle.oasis_stream.specs.declared.fault.OasisKind.{OasisKind}
@@ -62,18 +62,19 @@ judged_allowed limits rs (Ok t) =
     (judged_if full (Err TooManyCells) (Ok t) refl tt)
 judged_allowed limits rs (Err k) = refl
 
-judged : (profile : Profile) (rs : List Record) (id : ℕ) → IsJudged (type_after profile rs id)
-judged profile rs id =
+judged : (inside : Bool) (profile : Profile) (rs : List Record) (id : ℕ)
+    → IsJudged (type_after inside profile rs id)
+judged inside profile rs id =
     let t = record_type profile id in
-    judged_if (is_expected rs t) (allowed profile.limits rs t) (Err (Unexpected id))
+    judged_if (is_expected_in inside rs t) (allowed profile.limits rs t) (Err (Unexpected id))
     (judged_allowed profile.limits rs t) refl
 
 -- the id couldn't be read
 pub next_unread : {R : Type 0} {remaining : R → Option (List ℕ)} {errors : R → ℕ} {lent : R → List GName}
-    (rs : List Record) {old new : Input R} {e : Cause ValueFault}
+    (inside : Bool) (rs : List Record) {old new : Input R} {e : Cause ValueFault}
     → Reads remaining errors lent (Sized IsUnsigned) old new (Err e)
-    → Reads remaining errors lent (IsNext rs) old new (Err e)
-next_unread rs p = reads_fault (IsTypedAfter rs) (typed_said rs) p
+    → Reads remaining errors lent (IsNext inside rs) old new (Err e)
+next_unread inside rs p = reads_fault (IsTypedAfter inside rs) (typed_said inside rs) p
 
 -- a call that reads by one spelling reads by any other that is the same for what the input ignores
 reads_by : {R A : Type 0} {remaining : R → Option (List ℕ)} {errors : R → ℕ} {lent : R → List GName}
@@ -97,29 +98,29 @@ reads_by S T {old = old} {new = new} {r = r} e p =
 
 -- the id breaches a rule
 pub next_refused : {R : Type 0} {remaining : R → Option (List ℕ)} {errors : R → ℕ} {lent : R → List GName}
-    (rs : List Record) {old new : Input R} (id : Measured) (k : OasisKind)
-    → type_after (input_profile new) rs id.value ≡ Err k → Reads remaining errors lent (Sized IsUnsigned) old new (Ok id)
-    → Reads remaining errors lent (IsNext rs) old new (of_kind k)
-next_refused {remaining = remaining} {errors = errors} {lent = lent} rs {old = old} {new = new} id k e p =
-    let j : of_kind k ≡ Ok (Err k) = subst IsJudged e (judged (input_profile new) rs id.value) in
-    let none : Reads remaining errors lent (IsTypedAfter rs id) new new (Ok (Err k)) =
-    reads_by (IsTypedAfter rs id) (Gives (Ok (Err k))) (ap (λ t. IsTyped (at_end rs) id.len t (input_profile new)) e)
+    (inside : Bool) (rs : List Record) {old new : Input R} (id : Measured) (k : OasisKind)
+    → type_after inside (input_profile new) rs id.value ≡ Err k → Reads remaining errors lent (Sized IsUnsigned) old new (Ok id)
+    → Reads remaining errors lent (IsNext inside rs) old new (of_kind k)
+next_refused {remaining = remaining} {errors = errors} {lent = lent} inside rs {old = old} {new = new} id k e p =
+    let j : of_kind k ≡ Ok (Err k) = subst IsJudged e (judged inside (input_profile new) rs id.value) in
+    let none : Reads remaining errors lent (IsTypedAfter inside rs id) new new (Ok (Err k)) =
+    reads_by (IsTypedAfter inside rs id) (Gives (Ok (Err k))) (ap (λ t. IsTyped (at_end rs) id.len t (input_profile new)) e)
     (reads_nothing (Err k) p.failed) in
-    subst (λ r. Reads remaining errors lent (IsNext rs) old new r) (sym j) (reads_then (IsTypedAfter rs) p none)
+    subst (λ r. Reads remaining errors lent (IsNext inside rs) old new r) (sym j) (reads_then (IsTypedAfter inside rs) p none)
 
 -- the id gives the type
 pub next_typed : {R : Type 0} {remaining : R → Option (List ℕ)} {errors : R → ℕ} {lent : R → List GName}
-    (rs : List Record) {old mid new : Input R} (id : Measured) (t : RecordType) (b : Bool)
+    (inside : Bool) (rs : List Record) {old mid new : Input R} (id : Measured) (t : RecordType) (b : Bool)
     {r : Result (Result Item OasisKind) (Cause ValueFault)}
-    → type_after (input_profile mid) rs id.value ≡ Ok t → b ≡ at_end rs
+    → type_after inside (input_profile mid) rs id.value ≡ Ok t → b ≡ at_end rs
     → Reads remaining errors lent (Sized IsUnsigned) old mid (Ok id)
     → Reads remaining errors lent (IsTyped b id.len (Ok t)) mid new r
-    → Reads remaining errors lent (IsNext rs) old new r
-next_typed {remaining = remaining} {errors = errors} {lent = lent} rs {mid = mid} {new = new} id t b {r = r} e h p q =
+    → Reads remaining errors lent (IsNext inside rs) old new r
+next_typed {remaining = remaining} {errors = errors} {lent = lent} inside rs {mid = mid} {new = new} id t b {r = r} e h p q =
     let here : Reads remaining errors lent (IsTyped (at_end rs) id.len (Ok t)) mid new r =
     subst (λ i. Reads remaining errors lent (IsTyped i id.len (Ok t)) mid new r) h q in
-    reads_then (IsTypedAfter rs) p
-    (reads_by (IsTypedAfter rs id) (IsTyped (at_end rs) id.len (Ok t))
+    reads_then (IsTypedAfter inside rs) p
+    (reads_by (IsTypedAfter inside rs id) (IsTyped (at_end rs) id.len (Ok t))
     (ap (λ i. IsTyped (at_end rs) id.len i (input_profile mid)) e) here)
 
 -- the magic string that was read, as an item of the file

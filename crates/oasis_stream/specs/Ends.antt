@@ -6,6 +6,7 @@ use Rattle.oasis_values.specs.Faults.{is_read_fault}
 use Rattle.oasis_values.specs.declared.fault.ValueFault.TheVariants.{Truncated, Read}
 use Rattle.oasis_stream.specs.Front.{oasis}
 use Rattle.oasis_stream.specs.Faults.{oasis_faults}
+use Rattle.oasis_stream.specs.Blocks.{cause}
 use Rattle.oasis_stream.specs.declared.fault.OasisKind.{OasisKind}
 use Rattle.oasis_stream.specs.declared.fault.OasisKind.TheVariants.{Value}
 
@@ -14,7 +15,7 @@ use Rattle.oasis_stream.specs.declared.fault.OasisKind.TheVariants.{Value}
 abbrev pub ReportsAt : Profile → List ℕ → ℕ → OasisKind → Type 0
 ReportsAt profile xs at (Value Truncated) = IsTruncated (oasis_faults profile) xs at
 ReportsAt profile xs at (Value Read) = IsFrontAt (oasis profile) xs at
-ReportsAt profile xs at k = IsStuck (oasis profile) xs at × IsBreached (oasis_faults profile) xs at k
+ReportsAt profile xs at k = IsStuck (oasis profile) xs at × IsBreached (oasis_faults profile) xs at (cause k)
 
 -- whether the fault is that the reader failed
 abbrev pub is_read_kind : OasisKind → Bool

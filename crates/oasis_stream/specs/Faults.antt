@@ -7,8 +7,8 @@ use Rattle.oasis_values.specs.Faults.{is_rule}
 use Rattle.oasis_values.specs.declared.fault.ValueFault.{ValueFault}
 use Rattle.oasis_values.specs.declared.fault.ValueFault.TheVariants.{TooLong}
 use Rattle.oasis_stream.specs.Items.{Item, IsEnded}
-use Rattle.oasis_stream.specs.Rules.{Breaches}
-use Rattle.oasis_stream.specs.Front.{IsItem, oasis}
+use Rattle.oasis_stream.specs.Next.{IsItem}
+use Rattle.oasis_stream.specs.Front.{Breaches, oasis}
 use Rattle.oasis_stream.specs.declared.fault.OasisKind.{OasisKind}
 use Rattle.oasis_stream.specs.declared.fault.OasisKind.TheVariants.{Value, AfterEnd}
 
@@ -36,12 +36,14 @@ abbrev pub BreaksRule : Profile → List Item → ℕ → List ℕ → OasisKind
 BreaksRule profile before room ys k =
     (¬ IsEnded before) × (n : ℕ) × (n ≤ room)
     × (FirstBytesSay (IsItem before profile) ys n (Ok (Err k))
-    ⊎ ((i : Item) × FirstBytesSay (IsItem before profile) ys n (Ok (Ok i)) × Breaches before i k))
+    ⊎ ((i : Item) × FirstBytesSay (IsItem before profile) ys n (Ok (Ok i)) × Breaches profile before i k))
 
--- what is wrong at the front of the bytes, with room for some before the limit
+-- what is wrong at the front of the bytes, with room for some before the limit; a rule of values is breached by the
+-- bytes themselves, or inside a block
 abbrev pub IsWrong : Profile → List Item → ℕ → List ℕ → OasisKind → Type 0
 IsWrong profile before room ys (Value f) =
-    ((f ≡ TooLong) × IsTooLong profile before room ys) ⊎ BreaksValue profile before room ys f
+    ((f ≡ TooLong) × IsTooLong profile before room ys)
+    ⊎ (BreaksValue profile before room ys f ⊎ BreaksRule profile before room ys (Value f))
 IsWrong profile before room ys AfterEnd = IsEnded before × (0 < room) × (0 < length ys)
 IsWrong profile before room ys k = BreaksRule profile before room ys k
 

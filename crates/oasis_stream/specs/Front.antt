@@ -1,56 +1,45 @@
--- OASIS as a format of streams of records (SEMI P39 OASIS 1.0, "Magic-bytes", "Records").
-use Rattle.std.specs.Prelude.{ℕ, Bool, List, [], ◌∷◌, Result, Ok, Err}
+-- OASIS as a format of streams of records (SEMI P39 OASIS 1.0, "Magic-bytes", "Records", "CBLOCK record").
+use Rattle.std.specs.Prelude.{◌≡◌, ◌⊎◌, Bool, true, false, List, Ok}
 use Rattle.lvl_grammar.specs.Grammar.{Grammar}
 use Rattle.lvl_profile.specs.declared.profile.Profile.{Profile}
-use Rattle.oasis_values.specs.Known.{Seen}
-use Rattle.oasis_values.specs.Numbers.{IsUnsigned}
-use Rattle.oasis_values.specs.Spelling.{Spelling, Gives, Then}
-use Rattle.oasis_records.specs.declared.measured.Measured.{Measured}
-use Rattle.oasis_records.specs.Magic.{IsMagic}
-use Rattle.oasis_records.specs.Records.{AreFields}
-use Rattle.oasis_records.specs.Sizes.{Sized}
-use Rattle.oasis_records.specs.declared.fault.RecordRule.{RecordRule}
 use Rattle.oasis_records.specs.declared.record.Record.{Record}
-use Rattle.oasis_records.specs.declared.record_type.RecordType.{RecordType}
-use Rattle.oasis_stream.specs.Items.{Item, magic, item, records, IsEnded}
-use Rattle.oasis_stream.specs.Order.{at_end, type_after}
-use Rattle.oasis_stream.specs.Rules.{MayFollow}
+use Rattle.oasis_records.specs.declared.record.Record.TheVariants.{Block}
+use Rattle.oasis_stream.specs.Blocks.{HasInside, BlockBreaches}
+use Rattle.oasis_stream.specs.Items.{Item, magic, item, block, records, as_packed, IsEnded}
+use Rattle.oasis_stream.specs.Next.{IsItem}
+use Rattle.oasis_stream.specs.Rules.{RecordBreaches, KeepsRules}
 use Rattle.oasis_stream.specs.declared.fault.OasisKind.{OasisKind}
-use Rattle.oasis_stream.specs.declared.fault.OasisKind.TheVariants.{Record as OfRecord}
 
--- the magic string as an item, or the rule that is breached
-abbrev pub of_magic : Result (Unit {0}) RecordRule → Result Item OasisKind
-of_magic (Ok u) = Ok magic
-of_magic (Err k) = Err (OfRecord k)
+-- whether the record is a CBLOCK
+abbrev pub is_block : Record → Bool
+is_block (Block p) = true
+is_block r = false
 
--- the record as an item, or the rule that it breaches by itself
-abbrev pub of_record : Result Record RecordRule → Result Item OasisKind
-of_record (Ok r) = Ok (item r)
-of_record (Err k) = Err (OfRecord k)
+-- the record is a CBLOCK that breaches the rule after the items
+abbrev pub PackedBreaches : Profile → List Item → Record → OasisKind → Type 0
+PackedBreaches profile before (Block p) k = BlockBreaches profile before p k
+PackedBreaches profile before r k = ⊥
 
--- the fields of a record of that type, after an id of `id_len` bytes; if the id breaches a rule, nothing more is read
-abbrev pub IsTyped : Bool → ℕ → Result RecordType OasisKind → Spelling (Result Item OasisKind)
-IsTyped has_offsets id_len (Ok t) = Seen of_record (AreFields has_offsets id_len t)
-IsTyped has_offsets id_len (Err k) = Gives (Ok (Err k))
+-- the item, as it is packed, breaches the rule after the others
+abbrev pub Breaches : Profile → List Item → Item → OasisKind → Type 0
+Breaches profile before (item r) k = RecordBreaches (records before) r k ⊎ PackedBreaches profile before r k
+Breaches profile before i k = ⊥
 
--- the fields of a record with that id, after the records rs
-abbrev pub IsTypedAfter : List Record → Measured → Spelling (Result Item OasisKind)
-IsTypedAfter rs id profile = IsTyped (at_end rs) id.len (type_after profile rs id.value) profile
+-- the item breaches no rule after the others, and a block has the records inside
+abbrev pub Keeps : Profile → List Item → Item → Type 0
+Keeps profile before magic = Unit {0}
+Keeps profile before (item r) = KeepsRules (records before) r × (is_block r ≡ false)
+Keeps profile before (block p rs) = HasInside profile before p rs
 
--- what bytes say about the next record, after the records rs
-abbrev pub IsNext : List Record → Spelling (Result Item OasisKind)
-IsNext rs = Then (Sized IsUnsigned) (IsTypedAfter rs)
-
--- what bytes say about the next item of a file; the first is the magic string
-abbrev pub IsItem : List Item → Spelling (Result Item OasisKind)
-IsItem [] = Seen of_magic IsMagic
-IsItem (i ∷ is) = IsNext (records (i ∷ is))
+-- the item may follow the others: there is no END among them, and it breaches no rule
+abbrev pub MayFollow : Profile → List Item → Item → Type 0
+MayFollow profile before i = (¬ IsEnded before) × Keeps profile before i
 
 -- OASIS as a format, under a profile; a file is whole at its END
 abbrev pub oasis : Profile → Grammar Item
 oasis profile = record {
-  spells = λ before bytes i. IsItem before profile bytes (Ok (Ok i));
-  follows = MayFollow;
+  spells = λ before bytes i. IsItem before profile bytes (Ok (Ok (as_packed i)));
+  follows = MayFollow profile;
   ends = IsEnded;
   limit = profile.limits.file;
 }

@@ -2,6 +2,8 @@ pub mod Items
 pub mod Order
 pub mod Names
 pub mod Rules
+pub mod Next
+pub mod Blocks
 pub mod Front
 pub mod Faults
 pub mod Reported

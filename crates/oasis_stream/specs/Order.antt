@@ -1,5 +1,5 @@
 -- Which records may come after others, by their ids only (SEMI P39 OASIS 1.0, "Records", "START record", "CELLNAME
--- record", "CELL record").
+-- record", "CELL record", "CBLOCK record"). `inside` says whether they come inside a block.
 use Rattle.std.specs.Prelude.{ℕ, Bool, true, false, not, ◌&&◌, ◌||◌, nat_lt, is_some, is_none, if◌then◌else◌}
 use Rattle.std.specs.Prelude.{List, [], ◌∷◌, length, flat_map, Result, Ok, Err}
 use Rattle.lvl_profile.specs.declared.limits.Limits.{Limits}
@@ -16,7 +16,7 @@ use Rattle.oasis_records.specs.declared.record_type.RecordType.TheVariants.{Star
 use Rattle.oasis_records.specs.declared.record_type.RecordType.TheVariants.{NumberedCell, NamedCell, XyAbsolute}
 use Rattle.oasis_records.specs.declared.record_type.RecordType.TheVariants.{XyRelative}
 use Rattle.oasis_records.specs.declared.record_type.RecordType.TheVariants.{Placement, ScaledPlacement, Rectangle}
-use Rattle.oasis_records.specs.declared.record_type.RecordType.TheVariants.{Polygon, Path, Text}
+use Rattle.oasis_records.specs.declared.record_type.RecordType.TheVariants.{Polygon, Path, Text, End, Block}
 use Rattle.oasis_stream.specs.declared.fault.NameRule.TheVariants.{Mixed}
 use Rattle.oasis_stream.specs.declared.fault.OasisKind.{OasisKind}
 use Rattle.oasis_stream.specs.declared.fault.OasisKind.TheVariants.{Record as OfRecord, Unexpected, Name, TooManyCells}
@@ -97,6 +97,17 @@ abbrev pub is_expected : List Record → Result RecordType RecordRule → Bool
 is_expected [] t = is_start t
 is_expected (r ∷ rs) t = not (is_start t) && (not (is_inner t) || in_cell (r ∷ rs))
 
+-- whether the type is one that no block has inside: that of START, END or another block
+abbrev pub is_outer : Result RecordType RecordRule → Bool
+is_outer (Ok Start) = true
+is_outer (Ok End) = true
+is_outer (Ok Block) = true
+is_outer t = false
+
+-- whether the type may come, inside a block or not
+abbrev pub is_expected_in : Bool → List Record → Result RecordType RecordRule → Bool
+is_expected_in inside rs t = not (inside && is_outer t) && is_expected rs t
+
 -- whether the type would give names both with and without numbers of their own
 abbrev pub mixes : List Record → RecordType → Bool
 mixes rs AName = any_numbered (names_in rs)
@@ -117,9 +128,9 @@ allowed limits rs (Ok t) =
     else (if opens_cell t && not (nat_lt (length (cells_in rs)) limits.cells) then Err TooManyCells else Ok t)
 
 -- the type by an id after the records rs, within the limits, or the rule that the id breaches
-abbrev pub type_by : Limits → List Record → ℕ → Result RecordType RecordRule → Result RecordType OasisKind
-type_by limits rs id t = if is_expected rs t then allowed limits rs t else Err (Unexpected id)
+abbrev pub type_by : Bool → Limits → List Record → ℕ → Result RecordType RecordRule → Result RecordType OasisKind
+type_by inside limits rs id t = if is_expected_in inside rs t then allowed limits rs t else Err (Unexpected id)
 
 -- the type by an id after the records rs, under the profile, or the rule that the id breaches
-abbrev pub type_after : Profile → List Record → ℕ → Result RecordType OasisKind
-type_after profile rs id = type_by profile.limits rs id (record_type profile id)
+abbrev pub type_after : Bool → Profile → List Record → ℕ → Result RecordType OasisKind
+type_after inside profile rs id = type_by inside profile.limits rs id (record_type profile id)

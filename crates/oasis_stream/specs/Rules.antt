@@ -5,7 +5,6 @@ use Rattle.oasis_records.specs.declared.cell.CellName.{CellName}
 use Rattle.oasis_records.specs.declared.record.Record.{Record}
 use Rattle.oasis_records.specs.declared.record.Record.TheVariants.{CellName as OfCellName, Cell as OfCell}
 use Rattle.oasis_figures.specs.Rules.{Breaches as FigureBreaches, BreachesNone}
-use Rattle.oasis_stream.specs.Items.{Item, magic, item, records, IsEnded}
 use Rattle.oasis_stream.specs.Names.{RepeatsNumber, RepeatsName}
 use Rattle.oasis_stream.specs.Order.{names_in}
 use Rattle.oasis_stream.specs.declared.fault.NameRule.{NameRule}
@@ -44,17 +43,7 @@ RecordBreaches rs r (Name k) = NamingBreaches (names_in rs) r k
 RecordBreaches rs r (Figure k) = FigureBreaches (since_cell rs) r k
 RecordBreaches rs r k = ⊥
 
--- the item breaches the rule after the others
-abbrev pub Breaches : List Item → Item → OasisKind → Type 0
-Breaches before magic k = ⊥
-Breaches before (item r) k = RecordBreaches (records before) r k
-
 -- the record breaches no rule after the records rs: neither one of names, nor one of what it draws after the records
 -- of its cell
 abbrev pub KeepsRules : List Record → Record → Type 0
 KeepsRules rs r = ((k : NameRule) → NamingBreaches (names_in rs) r k → ⊥) × BreachesNone (since_cell rs) r
-
--- the item may follow the others: there is no END among them, and it breaches no rule
-abbrev pub MayFollow : List Item → Item → Type 0
-MayFollow before magic = ¬ IsEnded before
-MayFollow before (item r) = (¬ IsEnded before) × KeepsRules (records before) r

@@ -1,5 +1,6 @@
 //! Why a file is refused.
 
+use oasis_blocks::BlockRule;
 use oasis_figures::FigureRule;
 use oasis_records::RecordRule;
 use oasis_values::ValueFault;
@@ -30,7 +31,7 @@ pub enum OasisKind {
     #[error("a record breaches a rule")]
     Record(RecordRule),
     /// A record of this id may not come here: the first record isn't START, or START comes again,
-    /// or a record that belongs in a cell comes while none is open.
+    /// or a record that belongs in a cell comes while none is open; or it is END or a block, inside a block.
     #[error("a record is out of order")]
     Unexpected(u64),
     /// A CELLNAME breaches this rule.
@@ -45,4 +46,8 @@ pub enum OasisKind {
     /// A CELL comes after as many cells as the limits allow (own rule).
     #[error("there are too many cells")]
     TooManyCells,
+    /// A block can't be unpacked, or ends within a record. Other faults inside a block are reported as those of records
+    /// outside, at the offset of the block.
+    #[error("a block breaches a rule")]
+    Block(BlockRule),
 }

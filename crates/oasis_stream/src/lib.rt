@@ -4,7 +4,8 @@
 //! bytes are the beginning of a file, as a grammar of streams; `specs/Order.antt` which records may come
 //! after others, by their ids; `specs/Rules.antt` which rules a complete record may breach; and
 //! `specs/Names.antt` which name a number stands for. [`read_first`] reads the magic string, and
-//! [`read_next`] the next record after those that were passed to an [`Order`].
+//! [`read_next`] the next record after those that were passed to an [`Order`]. A block comes as it is packed;
+//! [`read_inside`] reads the records of its bytes (`specs/Blocks.antt`).
 //!
 //! `bytes` is a file:
 //!
@@ -26,7 +27,8 @@
 #![tactic(auto)]
 
 pub use fault::{NameRule, OasisKind};
-pub use next::{read_first, read_next};
+pub use next::{read_first, read_inside, read_next};
+pub use oasis_blocks::BlockRule;
 pub use order::Order;
 
 mod fault;

@@ -1,9 +1,9 @@
-//! Reads the magic string and the next record of a file.
-ghost use Rattle.std.specs.Prelude.{◌≡◌, List, [], Ok, false};
+//! Reads the magic string and the next record of a file, or of a block.
+ghost use Rattle.std.specs.Prelude.{◌≡◌, List, [], Ok, false, true};
 ghost use Rattle.oasis_values.specs.Input.{has_failed};
 ghost use Rattle.oasis_values.specs.Reads.{Reads};
 ghost use Rattle.oasis_records.specs.declared.record.Record.{Record as Item};
-ghost use Rattle.oasis_stream.specs.Front.{IsTyped, IsNext, IsItem};
+ghost use Rattle.oasis_stream.specs.Next.{IsTyped, IsNext, IsItem};
 ghost use Rattle.oasis_stream.specs.Reported.{reported_record, of_fault, reported_magic, of_magic_fault};
 ghost use Rattle.oasis_stream.specs.inside.Reached.{HasReached};
 
@@ -46,24 +46,51 @@ fn read_typed<R: Read>(
     of_record(read_fields(input, alloc, kind, id_len, has_offsets_at_end))
 }
 
-/// Reads the next record. Its id is tested before more is read, and each field when it is read.
-pub fn read_next<R: Read>(
+// Reads the next record, inside a block or not.
+fn read_in<R: Read>(
     input: &mut Input<R>,
     alloc: Global,
     order: &Order,
+    inside: bool,
 ) -> Result<Record, Cause<OasisKind>>
     ensures reads { (rs : List Item) → HasReached order.now rs
-        → Reads R.remaining R.read_errors R.lent (IsNext rs) input.old input.new (reported_record result) }
+        → Reads R.remaining R.read_errors R.lent (IsNext inside rs) input.old input.new (reported_record result) }
 {
     let id = match read_id(input) {
         Ok(id) => id,
         Err(fault) => return Err(Cause::Breach(OasisKind::Value(fault))),
     };
     let profile = input.profile();
-    match order.type_of(id.value, profile) {
+    match order.type_of(id.value, profile, inside) {
         Ok(kind) => read_typed(input, alloc, kind, id.len, order.has_offsets_at_end()),
         Err(kind) => Err(Cause::Breach(kind)),
     }
+}
+
+/// Reads the next record. Its id is tested before more is read, and each field when it is read. A block is
+/// read as it is packed.
+pub fn read_next<R: Read>(
+    input: &mut Input<R>,
+    alloc: Global,
+    order: &Order,
+) -> Result<Record, Cause<OasisKind>>
+    ensures reads { (rs : List Item) → HasReached order.now rs
+        → Reads R.remaining R.read_errors R.lent (IsNext false rs) input.old input.new (reported_record result) }
+{
+    read_in(input, alloc, order, false)
+}
+
+/// Reads the next record inside a block. It is neither START nor END nor another block; all else is as in
+/// [`read_next`].
+pub fn read_inside<R: Read>(
+    input: &mut Input<R>,
+    alloc: Global,
+    order: &Order,
+) -> Result<Record, Cause<OasisKind>>
+    ensures reads { (rs : List Item) → HasReached order.now rs
+        → Reads R.remaining R.read_errors R.lent (IsNext true rs) input.old input.new (reported_record result) }
+{
+    read_in(input, alloc, order, true)
 }
 
 // The same result, with a fault as one of the file.

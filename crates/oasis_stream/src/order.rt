@@ -1,8 +1,8 @@
 //! Which record may come next, by its id only.
 ghost use Rattle.std.specs.Prelude.{◌≡◌, List, [], Ok};
 ghost use Rattle.oasis_records.specs.declared.record.Record.{Record as Read};
-ghost use Rattle.oasis_stream.specs.Order.{is_start, is_inner, opens_cell, is_expected, mixes, allowed};
-ghost use Rattle.oasis_stream.specs.Order.{type_after, at_end};
+ghost use Rattle.oasis_stream.specs.Order.{is_start, is_inner, is_outer, opens_cell, is_expected, is_expected_in};
+ghost use Rattle.oasis_stream.specs.Order.{mixes, allowed, type_after, at_end};
 ghost use Rattle.oasis_stream.specs.inside.Reached.{HasReached, passed};
 
 use crate::fault::{NameRule, OasisKind};
@@ -54,6 +54,16 @@ fn is_inner(kind: Result<RecordType, RecordRule>) -> bool
     }
 }
 
+// Whether no block has a record of this type inside.
+fn is_outer(kind: Result<RecordType, RecordRule>) -> bool
+    ensures { result ≡ is_outer kind }
+{
+    match kind {
+        Ok(RecordType::Start | RecordType::End | RecordType::Block) => true,
+        _ => false,
+    }
+}
+
 fn opens_cell(kind: RecordType) -> bool
     ensures { result ≡ opens_cell kind }
 {
@@ -85,12 +95,13 @@ impl Order {
         self.has_offsets_at_end
     }
 
-    /// The type of the next record by its id under the profile, or the rule that the id breaches.
-    pub fn type_of(&self, id: u64, profile: Profile) -> Result<RecordType, OasisKind>
-        ensures { (rs : List Read) → HasReached self.now rs → result ≡ type_after profile rs id }
+    /// The type of the next record by its id under the profile, inside a block or not, or the rule that the id
+    /// breaches.
+    pub fn type_of(&self, id: u64, profile: Profile, inside: bool) -> Result<RecordType, OasisKind>
+        ensures { (rs : List Read) → HasReached self.now rs → result ≡ type_after inside profile rs id }
     {
         let kind = RecordType::of(id, profile);
-        if !self.is_expected(kind) {
+        if !self.is_expected_in(inside, kind) {
             return Err(OasisKind::Unexpected(id));
         }
         match kind {
@@ -133,6 +144,13 @@ impl Order {
             return is_start(kind);
         }
         !is_start(kind) && (!is_inner(kind) || self.in_cell)
+    }
+
+    // Whether a record of this type may come, inside a block or not.
+    fn is_expected_in(&self, inside: bool, kind: Result<RecordType, RecordRule>) -> bool
+        ensures { (rs : List Read) → HasReached self.now rs → result ≡ is_expected_in inside rs kind }
+    {
+        !(inside && is_outer(kind)) && self.is_expected(kind)
     }
 
     // Whether names would be given both with and without numbers of their own.

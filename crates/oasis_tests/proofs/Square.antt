@@ -53,9 +53,10 @@ use Rattle.oasis_figures.specs.Rules.{BreachesNone}
 use Rattle.oasis_figures.specs.declared.rule.FigureRule.TheVariants.{Undefined, Layer as WideLayer, OutOfRange}
 use Rattle.oasis_figures.specs.declared.rule.FigureRule.TheVariants.{Magnification, Angle, Extension, Oblique, Path}
 use Rattle.oasis_stream.specs.Items.{Item, magic, item, records, IsEnded}
-use Rattle.oasis_stream.specs.Front.{of_magic, of_record, IsTyped, IsTypedAfter, IsNext, oasis}
+use Rattle.oasis_stream.specs.Next.{of_magic, of_record, IsTyped, IsTypedAfter, IsNext}
+use Rattle.oasis_stream.specs.Front.{is_block, MayFollow, oasis}
 use Rattle.oasis_stream.specs.Order.{at_end, type_after, names_in, last_or}
-use Rattle.oasis_stream.specs.Rules.{since_cell, NamingBreaches, MayFollow}
+use Rattle.oasis_stream.specs.Rules.{since_cell, NamingBreaches}
 use Rattle.oasis_stream.specs.declared.fault.NameRule.{NameRule}
 use Rattle.oasis_stream.proofs.Instance.{is_grammar}
 use Rattle.oasis_library.specs.Cells.{drawings}
@@ -256,10 +257,10 @@ end_said profile =
 
 next : (profile : Profile) (rs : List Record) (id : ℕ) (t : RecordType) (r : Record) (fields : List ℕ)
     → IsUnsigned profile (id ∷ []) (Ok id)
-    → type_after profile rs id ≡ Ok t → AreFields (at_end rs) 1 t profile fields (Ok (Ok r))
-    → IsNext rs profile (id ∷ fields) (Ok (Ok (item r)))
+    → type_after false profile rs id ≡ Ok t → AreFields (at_end rs) 1 t profile fields (Ok (Ok r))
+    → IsNext false rs profile (id ∷ fields) (Ok (Ok (item r)))
 next profile rs id t r fields u e f =
-    after profile (Sized IsUnsigned) (IsTypedAfter rs) (id ∷ []) fields
+    after profile (Sized IsUnsigned) (IsTypedAfter false rs) (id ∷ []) fields
     (record { value = id; len = 1 }) (Ok (Ok (item r))) (u, refl)
     (subst (λ x. IsTyped (at_end rs) 1 x profile fields (Ok (Ok (item r)))) (sym e)
     (seen profile of_record (AreFields (at_end rs) 1 t) fields (Ok r) f))
@@ -320,11 +321,11 @@ unended is e h =
 none_some : {A : Type 0} {x : A} → None ≡ Some x → ⊥
 none_some h = cc
 
-follows : (before : List Item) (r : Record) → last_or false (map is_end before) ≡ false
+follows : (profile : Profile) (before : List Item) (r : Record) → last_or false (map is_end before) ≡ false
     → ((k : NameRule) → NamingBreaches (names_in (records before)) r k → ⊥)
     → BreachesNone (since_cell (records before)) r
-    → MayFollow before (item r)
-follows before r e n f = (unended before e, (n, f))
+    → is_block r ≡ false → MayFollow profile before (item r)
+follows profile before r e n f b = (unended before e, ((n, f), b))
 
 none_of_start : (earlier : List Record) → BreachesNone earlier starting
 none_of_start earlier (Undefined v) b = none_some b
@@ -384,16 +385,16 @@ none_of_rectangle (Path f) b = b
 
 followed : (ignore : Ignore) → FollowAll (oasis (ignoring ignore)) [] square
 followed ignore = (
-  unended [] refl,
+  (unended [] refl, tt),
   (
-    follows (magic ∷ []) starting refl (λ k b. b) (none_of_start []),
+    follows (ignoring ignore) (magic ∷ []) starting refl (λ k b. b) (none_of_start []) refl,
     (
-      follows (magic ∷ item starting ∷ []) cell refl (λ k b. b) (none_of_cell (starting ∷ [])),
+      follows (ignoring ignore) (magic ∷ item starting ∷ []) cell refl (λ k b. b) (none_of_cell (starting ∷ [])) refl,
       (
-        follows (magic ∷ item starting ∷ item cell ∷ []) drawn refl (λ k b. b) none_of_rectangle,
+        follows (ignoring ignore) (magic ∷ item starting ∷ item cell ∷ []) drawn refl (λ k b. b) none_of_rectangle refl,
         (
-          follows (magic ∷ item starting ∷ item cell ∷ item drawn ∷ []) ending refl (λ k b. b)
-              (none_of_end (drawn ∷ [])),
+          follows (ignoring ignore) (magic ∷ item starting ∷ item cell ∷ item drawn ∷ []) ending refl (λ k b. b)
+              (none_of_end (drawn ∷ [])) refl,
           tt,
         ),
       ),

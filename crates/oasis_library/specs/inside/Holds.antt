@@ -13,7 +13,9 @@ use Rattle.oasis_records.specs.declared.end.Validation.TheVariants.{Absent}
 use Rattle.oasis_records.specs.declared.record.Record.{Record}
 use Rattle.oasis_records.specs.declared.record.Record.TheVariants.{End}
 use Rattle.oasis_figures.specs.Keeping.{StandsFor}
+use Rattle.lvl_profile.specs.declared.profile.Profile.{Profile}
 use Rattle.oasis_stream.specs.Items.{Item, magic, records, IsEnded}
+use Rattle.oasis_stream.specs.Blocks.{room_after}
 use Rattle.oasis_stream.specs.Names.{name_of}
 use Rattle.oasis_stream.specs.Order.{last_or, names_in}
 use Rattle.oasis_stream.specs.Rules.{since_cell}
@@ -39,16 +41,18 @@ pub record Holds (x : Reading) (rs : List Record) : Type 0 where
   pub unit : x.head.unit ≡ last_or (Whole 0) (flat_map unit_in rs)
   pub validation : x.head.validation ≡ last_or Absent (flat_map validation_in rs)
 
-abbrev pub HasRead : Reading → List Item → Type 0
-HasRead x is = Holds x (records is)
+-- exactly these items were read
+pub record HasRead (profile : Profile) (x : Reading) (is : List Item) : Type 0 where
+  pub holds : Holds x (records is)
+  pub room : x.room ≡ room_after profile is
 
--- the magic string was read, and records without END
-abbrev pub HasBegun : Reading → List Item → Type 0
-HasBegun x is = HasRead x is × (¬ IsEnded is) × (rest : List Item) × (is ≡ magic ∷ rest)
+-- the magic string was read, and items without END
+abbrev pub HasBegun : Profile → Reading → List Item → Type 0
+HasBegun profile x is = HasRead profile x is × (¬ IsEnded is) × (rest : List Item) × (is ≡ magic ∷ rest)
 
--- records up to END were read
-abbrev pub HasWhole : Reading → List Item → Type 0
-HasWhole x is = HasRead x is × IsEnded is
+-- items up to END were read
+abbrev pub HasWhole : Profile → Reading → List Item → Type 0
+HasWhole profile x is = HasRead profile x is × IsEnded is
 
 abbrev pub is_end : Record → Bool
 is_end (End v) = true

@@ -1,10 +1,17 @@
-use Rattle.std.proofs.Common.{[], ◌∷◌, ◌++◌, refl, sym, ◌∙◌, subst, arith, length-take}
-use Rattle.oasis_stream.specs.Items.{magic, item, records}
-use Rattle.oasis_library.specs.inside.Holds.{HasBegun, HasWhole}
+use Rattle.std.proofs.Common.{◌≡◌, [], ◌∷◌, ◌++◌, List, refl, sym, ◌∙◌, subst, ap, arith, length-take}
+use Rattle.lvl_refusal.specs.Refused.{Says}
+use Rattle.oasis_records.specs.declared.record.Record.{Record}
+use Rattle.oasis_stream.specs.Front.{Breaches}
+use Rattle.oasis_stream.specs.Blocks.{cause}
+use Rattle.oasis_stream.specs.Items.{Item, magic, item, records}
+use Rattle.oasis_library.specs.inside.Blocks.{IsKept}
+use Rattle.oasis_library.specs.inside.Holds.{HasRead, HasBegun, HasWhole}
 use Rattle.oasis_stream.specs.inside.Reached.{HasReached}
-use Rattle.oasis_values.specs.Input.{input_profile, input_offset}
-use Rattle.oasis_library.proofs.Loop.{first_on, first_refused, first_takes, record_on, record_takes, HasMore}
-use Rattle.oasis_library.proofs.Loop.{more_begun, more_whole, reads_as, next_refused, take_refused}
+use Rattle.oasis_values.specs.Input.{input_profile, input_offset, input_reader}
+use Rattle.lvl_io.specs.Bytes.{CountsFailure}
+use Rattle.oasis_library.proofs.Loop.{begun_read, first_on, first_refused, first_takes, item_kept, record_takes, HasMore}
+use Rattle.oasis_library.proofs.Loop.{more_begun, more_whole, reads_as, next_refused, take_refused, take_unread}
+use Rattle.oasis_library.proofs.Resolving.{is_read_err, is_refusal_read}
 use Rattle.oasis_library.proofs.read.read_records.Goals as goal
 
 pub returns-in-Err-clause-refused : goal.returns-in-Err-clause-refused
@@ -31,58 +38,80 @@ pub returns-in-Err-read_next-clause-refused : goal.returns-in-Err-read_next-clau
 returns-in-Err-read_next-clause-refused g c = λ xs k.
     let to = (c.loop.invariant.2 xs k).0 in
     let rs = records to.records in
-    let p = c.in-Err-read_next.ensures.reads rs (subst (λ o. HasReached o rs) (sym c.order.ensures) to.holds.0.order) in
+    let p = c.in-Err-read_next.ensures.reads rs (subst (λ o. HasReached o rs) (sym c.order.ensures)
+    to.holds.0.holds.order) in
     rw (c.refused_at.ensures, c.offset-offset.ensures)
     (next_refused (input_profile c.args.input.now) xs c.loop.reading to c.in-Err-read_next.refusal
     c.loop.invariant.0 c.loop.invariant.5 p)
 
-pub returns-in-Err-take-clause-refused : goal.returns-in-Err-take-clause-refused
-returns-in-Err-take-clause-refused g c = λ xs k.
+pub take_next-requires : goal.take_next-requires
+take_next-requires g c = rw c.profile-profile.ensures c.loop.invariant.1
+
+pub returns-in-Err-take_next-clause-refused : goal.returns-in-Err-take_next-clause-refused
+returns-in-Err-take_next-clause-refused g c = λ xs k.
     let to = (c.loop.invariant.2 xs k).0 in
     let rs = records to.records in
-    let p = c.in-Ok-read_next.ensures.reads rs (subst (λ o. HasReached o rs) (sym c.order.ensures) to.holds.0.order) in
-    rw (c.refused_at-in-Err-take.ensures, c.offset-offset.ensures)
-    (take_refused (input_profile c.args.input.now) xs c.loop.reading c.in-Ok-read_next.record to c.in-Err-take.refusal
-    c.loop.invariant.0
-    c.loop.invariant.5 p
-    c.in-Err-take.ensures.refused)
+    let p = c.in-Ok-read_next.ensures.reads rs (subst (λ o. HasReached o rs) (sym c.order.ensures)
+    to.holds.0.holds.order) in
+    rw (c.refused_at-in-Err-take_next.ensures, c.offset-offset.ensures)
+    (take_refused (input_profile c.args.input.now) xs c.loop.reading c.in-Ok-read_next.record to
+    c.in-Err-take_next.refusal c.loop.invariant.0 c.loop.invariant.5 p
+    (rw c.profile-profile.ensures at c.in-Err-take_next.ensures.refused))
+
+pub returns-in-Err-take_next-clause-reads : goal.returns-in-Err-take_next-clause-reads
+returns-in-Err-take_next-clause-reads g c =
+    let w = c.loop.invariant.1 in
+    let q = c.in-Ok-read_next.ensures.reads (records w.0) (subst (λ o. HasReached o (records w.0)) (sym c.order.ensures)
+    w.1.holds.order) in
+    let before = g.R.Read.read_errors (input_reader c.args.input.now) in
+    let after = g.R.Read.read_errors (input_reader c.read_next.new.input) in
+    let refused = rw c.profile-profile.ensures at c.in-Err-take_next.ensures.refused in
+    subst (λ b. CountsFailure before after b)
+    (sym (is_read_err (Unit {0}) c.refused_at-in-Err-take_next.result
+    ∙ ap is_refusal_read c.refused_at-in-Err-take_next.ensures
+    ∙ take_unread (input_profile c.args.input.now) c.loop.reading c.in-Ok-read_next.record c.offset-offset.result c.in-Err-take_next.refusal
+    w refused))
+    (q.counted ∙ c.loop.invariant.3)
 
 pub returns-then-is_end-clause-whole : goal.returns-then-is_end-clause-whole
 returns-then-is_end-clause-whole g c = λ xs k.
+    let P = input_profile c.args.input.now in
     let to = (c.loop.invariant.2 xs k).0 in
     let rs = records to.records in
     let r = c.in-Ok-read_next.record in
-    let y = c.take.new.self in
-    let p = c.in-Ok-read_next.ensures.reads rs (subst (λ o. HasReached o rs) (sym c.order.ensures) to.holds.0.order) in
-    let on = record_on (input_profile c.args.input.now) xs c.loop.reading y r to c.loop.invariant.0 c.loop.invariant.5 p
-    (c.in-Ok-take.ensures.kept rs to.holds.0)
-    (c.in-Ok-take.ensures.none rs to.holds.0) in
-    reads_as (input_profile c.args.input.now) xs _ (HasMore y r) (HasWhole y) _ on
-    (λ is m. more_whole y r is (sym c.is_end-is_end.ensures ∙ c.if-is_end.true) m)
+    let y = c.take_next.new.reading in
+    let p = c.in-Ok-read_next.ensures.reads rs (subst (λ o. HasReached o rs) (sym c.order.ensures)
+    to.holds.0.holds.order) in
+    let kept = rw c.profile-profile.ensures at c.in-Ok-take_next.ensures.kept in
+    let on = item_kept P xs c.loop.reading y r to c.loop.invariant.0 c.loop.invariant.5 p
+    (kept to.records to.holds.0) in
+    reads_as P xs _ (HasMore P y r) (HasWhole P y) _ on
+    (λ is m. more_whole P y r is (sym c.is_end-is_end.ensures ∙ c.if-is_end.true) m)
 
 pub loop-preserved : goal.loop-preserved
 loop-preserved g c =
+    let P = input_profile c.args.input.now in
     let r = c.in-Ok-read_next.record in
-    let y = c.take.new.self in
+    let y = c.take_next.new.reading in
     let w = c.loop.invariant.1 in
-    let q = c.in-Ok-read_next.ensures.reads w.0 (subst (λ o. HasReached o w.0) (sym c.order.ensures) w.1.order) in (
+    let q = c.in-Ok-read_next.ensures.reads (records w.0) (subst (λ o. HasReached o (records w.0)) (sym c.order.ensures)
+    w.1.holds.order) in
+    let kept = rw c.profile-profile.ensures at c.in-Ok-take_next.ensures.kept in
+    let more = kept w.0 w.1 in (
       q.failed,
-      (w.0 ++ r ∷ [], c.in-Ok-take.ensures.kept w.0 w.1),
+      (w.0 ++ more.0 ∷ [], more.3),
       (λ xs k.
           let z = c.loop.invariant.2 xs k in
           let to = z.0 in
           let rs = records to.records in
           let p = c.in-Ok-read_next.ensures.reads rs (subst (λ o. HasReached o rs) (sym c.order.ensures)
-          to.holds.0.order) in
-          let on = record_on (input_profile c.args.input.now) xs c.loop.reading y r to c.loop.invariant.0
-          c.loop.invariant.5 p (c.in-Ok-take.ensures.kept rs to.holds.0)
-          (c.in-Ok-take.ensures.none rs to.holds.0) in
-          let more = record_takes (input_profile c.args.input.now) xs c.loop.reading
-          (item r) to c.loop.invariant.0 c.loop.invariant.5 p in (
-            reads_as (input_profile c.args.input.now) xs _ (HasMore y r) (HasBegun y) _ on
-                (λ is m. more_begun y r is (sym c.is_end-is_end.ensures ∙ c.if-is_end.false) m),
-            omega
-                (arith, z.1, more),
+          to.holds.0.holds.order) in
+          let on = item_kept P xs c.loop.reading y r to c.loop.invariant.0 c.loop.invariant.5 p
+          (kept to.records to.holds.0) in
+          let takes = record_takes P xs c.loop.reading (item r) to c.loop.invariant.0 c.loop.invariant.5 p in (
+            reads_as P xs _ (HasMore P y r) (HasBegun P y) _ on
+                (λ is m. more_begun P y r is (sym c.is_end-is_end.ensures ∙ c.if-is_end.false) m),
+            omega (arith, z.1, takes),
           )),
       q.counted ∙ c.loop.invariant.3,
       q.same ∙ c.loop.invariant.4,

@@ -1,18 +1,18 @@
 use Rattle.std.proofs.Common.{◌≡◌, ◌<◌, false, List, ℕ, Some}
 use Rattle.lvl_grammar.specs.inside.ReadTo.{ReadTo}
 use Rattle.oasis_values.specs.Input.{has_failed, input_profile, bytes_left, input_offset, input_reader}
-use Rattle.oasis_records.specs.declared.record.Record.{Record}
+use Rattle.oasis_stream.specs.Items.{Item}
 use Rattle.oasis_stream.specs.Front.{oasis}
-use Rattle.oasis_library.specs.inside.Holds.{Holds, HasBegun}
+use Rattle.oasis_library.specs.inside.Holds.{HasRead, HasBegun}
 use Rattle.oasis_library.proofs.read.read_records.Given as goal
 
 abbrev pub invariant-loop : goal.invariant-loop
 invariant-loop g l =
     (has_failed l.input ≡ false)
-    × ((rs : List Record) × Holds l.reading rs)
+    × ((is : List Item) × HasRead (input_profile l.fn.input) l.reading is)
     × ((xs : List ℕ) → bytes_left g.R.Read.remaining l.fn.input ≡ Some xs
-    → ReadTo (oasis (input_profile l.fn.input)) xs (input_offset l.input) (HasBegun l.reading)
-    (bytes_left g.R.Read.remaining l.input)
+    → ReadTo (oasis (input_profile l.fn.input)) xs (input_offset l.input)
+    (HasBegun (input_profile l.fn.input) l.reading) (bytes_left g.R.Read.remaining l.input)
     × (l.counter < input_offset l.input))
     × (g.R.Read.read_errors (input_reader l.input) ≡ g.R.Read.read_errors (input_reader l.fn.input))
     × (g.R.Read.lent (input_reader l.input) ≡ g.R.Read.lent (input_reader l.fn.input))

@@ -24,6 +24,9 @@ returns-in-Polygon g c = rw c.in-Polygon.is (record { reads = c.read_polygon.ens
 pub returns-in-Path : goal.returns-in-Path
 returns-in-Path g c = rw c.in-Path.is (record { reads = c.read_path.ensures.reads })
 
+pub returns-in-Block : goal.returns-in-Block
+returns-in-Block g c = rw c.in-Block.is (record { reads = c.read_block.ensures.reads })
+
 pub returns-in-CellName : goal.returns-in-CellName
 returns-in-CellName g c =
     rw (c.in-CellName.is, c.of_values.ensures) (record { reads = reads_plain _ c.read_cell_name.ensures.reads })

@@ -1,4 +1,4 @@
-use Rattle.std.proofs.Common.{List, sym, subst}
+use Rattle.std.proofs.Common.{List, refl, sym, subst}
 use Rattle.oasis_records.specs.declared.record.Record.{Record}
 use Rattle.oasis_library.specs.inside.Holds.{Holds}
 use Rattle.oasis_stream.specs.Order.{names_in}
@@ -56,4 +56,5 @@ returns c =
             c.take.ensures.none (names_in rs) h.names,
         (holds rs h).none,
       );
+      room = refl;
     }

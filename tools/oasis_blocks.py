@@ -1,0 +1,55 @@
+"""Compressed blocks of OASIS, for the second implementation: unpacked by zlib, and read record by record."""
+import zlib
+
+from answers import Refused
+
+CBLOCK = 34
+# The records that no block has inside.
+OUTER = (1, 2, CBLOCK)
+# The greatest number of bytes of a file, and of all its blocks together.
+MOST_BYTES = 2**32 - 1
+
+
+def unpacked(reader, packed, count):
+    """The bytes that the packed ones spell, which must be exactly `count`.
+
+    Of bytes that spell nothing lvl reports 42 or 43, by what it sees first. This reports 42 where zlib finds an error,
+    and 43 for a wrong count.
+    """
+    stream, out = zlib.decompressobj(-15), b""
+    try:
+        out = stream.decompress(packed, count + 1)
+        while not stream.eof and stream.unconsumed_tail and len(out) <= count:
+            out += stream.decompress(stream.unconsumed_tail, count + 1 - len(out))
+    except zlib.error:
+        reader.refuse(42, "Deflate")
+    reader.refuse_if(len(out) > count, 43, "BlockLength")
+    reader.refuse_if(not stream.eof, 42, "Deflate")
+    reader.refuse_if(len(out) < count or stream.unused_data, 43, "BlockLength")
+    return out
+
+
+def take_records(reader, data):
+    """Reads the records inside; what is wrong there is refused at the offset of the block."""
+    outside = reader.data, reader.at
+    reader.data, reader.at, reader.inside = data, 0, True
+    try:
+        while reader.at < len(data):
+            id = reader.unsigned()
+            reader.judge(id)
+            reader.record(id)
+    except Refused as refused:
+        reader.refuse_if(refused.number == 1, 43, "BlockLength")
+        raise
+    reader.data, reader.at = outside
+    reader.inside = False
+
+
+def take(reader, packed_bytes):
+    """Reads a CBLOCK after its id; `packed_bytes` reads a b-string."""
+    reader.refuse_if(reader.unsigned() != 0, 41, "CompressionType")
+    count = reader.unsigned()
+    packed = packed_bytes()
+    reader.refuse_if(count > reader.room, 11, "TooLong")
+    reader.room -= count
+    take_records(reader, unpacked(reader, packed, count))
