@@ -94,10 +94,6 @@ fn view_form(fault: ViewFault) -> &'static str
     }
 }
 
-/// What comes after the name of a fault of what is ignored: the words that are expected, on a line of their own.
-const IGNORE_FORM: &str =
-    "\nlvl: --ignore takes properties, texts, names, padding or all, joined by commas\n";
-
 /// Writes that a line of the list in the file of a name is bad.
 fn say_bad_line<E: Write>(err: &mut E, name: &str, number: usize)
     ensures { IsSaid (codes "lvl: " ++ name.now ++ codes ": bad line " ++ decimal number ++ codes "\n")
@@ -138,9 +134,12 @@ pub(crate) fn say<E: Write>(err: &mut E, fault: &JobFault)
         JobFault::BadView(fault) => {
             say_parts(err, "lvl: bad view ", view_fault(*fault), view_form(*fault))
         }
-        JobFault::BadIgnore(fault) => {
-            say_parts(err, "lvl: bad ignore ", ignore_fault(*fault), IGNORE_FORM)
-        }
+        JobFault::BadIgnore(fault) => say_parts(
+            err,
+            "lvl: bad ignore ",
+            ignore_fault(*fault),
+            "\nlvl: --ignore takes properties, texts, names, padding or all, joined by commas\n",
+        ),
         JobFault::NotOpened(name) => say_line(err, "lvl: cannot open ", name.as_str()),
         JobFault::UnreadList(name) => say_parts(err, "lvl: ", name.as_str(), ": cannot read\n"),
         JobFault::LongList(name) => say_parts(err, "lvl: ", name.as_str(), ": too long\n"),

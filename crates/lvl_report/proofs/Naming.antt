@@ -7,12 +7,6 @@ use Rattle.std.proofs.lemmas.List.{append-nil, take_all}
 use Rattle.lvl_region.specs.declared.region.Side.{Side}
 use Rattle.lvl_report.specs.Tops.{names_text, others_text, top_option, tops_text, which_file}
 
--- names after the first one
-pub names_of : (names : List (List ℕ)) (d : List ℕ) → 0 < length names
-    → names_text names ≡ get_or names 0 d ++ flat_map (λ other. codes ", " ++ other) (drop 1 names)
-names_of [] d some = absurd (let no : ⊥ = omega (arith, some) in no)
-names_of (name ∷ names) d some = refl
-
 -- at most eight names are all named
 pub few_names : (names : List (List ℕ)) → length names ≤ 8
     → names_text (take 8 names) ++ others_text names ≡ names_text names
@@ -26,6 +20,17 @@ pub many_names : (names : List (List ℕ)) → 8 < length names
 many_names names many =
     ap (λ b. names_text (take 8 names) ++ (if b then codes ", .." else [])) (lt-ltb 8 (length names) many)
 
+-- a text to which five parts were added
+made_of : (t0 t1 t2 t3 t4 t5 a b c d e : List ℕ) → t0 ≡ [] → t1 ≡ t0 ++ a → t2 ≡ t1 ++ b → t3 ≡ t2 ++ c
+    → t4 ≡ t3 ++ d → t5 ≡ t4 ++ e → t5 ≡ (((a ++ b) ++ c) ++ d) ++ e
+made_of t0 t1 t2 t3 t4 t5 a b c d e e0 e1 e2 e3 e4 e5 =
+    e5 ∙ ap (λ t. t ++ e) (e4 ∙ ap (λ t. t ++ d) (e3 ∙ ap (λ t. t ++ c) (e2 ∙ ap (λ t. t ++ b)
+    (e1 ∙ ap (λ t. t ++ a) e0))))
+
+shape : (a f h n t s o k p z : List ℕ) → (((a ++ f) ++ (h ++ n ++ t)) ++ (s ++ o)) ++ (k ++ p ++ z)
+    ≡ (a ++ f ++ h ++ n ++ t ++ s ++ o ++ k ++ p) ++ z
+shape a f h n t s o k p z = simp append_assoc refl
+
 -- the line of its parts
 pub tops_of : (side : Option Side) (names : List (List ℕ)) (t0 t1 t2 t3 t4 t5 : List ℕ) → t0 ≡ []
     → t1 ≡ t0 ++ codes "lvl: the " → t2 ≡ t1 ++ which_file side
@@ -33,4 +38,8 @@ pub tops_of : (side : Option Side) (names : List (List ℕ)) (t0 t1 t2 t3 t4 t5 
     → t4 ≡ t3 ++ (names_text (take 8 names) ++ others_text names)
     → t5 ≡ t4 ++ (codes ": choose one by " ++ top_option side ++ codes "\n") → t5 ≡ tops_text side names
 tops_of side names t0 t1 t2 t3 t4 t5 e0 e1 e2 e3 e4 e5 =
-    rw (e5, e4, e3, e2, e1, e0) (simp append_assoc refl)
+    made_of t0 t1 t2 t3 t4 t5 (codes "lvl: the ") (which_file side)
+    (codes " has " ++ decimal (length names) ++ codes " tops: ") (names_text (take 8 names) ++ others_text names)
+    (codes ": choose one by " ++ top_option side ++ codes "\n") e0 e1 e2 e3 e4 e5
+    ∙ shape (codes "lvl: the ") (which_file side) (codes " has ") (decimal (length names)) (codes " tops: ")
+    (names_text (take 8 names)) (others_text names) (codes ": choose one by ") (top_option side) (codes "\n")

@@ -23,11 +23,8 @@ fn push_cell(text: &mut Vec<u8>, cell: &ListedCell) -> io::Result<()>
     write!(text, "cell")?;
     push_name(text, cell.name.as_bytes())?;
     let (shapes, references) = (cell.shapes, cell.references);
-    writeln!(
-        text,
-        " shapes {shapes} references {references}{}",
-        top_mark(cell.is_top)
-    )
+    let mark = top_mark(cell.is_top);
+    writeln!(text, " shapes {shapes} references {references}{mark}")
 }
 
 /// Appends the line of each cell.

@@ -36,14 +36,21 @@ fn push_file(text: &mut Vec<u8>, side: Option<Side>) -> io::Result<()>
     }
 }
 
+/// Appends a name after a comma.
+fn push_other(text: &mut Vec<u8>, name: &[u8]) -> io::Result<()>
+    ensures { OnOk result (text.new.items ≡ text.old.items ++ (codes ", " ++ name.now)) }
+{
+    text.write_all(b", ")?;
+    text.write_all(name)
+}
+
 /// Appends names, each after a comma.
 fn push_others(text: &mut Vec<u8>, names: &[Name]) -> io::Result<()>
     ensures { OnOk result
         (text.new.items ≡ text.old.items ++ flat_map (λ other. codes ", " ++ other) names.now) }
 {
     for name in names {
-        text.write_all(b", ")?;
-        text.write_all(name.as_bytes())?;
+        push_other(text, name.as_bytes())?;
     }
     Ok(())
 }
@@ -52,11 +59,13 @@ fn push_others(text: &mut Vec<u8>, names: &[Name]) -> io::Result<()>
 fn push_names(text: &mut Vec<u8>, names: &[Name]) -> io::Result<()>
     ensures { OnOk result (text.new.items ≡ text.old.items ++ names_text names.now) }
 {
-    if names.is_empty() {
-        return Ok(());
+    match names {
+        [] => Ok(()),
+        [name, others @ ..] => {
+            text.write_all(name.as_bytes())?;
+            push_others(text, others)
+        }
     }
-    text.write_all(names[0].as_bytes())?;
-    push_others(text, &names[1..])
 }
 
 /// Appends the first eight of the names, and whether there are more.
@@ -78,7 +87,8 @@ fn tops_text(alloc: Global, side: Option<Side>, names: &[Name]) -> io::Result<Ve
     let mut text = Vec::new(alloc);
     write!(text, "lvl: the ")?;
     push_file(&mut text, side)?;
-    write!(text, " has {} tops: ", names.len())?;
+    let count = names.len();
+    write!(text, " has {count} tops: ")?;
     push_some(&mut text, names)?;
     writeln!(text, ": choose one by {}", top_option(side))?;
     Ok(text)
