@@ -83,3 +83,23 @@ pub or_any_more : {X : Type 0} (p : X → Bool) (xs : List X) (i : ℕ) (x : X) 
 or_any_more p xs i x a b u there so_far is =
     is ∙ ap (λ d. d || p x) so_far ∙ or_or a (list_any p (take i xs)) (p x)
     ∙ ap (λ d. a || d) (any_more p xs i x (list_any p (take i xs)) (list_any p (take i xs) || p x) there refl refl)
+
+or_twice : (b d : Bool) → ((b || d) || d) ≡ (b || d)
+or_twice true d = refl
+or_twice false true = refl
+or_twice false false = refl
+
+-- the same if the next item is like the one before it, of which something is already known
+pub or_any_repeated : {X : Type 0} (p : X → Bool) (xs : List X) (i k : ℕ) (x y : X) (a b : Bool) → k + 1 ≡ i
+    → slice_get xs k ≡ Some x → slice_get xs i ≡ Some y → p y ≡ p x → b ≡ (a || list_any p (take i xs))
+    → b ≡ (a || list_any p (take (i + 1) xs))
+or_any_repeated p xs i k x y a b next there here same so_far =
+    let before : Bool = list_any p (take k xs) in
+    let last : (before || p x) ≡ list_any p (take i xs) =
+    any_more p xs k x before (before || p x) there refl refl ∙ ap (λ n. list_any p (take n xs)) next in
+    let more : (list_any p (take i xs) || p y) ≡ list_any p (take (i + 1) xs) =
+    any_more p xs i y (list_any p (take i xs)) (list_any p (take i xs) || p y) here refl refl in
+    so_far
+    ∙ ap (λ d. a || d)
+    (sym last ∙ sym (or_twice before (p x)) ∙ ap (λ d. d || p x) last ∙ ap (λ d. list_any p (take i xs) || d) (sym same)
+    ∙ more)

@@ -1,9 +1,9 @@
 //! The cells of a library, sound or not, and which of them could be its top.
-ghost use Rattle.std.specs.Prelude.{◌≡◌, ◌||◌, ℕ, List, not, IfOk, OnOk};
+ghost use Rattle.std.specs.Prelude.{◌≡◌, ◌<◌, ◌||◌, ℕ, List, length, not, IfOk, IsTrue, OnOk};
 ghost use Rattle.std.specs.List.{list_any};
 ghost use Rattle.std.specs.Str.{bytes_eq};
 ghost use Rattle.lvl_count.specs.Listed.{listed, tops};
-ghost use Rattle.lvl_count.specs.inside.Referring.{HasReferred, has_name};
+ghost use Rattle.lvl_count.specs.inside.Referring.{HasReferred, Repeats, has_name};
 
 use lvl_cells::{Cell, References};
 use lvl_names::Name;
@@ -33,6 +33,17 @@ fn add_name(alloc: Global, referred: &mut BTreeSet<Vec<u8>>, name: &[u8]) -> Res
     Ok(())
 }
 
+/// Whether a reference is to the cell of the one before it.
+fn is_repeated(references: &References, j: usize) -> bool
+    requires { j < length references.now }
+    ensures { IsTrue result → Repeats references.now j }
+{
+    if j == 0 {
+        return false;
+    }
+    references.reference(j).cell() == references.reference(j - 1).cell()
+}
+
 /// Adds the names to which references refer.
 fn add_names(
     alloc: Global,
@@ -43,7 +54,9 @@ fn add_names(
         → has_name referred.new q ≡ (has_name referred.old q || list_any (λ r. bytes_eq q r.cell) references.now)) }
 {
     for j in 0..references.len() {
-        add_name(alloc, referred, references.reference(j).cell())?;
+        if !is_repeated(references, j) {
+            add_name(alloc, referred, references.reference(j).cell())?;
+        }
     }
     Ok(())
 }
