@@ -5,7 +5,7 @@ use Rattle.std.proofs.lemmas.List.{append-nil}
 use Rattle.std.specs.Global.{Global}
 use Rattle.std.specs.Prelude.{String, string_bytes}
 use Rattle.lvl_line.specs.declared.job.Job.{Job}
-use Rattle.lvl_line.specs.declared.job.Job.TheVariants.{Check, Compare, Digest, List as ListJob, Show}
+use Rattle.lvl_line.specs.declared.job.Job.TheVariants.{Cells, Check, Compare, Digest, List as ListJob, Show}
 use Rattle.lvl_list.specs.declared.entry.Entry.{Entry}
 use Rattle.lvl_profile.specs.declared.profile.Profile.{Profile}
 use Rattle.lvl_report.specs.declared.outcome.Outcome.{Outcome}
@@ -32,6 +32,7 @@ module _ {S : Type 0} (opens : S → List ℕ → Option (Option (List ℕ)) →
   one_done (Compare a b c d e f g h i j) old new out err r one done = done
   one_done (Show a b c d) old new out err r one done = done
   one_done (Digest a b c d) old new out err r one done = done
+  one_done (Cells a b c) old new out err r one done = done
   one_done (ListJob a b c d) old new out err r one done = cc
   one_done (Check a b c d e) old new out err r one done = cc
 
