@@ -14,7 +14,7 @@ ghost use Rattle.lvl.specs.declared.verdict.Refusal.TheVariants.{File as FileRef
 
 use crate::layout::{Head, read_layout_by};
 use crate::verdict::{CellRefusal, Refusal};
-use lvl_cells::{Checked, Library, check_with};
+use lvl_cells::{Checked, Library, check_or_return};
 use lvl_count::top_names;
 use lvl_flat::Fitted;
 use lvl_io::Read;
@@ -85,10 +85,12 @@ pub(crate) fn check_named(
     ensures checked { IfOk result (IsCheckedAs (kept_named limits library (option_copied top.entry))) }
     ensures refused { IfErr result (IsCheckRefusal side (kept_named limits library (option_copied top.entry))) }
 {
-    let tops = tops_of(alloc, &library, top)?;
-    match check_with(alloc, library, top, limits) {
+    match check_or_return(alloc, library, top, limits) {
         Ok(checked) => Ok(checked),
-        Err(Cause::Breach(fault)) => Err(Refusal::Cells(side, CellRefusal { fault, tops })),
+        Err(Cause::Breach((fault, library))) => {
+            let tops = tops_of(alloc, &library, top)?;
+            Err(Refusal::Cells(side, CellRefusal { fault, tops }))
+        }
         Err(Cause::OutOfMemory) => Err(Refusal::OutOfMemory),
     }
 }

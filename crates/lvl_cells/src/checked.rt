@@ -150,6 +150,48 @@ fn examine(
     })
 }
 
+/// Checks a library as [`check_with`] does, and gives it back with the fault if it is refused.
+pub fn check_or_return(
+    alloc: Global,
+    library: Library,
+    top: Option<&[u8]>,
+    limits: Limits,
+) -> Result<Checked, Cause<(CellFault, Library)>>
+    ensures same { IfOk result (λ checked. checked.cells ≡ library) }
+    ensures sound { IfOk result (λ checked. IsSettled limits (option_copied top.entry) checked) }
+    ensures fault { IfErr result (λ refusal. Says refusal (λ found.
+        IsFaultOf limits library (option_copied top.entry) found.0)) }
+    ensures returned { IfErr result (λ refusal. Says refusal (λ found. found.1 ≡ library)) }
+{
+    let Library { cells } = library;
+    if cells.is_empty() {
+        return Err(Cause::Breach((CellFault::NoCell, Library { cells })));
+    }
+    let Examined {
+        top,
+        order,
+        targets,
+        times,
+    } = match examine(alloc, &cells, top, limits) {
+        Ok(examined) => examined,
+        Err(Cause::Breach(fault)) => return Err(Cause::Breach((fault, Library { cells }))),
+        Err(Cause::OutOfMemory) => return Err(Cause::OutOfMemory),
+    };
+    let resolved = Resolved {
+        cells,
+        order,
+        targets,
+    };
+    match Rc::new(alloc, resolved) {
+        Ok(resolved) => Ok(Checked {
+            resolved,
+            top,
+            times,
+        }),
+        Err(_) => Err(Cause::OutOfMemory),
+    }
+}
+
 /// Checks that a library is sound for its top and that the top places no more than the limits allow (own rules).
 ///
 /// A library is sound if it has a cell, the names of its cells are distinct, each reference names a
@@ -169,28 +211,10 @@ pub fn check_with(
     ensures refused { IfErr result
         (λ refusal. Says refusal (λ _. ¬ IsSoundWith library (option_copied top.entry) (PlacesFew limits library))) }
 {
-    let Library { cells } = library;
-    if cells.is_empty() {
-        return Err(Cause::Breach(CellFault::NoCell));
-    }
-    let Examined {
-        top,
-        order,
-        targets,
-        times,
-    } = examine(alloc, &cells, top, limits)?;
-    let resolved = Resolved {
-        cells,
-        order,
-        targets,
-    };
-    match Rc::new(alloc, resolved) {
-        Ok(resolved) => Ok(Checked {
-            resolved,
-            top,
-            times,
-        }),
-        Err(_) => Err(Cause::OutOfMemory),
+    match check_or_return(alloc, library, top, limits) {
+        Ok(checked) => Ok(checked),
+        Err(Cause::Breach(found)) => Err(Cause::Breach(found.0)),
+        Err(Cause::OutOfMemory) => Err(Cause::OutOfMemory),
     }
 }
 

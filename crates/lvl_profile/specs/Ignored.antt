@@ -8,11 +8,11 @@ use Rattle.lvl_profile.specs.declared.ignore.Ignore.{Ignore}
 
 -- the empty set
 abbrev pub nothing : Ignore
-nothing = record { properties = false; texts = false; names = false; padding = false }
+nothing = record { properties = false; texts = false; names = false; padding = false; points = false }
 
 -- the set of everything that can be ignored
 abbrev pub everything : Ignore
-everything = record { properties = true; texts = true; names = true; padding = true }
+everything = record { properties = true; texts = true; names = true; padding = true; points = true }
 
 -- what is in either set
 abbrev pub union : Ignore → Ignore → Ignore
@@ -21,14 +21,16 @@ union a b = record {
   texts = a.texts || b.texts;
   names = a.names || b.names;
   padding = a.padding || b.padding;
+  points = a.points || b.points;
 }
 
--- each kind of records in the first set is in the second
+-- each kind of things in the first set is in the second
 pub record IsSubsetOf (less more : Ignore) : Type 0 where
   pub properties : less.properties ≡ true → more.properties ≡ true
   pub texts : less.texts ≡ true → more.texts ≡ true
   pub names : less.names ≡ true → more.names ≡ true
   pub padding : less.padding ≡ true → more.padding ≡ true
+  pub points : less.points ≡ true → more.points ≡ true
 
 -- the set that a word names; None if it is no such word
 abbrev pub word_set : List ℕ → Option Ignore
@@ -37,7 +39,8 @@ word_set word =
     (if bytes_eq word (codes "texts") then Some (record nothing { texts = true }) else
     (if bytes_eq word (codes "names") then Some (record nothing { names = true }) else
     (if bytes_eq word (codes "padding") then Some (record nothing { padding = true }) else
-    (if bytes_eq word (codes "all") then Some everything else None))))
+    (if bytes_eq word (codes "points") then Some (record nothing { points = true }) else
+    (if bytes_eq word (codes "all") then Some everything else None)))))
 
 -- the byte `,`
 abbrev pub comma : ℕ

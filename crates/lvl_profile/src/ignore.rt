@@ -9,7 +9,7 @@ use lvl_refusal::Cause;
 use std::alloc::{AllocError, Global};
 use thiserror::Error;
 
-/// Which records a reader reads and ignores instead of refusing them. None of them draws anything.
+/// What a reader reads and ignores instead of refusing it. Nothing of it draws anything.
 #[derive(Clone, Copy, Debug, PartialEq, Eq)]
 pub struct Ignore {
     /// Properties of elements, cells and files. GDSII: PROPATTR with PROPVALUE, and ATTRTABLE. OASIS:
@@ -22,24 +22,27 @@ pub struct Ignore {
     pub names: bool,
     /// OASIS: groups of seven zero bits at the end of an unsigned integer, more than it needs.
     pub padding: bool,
+    /// Points of paths that equal the point before. Without them a path draws the same.
+    pub points: bool,
 }
 
 /// Why a text names nothing that can be ignored (own rule).
 #[derive(Clone, Copy, Debug, Drop, PartialEq, Eq, Error)]
 pub enum IgnoreFault {
-    /// The text is not one or more of the words `properties`, `texts`, `names`, `padding` and `all`,
-    /// joined by commas.
+    /// The text is not one or more of the words `properties`, `texts`, `names`, `padding`, `points` and
+    /// `all`, joined by commas.
     #[error("IgnoreText")]
     IgnoreText,
 }
 
 impl Ignore {
-    /// Nothing is ignored: each record that the reader doesn't use is refused.
+    /// Nothing is ignored: all that the reader doesn't use is refused.
     pub const NOTHING: Ignore = Ignore {
         properties: false,
         texts: false,
         names: false,
         padding: false,
+        points: false,
     };
 
     /// Everything that can be ignored is ignored.
@@ -48,6 +51,7 @@ impl Ignore {
         texts: true,
         names: true,
         padding: true,
+        points: true,
     };
 
     /// Reads words joined by commas, each of which adds what it names; `all` names everything. A word
@@ -72,6 +76,7 @@ impl Ignore {
             texts: self.texts || more.texts,
             names: self.names || more.names,
             padding: self.padding || more.padding,
+            points: self.points || more.points,
         }
     }
 }
@@ -113,6 +118,10 @@ fn named(word: &str) -> Option<Ignore>
         }),
         "padding" => Some(Ignore {
             padding: true,
+            ..Ignore::NOTHING
+        }),
+        "points" => Some(Ignore {
+            points: true,
             ..Ignore::NOTHING
         }),
         "all" => Some(Ignore::EVERYTHING),

@@ -1,9 +1,10 @@
-//! What a file may be: which of its records are read and ignored, and how much it may have.
+//! What a file may be: what of it is read and ignored, how much it may have, and whether it may be compressed.
 //!
 //! A reader refuses each record that it doesn't use, since such a record might draw something. Some
 //! records never draw anything: properties, texts, names of layers. [`Ignore`] says which of these
-//! are read and ignored. It is read from words such as `properties,texts`, or `all`. [`Limits`] says
-//! how many bytes, cells and places a file may have. A [`Profile`] is both.
+//! are read and ignored, and whether a path may have a point twice in a row. It is read from words such
+//! as `properties,texts`, or `all`. [`Limits`] says how many bytes, cells and places a file may have. A
+//! [`Profile`] is both, and says whether compressed blocks are read.
 //!
 //! ```
 //! use lvl_profile::{Ignore, IgnoreFault};

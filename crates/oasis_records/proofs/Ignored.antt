@@ -170,7 +170,7 @@ type_grows less more within n t e =
                                                       p,
                                                       (
                                                         m,
-                                                        (m, ((λ h. h), tt)),
+                                                        (m, (within.unpack, tt)),
                                                       ),
                                                     ),
                                                   ),

@@ -68,9 +68,9 @@ texts profile = profile.ignore.texts
 abbrev pub properties : Profile → Bool
 properties profile = profile.ignore.properties
 
--- blocks: no profile reads them yet
+-- blocks are read if the profile unpacks them
 abbrev pub blocks : Profile → Bool
-blocks profile = false
+blocks profile = profile.unpack
 
 -- the types of records that are read, always or if they are ignored
 abbrev pub types : List Row

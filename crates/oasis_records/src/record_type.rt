@@ -7,9 +7,6 @@ use crate::names::EntryType;
 use lvl_profile::Profile;
 use oasis_values::Text;
 
-/// Whether blocks are read. No profile asks for it yet.
-const READS_BLOCKS: bool = false;
-
 /// The types of records that are read. Some are only read to be ignored.
 #[derive(Clone, Copy, Debug, Drop, PartialEq, Eq)]
 pub enum RecordType {
@@ -57,7 +54,7 @@ fn type_if(is_read: bool, kind: RecordType, id: u64) -> Result<RecordType, Recor
 impl RecordType {
     /// The type of records with this id (SEMI P39, "Records"). It is `Unsupported` except for 0 to 4, 13 to
     /// 18 and 20 to 22, and for those that are ignored: 11, 12, 30 and 31 as names, 5, 6 and 19 as texts, 7
-    /// to 10, 28 and 29 as properties. 34 is that of blocks, which no profile reads yet.
+    /// to 10, 28 and 29 as properties, and for 34, a block, if the profile unpacks blocks.
     pub fn of(id: u64, profile: Profile) -> Result<RecordType, RecordRule>
         ensures { result ≡ record_type profile id }
     {
@@ -124,7 +121,7 @@ impl RecordType {
                 RecordType::Entry(EntryType::NumberedXName),
                 id,
             ),
-            34 => type_if(READS_BLOCKS, RecordType::Block, id),
+            34 => type_if(profile.unpack, RecordType::Block, id),
             _ => Err(RecordRule::Unsupported(id)),
         }
     }
