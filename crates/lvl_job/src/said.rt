@@ -138,7 +138,7 @@ pub(crate) fn say<E: Write>(err: &mut E, fault: &JobFault)
             err,
             "lvl: bad ignore ",
             ignore_fault(*fault),
-            "\nlvl: --ignore takes properties, texts, names, padding or all, joined by commas\n",
+            "\nlvl: --ignore takes properties, texts, names, padding, points or all, joined by commas\n",
         ),
         JobFault::NotOpened(name) => say_line(err, "lvl: cannot open ", name.as_str()),
         JobFault::UnreadList(name) => say_parts(err, "lvl: ", name.as_str(), ": cannot read\n"),
@@ -198,16 +198,12 @@ fn say_hint<E: Write>(err: &mut E, hint: Hint)
     match hint {
         Hint::IgnoreMore(more) => say_ignore(err, more),
         Hint::LiftLimits => say_line(err, "lvl: try ", "--large"),
-        Hint::Unpack => say_line(
+        Hint::Decompress => say_line(
             err,
             "lvl: neither GDSII nor OASIS: ",
             "if the file is compressed (gzip), unpack it first",
         ),
-        Hint::WithoutBlocks => say_line(
-            err,
-            "lvl: a compressed block: ",
-            "write the file without CBLOCK compression",
-        ),
+        Hint::ReadBlocks => say_line(err, "lvl: try ", "--unpack"),
     }
 }
 

@@ -33,32 +33,33 @@ option_rule id = record (new_rule id) { long = Some id; value_names = 1 }
 abbrev pub flag_rule : Text → Rule
 flag_rule id = record (new_rule id) { long = Some id; action = Some SetTrue }
 
--- `compare A B [--top-a NAME] [--top-b NAME] [--map PAIRS] [--window RANGES] [--ignore WORDS] [--large] [--why]
--- [--units]`
+-- `compare A B [--top-a NAME] [--top-b NAME] [--map PAIRS] [--window RANGES] [--ignore WORDS] [--large]
+-- [--unpack] [--why] [--units]`
 abbrev pub compare_app : App
-compare_app = with_rule (with_rule (with_rule (with_rule (with_rule (with_rule (with_rule (with_rule (with_rule (with_rule
-    (new_app (codes "compare"))
+compare_app = with_rule (with_rule (with_rule (with_rule (with_rule (with_rule (with_rule (with_rule (with_rule
+    (with_rule (with_rule (new_app (codes "compare"))
     (file_rule (codes "A"))) (file_rule (codes "B")))
     (option_rule (codes "top-a"))) (option_rule (codes "top-b")))
     (option_rule (codes "map"))) (option_rule (codes "window"))) (option_rule (codes "ignore")))
-    (flag_rule (codes "large"))) (flag_rule (codes "why"))) (flag_rule (codes "units"))
+    (flag_rule (codes "large"))) (flag_rule (codes "unpack"))) (flag_rule (codes "why"))) (flag_rule (codes "units"))
 
--- `show A [--top NAME] [--ignore WORDS] [--large]`
+-- `show A [--top NAME] [--ignore WORDS] [--large] [--unpack]`
 abbrev pub show_app : App
-show_app = with_rule (with_rule (with_rule (with_rule (new_app (codes "show")) (file_rule (codes "A")))
-    (option_rule (codes "top"))) (option_rule (codes "ignore"))) (flag_rule (codes "large"))
+show_app = with_rule (with_rule (with_rule (with_rule (with_rule (new_app (codes "show")) (file_rule (codes "A")))
+    (option_rule (codes "top"))) (option_rule (codes "ignore")))
+    (flag_rule (codes "large"))) (flag_rule (codes "unpack"))
 
--- `digest A.. [--top NAME] [--ignore WORDS] [--large] [--list] [--check] [--quiet]`
+-- `digest A.. [--top NAME] [--ignore WORDS] [--large] [--unpack] [--list] [--check] [--quiet]`
 abbrev pub digest_app : App
-digest_app = with_rule (with_rule (with_rule (with_rule (with_rule (with_rule (with_rule
+digest_app = with_rule (with_rule (with_rule (with_rule (with_rule (with_rule (with_rule (with_rule
     (new_app (codes "digest")) (files_rule (codes "A")))
     (option_rule (codes "top"))) (option_rule (codes "ignore"))) (flag_rule (codes "large")))
-    (flag_rule (codes "list"))) (flag_rule (codes "check"))) (flag_rule (codes "quiet"))
+    (flag_rule (codes "unpack"))) (flag_rule (codes "list"))) (flag_rule (codes "check"))) (flag_rule (codes "quiet"))
 
--- `cells A [--ignore WORDS] [--large]`
+-- `cells A [--ignore WORDS] [--large] [--unpack]`
 abbrev pub cells_app : App
-cells_app = with_rule (with_rule (with_rule (new_app (codes "cells")) (file_rule (codes "A")))
-    (option_rule (codes "ignore"))) (flag_rule (codes "large"))
+cells_app = with_rule (with_rule (with_rule (with_rule (new_app (codes "cells")) (file_rule (codes "A")))
+    (option_rule (codes "ignore"))) (flag_rule (codes "large"))) (flag_rule (codes "unpack"))
 
 -- a subcommand with `[--progress] [--no-progress]` too, which no job depends on
 abbrev pub watched_app : App → App
@@ -97,7 +98,7 @@ IsMisplaced None = ⊥
 
 -- the job has the values that `clap` finds in the words, under the subcommand of that name
 abbrev pub IsNamed : Job → Option (Text × List Row) → Type 0
-IsNamed (job.Compare first second top_a top_b layers window ignored large why units) (Some (name, rows)) =
+IsNamed (job.Compare first second top_a top_b layers window ignored large unpack why units) (Some (name, rows)) =
     (name ≡ codes "compare")
     × (first_of (codes "A") rows ≡ Some (string_bytes first))
     × (first_of (codes "B") rows ≡ Some (string_bytes second))
@@ -107,20 +108,23 @@ IsNamed (job.Compare first second top_a top_b layers window ignored large why un
     × (first_of (codes "window") rows ≡ option_map string_bytes window)
     × (first_of (codes "ignore") rows ≡ option_map string_bytes ignored)
     × (is_set (codes "large") rows ≡ large)
+    × (is_set (codes "unpack") rows ≡ unpack)
     × (is_set (codes "why") rows ≡ why)
     × (is_set (codes "units") rows ≡ units)
-IsNamed (job.Show file top ignored large) (Some (name, rows)) =
+IsNamed (job.Show file top ignored large unpack) (Some (name, rows)) =
     (name ≡ codes "show")
     × (first_of (codes "A") rows ≡ Some (string_bytes file))
     × (first_of (codes "top") rows ≡ option_map string_bytes top)
     × (first_of (codes "ignore") rows ≡ option_map string_bytes ignored)
     × (is_set (codes "large") rows ≡ large)
-IsNamed (job.Cells file ignored large) (Some (name, rows)) =
+    × (is_set (codes "unpack") rows ≡ unpack)
+IsNamed (job.Cells file ignored large unpack) (Some (name, rows)) =
     (name ≡ codes "cells")
     × (first_of (codes "A") rows ≡ Some (string_bytes file))
     × (first_of (codes "ignore") rows ≡ option_map string_bytes ignored)
     × (is_set (codes "large") rows ≡ large)
-IsNamed (job.Digest file top ignored large) (Some (name, rows)) =
+    × (is_set (codes "unpack") rows ≡ unpack)
+IsNamed (job.Digest file top ignored large unpack) (Some (name, rows)) =
     (name ≡ codes "digest")
     × (is_misplaced rows ≡ false)
     × (is_set (codes "list") rows ≡ false)
@@ -129,7 +133,8 @@ IsNamed (job.Digest file top ignored large) (Some (name, rows)) =
     × (first_of (codes "top") rows ≡ option_map string_bytes top)
     × (first_of (codes "ignore") rows ≡ option_map string_bytes ignored)
     × (is_set (codes "large") rows ≡ large)
-IsNamed (job.List files top ignored large) (Some (name, rows)) =
+    × (is_set (codes "unpack") rows ≡ unpack)
+IsNamed (job.List files top ignored large unpack) (Some (name, rows)) =
     (name ≡ codes "digest")
     × (is_misplaced rows ≡ false)
     × (is_set (codes "list") rows ≡ true)
@@ -137,7 +142,8 @@ IsNamed (job.List files top ignored large) (Some (name, rows)) =
     × (first_of (codes "top") rows ≡ option_map string_bytes top)
     × (first_of (codes "ignore") rows ≡ option_map string_bytes ignored)
     × (is_set (codes "large") rows ≡ large)
-IsNamed (job.Check list quiet top ignored large) (Some (name, rows)) =
+    × (is_set (codes "unpack") rows ≡ unpack)
+IsNamed (job.Check list quiet top ignored large unpack) (Some (name, rows)) =
     (name ≡ codes "digest")
     × (is_misplaced rows ≡ false)
     × (is_set (codes "list") rows ≡ false)
@@ -147,6 +153,7 @@ IsNamed (job.Check list quiet top ignored large) (Some (name, rows)) =
     × (first_of (codes "top") rows ≡ option_map string_bytes top)
     × (first_of (codes "ignore") rows ≡ option_map string_bytes ignored)
     × (is_set (codes "large") rows ≡ large)
+    × (is_set (codes "unpack") rows ≡ unpack)
 IsNamed _ None = ⊥
 
 -- the words mean the job, by `clap`

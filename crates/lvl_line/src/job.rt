@@ -16,6 +16,8 @@ pub enum Job {
         ignore: Option<String>,
         /// Whether the limits are those for whole chips.
         large: bool,
+        /// Whether compressed blocks are read.
+        unpack: bool,
         /// Whether the reason of a difference is asked for.
         why: bool,
         /// Whether files are compared only if their grid steps agree.
@@ -28,6 +30,8 @@ pub enum Job {
         ignore: Option<String>,
         /// Whether the limits are those for whole chips.
         large: bool,
+        /// Whether compressed blocks are read.
+        unpack: bool,
     },
     /// To list the cells of a file, with the text of what is ignored if it is given.
     Cells {
@@ -35,6 +39,8 @@ pub enum Job {
         ignore: Option<String>,
         /// Whether the limits are those for whole chips.
         large: bool,
+        /// Whether compressed blocks are read.
+        unpack: bool,
     },
     /// To hash what a file draws, with the name of its top cell and the text of what is ignored if they are
     /// given.
@@ -44,6 +50,8 @@ pub enum Job {
         ignore: Option<String>,
         /// Whether the limits are those for whole chips.
         large: bool,
+        /// Whether compressed blocks are read.
+        unpack: bool,
     },
     /// To list the digests of files, with the name of the top cell of each and the text of what is ignored if
     /// they are given.
@@ -53,6 +61,8 @@ pub enum Job {
         ignore: Option<String>,
         /// Whether the limits are those for whole chips.
         large: bool,
+        /// Whether compressed blocks are read.
+        unpack: bool,
     },
     /// To hash the files of a list again, with the name of the top cell of each and the text of what is ignored
     /// if they are given.
@@ -65,6 +75,8 @@ pub enum Job {
         ignore: Option<String>,
         /// Whether the limits are those for whole chips.
         large: bool,
+        /// Whether compressed blocks are read.
+        unpack: bool,
     },
 }
 

@@ -59,6 +59,7 @@ fn compare_of(alloc: Global, matches: &ArgMatches<'_>) -> Result<Job, AllocError
         window: value_of(alloc, matches, "window")?,
         ignore: value_of(alloc, matches, "ignore")?,
         large: is_set(matches, "large"),
+        unpack: is_set(matches, "unpack"),
         why: is_set(matches, "why"),
         units: is_set(matches, "units"),
     })
@@ -74,6 +75,7 @@ fn show_of(alloc: Global, matches: &ArgMatches<'_>) -> Result<Job, AllocError>
         top: value_of(alloc, matches, "top")?,
         ignore: value_of(alloc, matches, "ignore")?,
         large: is_set(matches, "large"),
+        unpack: is_set(matches, "unpack"),
     })
 }
 
@@ -86,6 +88,7 @@ fn cells_of(alloc: Global, matches: &ArgMatches<'_>) -> Result<Job, AllocError>
         file: file_of(alloc, matches, "A")?,
         ignore: value_of(alloc, matches, "ignore")?,
         large: is_set(matches, "large"),
+        unpack: is_set(matches, "unpack"),
     })
 }
 
@@ -148,12 +151,14 @@ fn digest_of(alloc: Global, matches: &ArgMatches<'_>) -> Result<Job, AllocError>
     let top = value_of(alloc, matches, "top")?;
     let ignore = value_of(alloc, matches, "ignore")?;
     let large = is_set(matches, "large");
+    let unpack = is_set(matches, "unpack");
     if is_set(matches, "list") {
         return Ok(Job::List {
             files: files_of(alloc, matches, "A")?,
             top,
             ignore,
             large,
+            unpack,
         });
     }
     let file = file_of(alloc, matches, "A")?;
@@ -164,6 +169,7 @@ fn digest_of(alloc: Global, matches: &ArgMatches<'_>) -> Result<Job, AllocError>
             top,
             ignore,
             large,
+            unpack,
         });
     }
     Ok(Job::Digest {
@@ -171,6 +177,7 @@ fn digest_of(alloc: Global, matches: &ArgMatches<'_>) -> Result<Job, AllocError>
         top,
         ignore,
         large,
+        unpack,
     })
 }
 
