@@ -6,6 +6,8 @@
 //!     lvl digest --list A.. [--top NAME] [--ignore WORDS] [--large] [--unpack]
 //!     lvl digest --check [--quiet] LIST [--top NAME] [--ignore WORDS] [--large] [--unpack]
 //!
+//! A file whose name is `-` is standard input.
+//!
 //! The exit status is 0 if both layouts draw the same mask, or if one was shown or hashed; 1 if
 //! they differ; 2 if a file is refused or can't be opened, or for out of memory; 3 if the command
 //! line, a map, a window, the text of `--ignore` or a line of a list is invalid, for help, or if
@@ -25,6 +27,7 @@ use std::process::ExitCode;
 use std::{env, io};
 
 mod disk;
+mod source;
 
 /// Standard output with a buffer, of which a line of a terminal is erased first.
 type Output = Counted<BufWriter<Erasing<Stdout, Stderr>>>;

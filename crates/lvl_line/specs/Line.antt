@@ -1,5 +1,5 @@
 -- The command line of the program, as `clap` reads it, and what its words mean (own rule).
-use Rattle.std.specs.Prelude.{◌≡◌, ◌⊎◌, ◌&&◌, ◌||◌, Bool, not, true, false, List, [], length, map, nat_lt, codes}
+use Rattle.std.specs.Prelude.{◌≡◌, ◌⊎◌, ◌&&◌, ◌||◌, Bool, not, true, false, List, [], length, map, nat_lt, codes, count_by}
 use Rattle.std.specs.Prelude.{Option, Some, None, option_map}
 use Rattle.std.specs.Option.{option_map_or}
 use Rattle.std.specs.Str.{bytes_eq}
@@ -79,27 +79,48 @@ line = with_subcommand (with_subcommand (with_subcommand (with_subcommand (recor
 abbrev pub is_set : Text → List Row → Bool
 is_set id rows = option_map_or (λ text. bytes_eq text (codes "true")) (first_of id rows) false
 
+-- whether the name of a file is that of standard input
+abbrev pub is_input_name : Text → Bool
+is_input_name name = bytes_eq name (codes "-")
+
+-- whether the file of an argument is standard input
+abbrev pub is_input : Text → List Row → Bool
+is_input id rows = option_map_or is_input_name (first_of id rows) false
+
+-- whether both files of `compare` are standard input
+abbrev pub is_compared_twice : List Row → Bool
+is_compared_twice rows = is_input (codes "A") rows && is_input (codes "B") rows
+
+-- whether several of the files of an argument are standard input
+abbrev pub is_listed_twice : Text → List Row → Bool
+is_listed_twice id rows = option_map_or (λ values. nat_lt 1 (count_by is_input_name values)) (all_of id rows) false
+
 -- whether the argument has several values
 abbrev pub is_several : Text → List Row → Bool
 is_several id rows = option_map_or (λ values. nat_lt 1 (length values)) (all_of id rows) false
 
--- whether the options of `digest` don't go together: `--list` with `--check`, `--quiet` without `--check`, or several
--- files without `--list`
+-- whether the options of `digest` don't go together: `--list` with `--check`, `--quiet` without `--check`, several files
+-- without `--list`, or standard input several times
 abbrev pub is_misplaced : List Row → Bool
 is_misplaced rows =
     (is_set (codes "list") rows && is_set (codes "check") rows)
     || ((is_set (codes "quiet") rows && not (is_set (codes "check") rows))
-    || (not (is_set (codes "list") rows) && is_several (codes "A") rows))
+    || ((not (is_set (codes "list") rows) && is_several (codes "A") rows)
+    || is_listed_twice (codes "A") rows))
 
--- the words are those of `digest`, and its options don't go together
+-- the words are those of `digest`, and its options don't go together, or those of `compare`, and both files are standard
+-- input
 abbrev pub IsMisplaced : Option (Text × List Row) → Type 0
-IsMisplaced (Some (name, rows)) = (name ≡ codes "digest") × (is_misplaced rows ≡ true)
+IsMisplaced (Some (name, rows)) =
+    ((name ≡ codes "digest") × (is_misplaced rows ≡ true))
+    ⊎ ((name ≡ codes "compare") × (is_compared_twice rows ≡ true))
 IsMisplaced None = ⊥
 
 -- the job has the values that `clap` finds in the words, under the subcommand of that name
 abbrev pub IsNamed : Job → Option (Text × List Row) → Type 0
 IsNamed (job.Compare first second top_a top_b layers window ignored large unpack why units) (Some (name, rows)) =
     (name ≡ codes "compare")
+    × (is_compared_twice rows ≡ false)
     × (first_of (codes "A") rows ≡ Some (string_bytes first))
     × (first_of (codes "B") rows ≡ Some (string_bytes second))
     × (first_of (codes "top-a") rows ≡ option_map string_bytes top_a)
@@ -160,7 +181,7 @@ IsNamed _ None = ⊥
 abbrev pub IsJob : List Text → Job → Type 0
 IsJob words j = IsNamed j (subcommand_of line words)
 
--- `clap` finds no fault in the words, but the options of `digest` don't go together; the error is one of a conflict
+-- `clap` finds no fault in the words, but they don't go together; the error is one of a conflict
 abbrev pub IsConflict : List Text → Error → Type 0
 IsConflict words e =
     (fault_of line words ≡ []) × IsMisplaced (subcommand_of line words) × (kind_of e ≡ ArgumentConflict)

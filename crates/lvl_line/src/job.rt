@@ -1,7 +1,8 @@
 //! What a command line asks for, and why one is refused.
 use clap::Error;
 
-/// What a command line asks for. All texts are as they are in the line, not parsed yet.
+/// What a command line asks for. All texts are as they are in the line, not parsed yet. A file whose name is `-` is
+/// standard input; at most one is.
 #[derive(Debug, Drop, PartialEq, Eq)]
 pub enum Job {
     /// To compare two files, each with the name of its top cell if one is given, with the texts of
@@ -83,8 +84,8 @@ pub enum Job {
 /// Why a command line is refused.
 #[derive(Debug, Drop)]
 pub enum LineFault {
-    /// `clap` refuses the words, the options of `digest` don't go together, or the words ask for help or the
-    /// version. The error has the text to print.
+    /// `clap` refuses the words, the options of `digest` don't go together, standard input is named twice, or the words
+    /// ask for help or the version. The error has the text to print.
     Words(Error),
     /// An allocation failed.
     OutOfMemory,

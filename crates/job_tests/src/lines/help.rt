@@ -117,6 +117,14 @@ Usage: lvl <COMMAND>
 For more information, try '--help'.
 ";
 
+const TWICE: &str = "\
+error: standard input, '-', cannot be used twice
+
+Usage: lvl <COMMAND>
+
+For more information, try '--help'.
+";
+
 const BOTH: &str = "\
 error: the argument '--list' cannot be used with '--check'
 

@@ -3,7 +3,7 @@ use crate::lines::Asks;
 use clap::error::ErrorKind;
 
 /// A line, and what it asks for.
-pub static LINES: [(&str, Asks<'static>); 70] = [
+pub static LINES: [(&str, Asks<'static>); 78] = [
     ("lvl compare a b", Asks::Compare("a", "b", None, None)),
     (
         "lvl compare a b --top-a X --top-b Y",
@@ -103,6 +103,23 @@ pub static LINES: [(&str, Asks<'static>); 70] = [
         "lvl --unpack show a",
         Asks::Nothing(ErrorKind::UnknownArgument),
     ),
+    ("lvl compare - b", Asks::Compare("-", "b", None, None)),
+    ("lvl compare a -", Asks::Compare("a", "-", None, None)),
+    (
+        "lvl compare - --units -",
+        Asks::Nothing(ErrorKind::ArgumentConflict),
+    ),
+    ("lvl show -", Asks::Show("-", None, None)),
+    ("lvl digest -- -", Asks::Digest("-", None, None)),
+    (
+        "lvl digest --list a - b",
+        Asks::List(&["a", "-", "b"], None, None),
+    ),
+    (
+        "lvl digest --list - a -",
+        Asks::Nothing(ErrorKind::ArgumentConflict),
+    ),
+    ("lvl digest --check -", Asks::Check("-", false, None, None)),
     ("lvl compare a --why b", Asks::Why),
     ("lvl compare a --units b", Asks::Units),
     (
