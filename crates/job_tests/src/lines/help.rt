@@ -141,7 +141,7 @@ Usage: lvl <COMMAND>
 For more information, try '--help'.
 ";
 
-static TEXTS: [(&str, &str); 13] = [
+static TEXTS: [(&str, &str); 15] = [
     ("lvl --help", LVL),
     ("lvl -h", LVL),
     ("lvl help", LVL),
@@ -155,6 +155,8 @@ static TEXTS: [(&str, &str); 13] = [
     ("lvl digest a b", SEVERAL),
     ("lvl digest --list --check a", BOTH),
     ("lvl digest a --quiet", ALONE),
+    ("lvl compare - -", TWICE),
+    ("lvl digest --list - -", TWICE),
 ];
 
 #[test]
