@@ -32,7 +32,7 @@ module _ {S : Type 0} (opens : S → List ℕ → Option (Option (List ℕ)) →
   one_done (Compare a b c d e f g h i j k) old new out err r one done = done
   one_done (Show a b c d e) old new out err r one done = done
   one_done (Digest a b c d e) old new out err r one done = done
-  one_done (Cells a b c) old new out err r one done = done
+  one_done (Cells a b c d) old new out err r one done = done
   one_done (ListJob a b c d e) old new out err r one done = cc
   one_done (Check a b c d e f) old new out err r one done = cc
 
