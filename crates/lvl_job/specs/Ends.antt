@@ -7,7 +7,7 @@ use Rattle.std.specs.Prelude.{string_bytes}
 use Rattle.lvl_profile.specs.Ignored.{comma}
 use Rattle.lvl_profile.specs.declared.ignore.Ignore.{Ignore}
 use Rattle.lvl_report.specs.declared.hint.Hint.{Hint}
-use Rattle.lvl_report.specs.declared.hint.Hint.TheVariants.{Decompress, IgnoreMore, LiftLimits, ReadBlocks}
+use Rattle.lvl_report.specs.declared.hint.Hint.TheVariants.{Foreign, IgnoreMore, LiftLimits, ReadBlocks}
 use Rattle.lvl_report.specs.declared.outcome.Outcome.{Outcome}
 use Rattle.lvl_text.specs.Faults.{ignore_fault, view_fault}
 use Rattle.lvl_view.specs.declared.fault.ViewFault.{ViewFault}
@@ -72,7 +72,7 @@ ignore_words i =
 abbrev pub hint_text : Hint → List ℕ
 hint_text (IgnoreMore more) = codes "lvl: try --ignore " ++ ignore_words more ++ codes ", or --ignore all\n"
 hint_text LiftLimits = line (codes "lvl: try " ++ codes "--large")
-hint_text Decompress =
+hint_text Foreign =
     line (codes "lvl: neither GDSII nor OASIS: " ++ codes "if the file is compressed (gzip), unpack it first")
 hint_text ReadBlocks = line (codes "lvl: try " ++ codes "--unpack")
 

@@ -198,7 +198,7 @@ fn say_hint<E: Write>(err: &mut E, hint: Hint)
     match hint {
         Hint::IgnoreMore(more) => say_ignore(err, more),
         Hint::LiftLimits => say_line(err, "lvl: try ", "--large"),
-        Hint::Decompress => say_line(
+        Hint::Foreign => say_line(
             err,
             "lvl: neither GDSII nor OASIS: ",
             "if the file is compressed (gzip), unpack it first",
