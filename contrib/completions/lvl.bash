@@ -3,7 +3,7 @@
 _lvl_words() {
     local given=
     [[ $1 == *,* ]] && given=${1%,*},
-    COMPREPLY=($(compgen -P "$given" -W "properties texts names padding all" -- "${1##*,}"))
+    COMPREPLY=($(compgen -P "$given" -W "properties texts names padding points all" -- "${1##*,}"))
 }
 
 _lvl() {
@@ -28,11 +28,11 @@ _lvl() {
     --ignore) _lvl_words "$word"; return ;;
     esac
     case ${COMP_WORDS[1]}:$word in
-    compare:-*) COMPREPLY=($(compgen -W "--top-a --top-b --map --window --ignore --large --why --units --progress --no-progress --help" -- "$word")) ;;
-    show:-*) COMPREPLY=($(compgen -W "--top --ignore --large --progress --no-progress --help" -- "$word")) ;;
+    compare:-*) COMPREPLY=($(compgen -W "--top-a --top-b --map --window --ignore --large --unpack --why --units --progress --no-progress --help" -- "$word")) ;;
+    show:-*) COMPREPLY=($(compgen -W "--top --ignore --large --unpack --progress --no-progress --help" -- "$word")) ;;
     digest:-*)
-        COMPREPLY=($(compgen -W "--top --ignore --large --list --check --quiet --progress --no-progress --help" -- "$word")) ;;
-    cells:-*) COMPREPLY=($(compgen -W "--ignore --large --progress --no-progress --help" -- "$word")) ;;
+        COMPREPLY=($(compgen -W "--top --ignore --large --unpack --list --check --quiet --progress --no-progress --help" -- "$word")) ;;
+    cells:-*) COMPREPLY=($(compgen -W "--ignore --large --unpack --progress --no-progress --help" -- "$word")) ;;
     *) local IFS=$'\n'; COMPREPLY=($(compgen -f -- "$word")) ;;
     esac
 }

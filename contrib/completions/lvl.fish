@@ -12,10 +12,11 @@ complete -c lvl -n "__fish_seen_subcommand_from digest" -l list -d "A line for e
 complete -c lvl -n "__fish_seen_subcommand_from digest" -l check -d "Checks a list"
 complete -c lvl -n "__fish_seen_subcommand_from digest" -l quiet -d "Only those that aren't the same"
 complete -c lvl -n "__fish_seen_subcommand_from compare show digest cells" -l large -d "The limits for whole chips"
+complete -c lvl -n "__fish_seen_subcommand_from compare show digest cells" -l unpack -d "Reads compressed blocks of OASIS"
 complete -c lvl -n "__fish_seen_subcommand_from compare show digest cells" -l progress -d "Shows how far it is"
 complete -c lvl -n "__fish_seen_subcommand_from compare show digest cells" -l no-progress -d "Doesn't show how far it is"
 complete -c lvl -n "__fish_seen_subcommand_from compare show digest cells" -l ignore -x -d "Records that are ignored" \
-    -a "(__fish_append , properties texts names padding all)"
+    -a "(__fish_append , properties texts names padding points all)"
 complete -c lvl -l help -d "Print help"
 complete -c lvl -n "not __fish_seen_subcommand_from $commands" -l version -d "Print version"
 complete -c lvl -n "__fish_seen_subcommand_from help" -f -a "compare show digest cells"

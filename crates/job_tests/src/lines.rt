@@ -1,10 +1,12 @@
 //! Lines, and what they ask for.
+use crate::lines::rows::LINES;
 use clap::error::ErrorKind;
 use lvl_line::{Job, LineFault, parse_line};
 use std::alloc::{AllocError, Global};
 use std::test::Fail;
 
 mod help;
+mod rows;
 
 /// What a line asks for, or the kind of its refusal.
 #[derive(Clone, Copy)]
@@ -25,6 +27,8 @@ enum Asks<'a> {
     Cells(&'a str, Option<&'a str>),
     /// The limits for whole chips, and anything else.
     Large,
+    /// To read compressed blocks, and anything else.
+    Unpack,
     /// The reason of a difference, and anything else.
     Why,
     /// That the grid steps agree, and anything else.
@@ -62,6 +66,7 @@ fn is_on_list(asks: Asks<'_>, job: &Job) -> bool {
                 top,
                 ignore,
                 large: false,
+                unpack: false,
             },
         ) => are_texts(files, names) && is_text(top, name) && is_text(ignore, words),
         (
@@ -72,6 +77,7 @@ fn is_on_list(asks: Asks<'_>, job: &Job) -> bool {
                 top,
                 ignore,
                 large: false,
+                unpack: false,
             },
         ) => {
             list.as_str() == a && *quiet == still && is_text(top, name) && is_text(ignore, words)
@@ -94,6 +100,7 @@ fn is_asked(asks: Asks<'_>, answer: &Result<Job, LineFault>) -> bool {
                     window,
                     ignore,
                     large: false,
+                    unpack: false,
                     why: false,
                     units: false,
                 },
@@ -119,6 +126,7 @@ fn is_asked(asks: Asks<'_>, answer: &Result<Job, LineFault>) -> bool {
                     window,
                     ignore,
                     large: false,
+                    unpack: false,
                     why: false,
                     units: false,
                 },
@@ -140,6 +148,7 @@ fn is_asked(asks: Asks<'_>, answer: &Result<Job, LineFault>) -> bool {
                     top,
                     ignore,
                     large: false,
+                    unpack: false,
                 },
             ),
         ) => file.as_str() == a && is_text(top, name) && is_text(ignore, words),
@@ -151,6 +160,7 @@ fn is_asked(asks: Asks<'_>, answer: &Result<Job, LineFault>) -> bool {
                     top,
                     ignore,
                     large: false,
+                    unpack: false,
                 },
             ),
         ) => file.as_str() == a && is_text(top, name) && is_text(ignore, words),
@@ -161,6 +171,7 @@ fn is_asked(asks: Asks<'_>, answer: &Result<Job, LineFault>) -> bool {
                     file,
                     ignore,
                     large: false,
+                    unpack: false,
                 },
             ),
         ) => file.as_str() == a && is_text(ignore, words),
@@ -175,6 +186,17 @@ fn is_asked(asks: Asks<'_>, answer: &Result<Job, LineFault>) -> bool {
                 | Job::Check { large, .. },
             ),
         ) => *large,
+        (
+            Asks::Unpack,
+            Ok(
+                Job::Compare { unpack, .. }
+                | Job::Show { unpack, .. }
+                | Job::Cells { unpack, .. }
+                | Job::Digest { unpack, .. }
+                | Job::List { unpack, .. }
+                | Job::Check { unpack, .. },
+            ),
+        ) => *unpack,
         (Asks::Why, Ok(Job::Compare { why, .. })) => *why,
         (Asks::Units, Ok(Job::Compare { units, .. })) => *units,
         (Asks::List(..) | Asks::Check(..), Ok(job)) => is_on_list(asks, job),
@@ -191,188 +213,6 @@ fn words_of(alloc: Global, line: &'static str) -> Result<Vec<&'static str>, Allo
     }
     Ok(words)
 }
-
-static LINES: [(&str, Asks<'static>); 62] = [
-    ("lvl compare a b", Asks::Compare("a", "b", None, None)),
-    (
-        "lvl compare a b --top-a X --top-b Y",
-        Asks::Compare("a", "b", Some("X"), Some("Y")),
-    ),
-    (
-        "lvl compare --top-b=Y a --top-a=-X b",
-        Asks::Compare("a", "b", Some("-X"), Some("Y")),
-    ),
-    (
-        "lvl compare a b --top-a=",
-        Asks::Compare("a", "b", Some(""), None),
-    ),
-    (
-        "lvl compare -- -a --top",
-        Asks::Compare("-a", "--top", None, None),
-    ),
-    (
-        "lvl compare a b --map 1/0=2/0 --window x=0..1,y=-5..5",
-        Asks::View(Some("1/0=2/0"), Some("x=0..1,y=-5..5"), None),
-    ),
-    (
-        "lvl compare --window=x=0..1,y=0..1 a b",
-        Asks::View(None, Some("x=0..1,y=0..1"), None),
-    ),
-    ("lvl compare a --map= b", Asks::View(Some(""), None, None)),
-    (
-        "lvl compare a b --ignore properties,texts",
-        Asks::View(None, None, Some("properties,texts")),
-    ),
-    (
-        "lvl compare --ignore=all --map 1/0=2/0 a b",
-        Asks::View(Some("1/0=2/0"), None, Some("all")),
-    ),
-    (
-        "lvl compare a b --ignore=",
-        Asks::View(None, None, Some("")),
-    ),
-    (
-        "lvl compare a b --ignore texts --ignore names",
-        Asks::Nothing(ErrorKind::ArgumentConflict),
-    ),
-    (
-        "lvl compare a b --ignore",
-        Asks::Nothing(ErrorKind::InvalidValue),
-    ),
-    (
-        "lvl --ignore all compare a b",
-        Asks::Nothing(ErrorKind::UnknownArgument),
-    ),
-    (
-        "lvl compare a b --map 1/0=2/0 --map 2/0=1/0",
-        Asks::Nothing(ErrorKind::ArgumentConflict),
-    ),
-    (
-        "lvl show a --window x=0..1,y=0..1",
-        Asks::Nothing(ErrorKind::UnknownArgument),
-    ),
-    ("lvl show a", Asks::Show("a", None, None)),
-    ("lvl show --top X a", Asks::Show("a", Some("X"), None)),
-    (
-        "lvl show a --ignore texts",
-        Asks::Show("a", None, Some("texts")),
-    ),
-    (
-        "lvl show --ignore=X --top=all a",
-        Asks::Show("a", Some("all"), Some("X")),
-    ),
-    ("lvl cells a", Asks::Cells("a", None)),
-    (
-        "lvl cells --ignore names a",
-        Asks::Cells("a", Some("names")),
-    ),
-    ("lvl cells --large a", Asks::Large),
-    (
-        "lvl cells a --top X",
-        Asks::Nothing(ErrorKind::UnknownArgument),
-    ),
-    (
-        "lvl cells",
-        Asks::Nothing(ErrorKind::MissingRequiredArgument),
-    ),
-    ("lvl digest a", Asks::Digest("a", None, None)),
-    ("lvl digest --top X a", Asks::Digest("a", Some("X"), None)),
-    ("lvl compare a --large b --ignore all", Asks::Large),
-    ("lvl compare a --why b", Asks::Why),
-    ("lvl compare a --units b", Asks::Units),
-    (
-        "lvl show a --units",
-        Asks::Nothing(ErrorKind::UnknownArgument),
-    ),
-    ("lvl show --large a", Asks::Large),
-    ("lvl digest a --top X --large", Asks::Large),
-    (
-        "lvl show a --large=true",
-        Asks::Nothing(ErrorKind::TooManyValues),
-    ),
-    (
-        "lvl show a --large --large",
-        Asks::Nothing(ErrorKind::ArgumentConflict),
-    ),
-    (
-        "lvl digest a --top X --ignore all",
-        Asks::Digest("a", Some("X"), Some("all")),
-    ),
-    (
-        "lvl digest",
-        Asks::Nothing(ErrorKind::MissingRequiredArgument),
-    ),
-    ("lvl digest a b", Asks::Nothing(ErrorKind::ArgumentConflict)),
-    ("lvl digest --list a", Asks::List(&["a"], None, None)),
-    (
-        "lvl digest a --list b --top X --ignore all c",
-        Asks::List(&["a", "b", "c"], Some("X"), Some("all")),
-    ),
-    ("lvl digest --check a", Asks::Check("a", false, None, None)),
-    (
-        "lvl digest --top=X --quiet a --check --ignore texts",
-        Asks::Check("a", true, Some("X"), Some("texts")),
-    ),
-    ("lvl digest --large --list a b", Asks::Large),
-    ("lvl digest --check --large a", Asks::Large),
-    (
-        "lvl digest --list",
-        Asks::Nothing(ErrorKind::MissingRequiredArgument),
-    ),
-    (
-        "lvl digest --list --check a",
-        Asks::Nothing(ErrorKind::ArgumentConflict),
-    ),
-    (
-        "lvl digest a --quiet",
-        Asks::Nothing(ErrorKind::ArgumentConflict),
-    ),
-    (
-        "lvl digest a b --list --quiet",
-        Asks::Nothing(ErrorKind::ArgumentConflict),
-    ),
-    (
-        "lvl digest --check a b",
-        Asks::Nothing(ErrorKind::ArgumentConflict),
-    ),
-    (
-        "lvl digest --list a --list",
-        Asks::Nothing(ErrorKind::ArgumentConflict),
-    ),
-    (
-        "lvl show a --list",
-        Asks::Nothing(ErrorKind::UnknownArgument),
-    ),
-    ("lvl", Asks::Nothing(ErrorKind::MissingSubcommand)),
-    (
-        "lvl compare a",
-        Asks::Nothing(ErrorKind::MissingRequiredArgument),
-    ),
-    (
-        "lvl compare a b c",
-        Asks::Nothing(ErrorKind::UnknownArgument),
-    ),
-    (
-        "lvl compare a b --top-a",
-        Asks::Nothing(ErrorKind::InvalidValue),
-    ),
-    (
-        "lvl compare a b --top X",
-        Asks::Nothing(ErrorKind::UnknownArgument),
-    ),
-    (
-        "lvl show a --top X --top Y",
-        Asks::Nothing(ErrorKind::ArgumentConflict),
-    ),
-    (
-        "lvl comparing a b",
-        Asks::Nothing(ErrorKind::InvalidSubcommand),
-    ),
-    ("lvl --help", Asks::Nothing(ErrorKind::DisplayHelp)),
-    ("lvl show --help", Asks::Nothing(ErrorKind::DisplayHelp)),
-    ("lvl help", Asks::Nothing(ErrorKind::DisplayHelp)),
-    ("lvl --version", Asks::Nothing(ErrorKind::DisplayVersion)),
-];
 
 #[test]
 fn one_line(rt: HostRuntime) -> Result<(), Fail> {

@@ -1,4 +1,5 @@
 //! The files of the system.
+use crate::source::Source;
 use lvl_io::{Counted, Failure};
 use lvl_job::Files;
 use lvl_progress::{After, Meter, Watched};
@@ -34,7 +35,11 @@ pub(crate) struct Disk<'a> {
     command: Command,
     is_shown: bool,
     opened: u32,
+    is_input_taken: bool,
 }
+
+/// The name of standard input.
+const INPUT: &str = "-";
 
 impl<'a> Disk<'a> {
     /// The files of the system, for a command. While they are read, standard error shows how far that
@@ -45,6 +50,7 @@ impl<'a> Disk<'a> {
             command,
             is_shown,
             opened: 0,
+            is_input_taken: false,
         }
     }
 
@@ -57,32 +63,47 @@ impl<'a> Disk<'a> {
         }
     }
 
+    /// Opens the file of a name; `-` is standard input, once.
+    fn source(&mut self, name: &str) -> Result<Source, Failure> {
+        if name == INPUT {
+            if self.is_input_taken {
+                return Err(Failure);
+            }
+            self.is_input_taken = true;
+            return Ok(Source::Input(self.rt.stdin()));
+        }
+        match File::open(self.rt, name) {
+            Ok(file) => Ok(Source::File(file)),
+            Err(_) => Err(Failure),
+        }
+    }
+
     /// A meter for a file, if it is to be shown how far it is read and there is memory for that.
-    fn meter(&mut self, file: &File, name: &str) -> Option<Meter<Stderr>> {
+    fn meter(&mut self, source: &Source, name: &str) -> Option<Meter<Stderr>> {
         if !self.is_shown {
             return None;
         }
         self.opened = self.opened.saturating_add(1);
-        let size = match file.metadata() {
-            Ok(data) if data.is_file() => Some(data.len()),
-            _ => None,
-        };
-        Meter::new(self.rt.alloc(), self.rt.stderr(), name, size, self.after()).ok()
+        let after = self.after();
+        Meter::new(
+            self.rt.alloc(),
+            self.rt.stderr(),
+            name,
+            source.size(),
+            after,
+        )
+        .ok()
     }
 }
 
 impl Files for Disk<'_> {
-    type File = Counted<Watched<File, Stderr>>;
+    type File = Counted<Watched<Source, Stderr>>;
 
     ghost opens = { λ _ _ _ _. Unit {0} };
 
-    fn open(&mut self, name: &str) -> Result<Counted<Watched<File, Stderr>>, Failure> {
-        match File::open(self.rt, name) {
-            Ok(file) => {
-                let meter = self.meter(&file, name);
-                Ok(Counted::new(Watched::new(file, meter)))
-            }
-            Err(_) => Err(Failure),
-        }
+    fn open(&mut self, name: &str) -> Result<Counted<Watched<Source, Stderr>>, Failure> {
+        let source = self.source(name)?;
+        let meter = self.meter(&source, name);
+        Ok(Counted::new(Watched::new(source, meter)))
     }
 }

@@ -1,10 +1,12 @@
 //! The program `lvl`: compares two layout files, shows one, or hashes what one draws.
 //!
-//!     lvl compare A B [--top-a NAME] [--top-b NAME] [--map PAIRS] [--window RANGES] [--ignore WORDS] [--large]
-//!     lvl show A [--top NAME] [--ignore WORDS] [--large]
-//!     lvl digest A [--top NAME] [--ignore WORDS] [--large]
-//!     lvl digest --list A.. [--top NAME] [--ignore WORDS] [--large]
-//!     lvl digest --check [--quiet] LIST [--top NAME] [--ignore WORDS] [--large]
+//!     lvl compare A B [--top-a NAME] [--top-b NAME] [--map PAIRS] [--window RANGES] [--ignore WORDS] [--large] [--unpack]
+//!     lvl show A [--top NAME] [--ignore WORDS] [--large] [--unpack]
+//!     lvl digest A [--top NAME] [--ignore WORDS] [--large] [--unpack]
+//!     lvl digest --list A.. [--top NAME] [--ignore WORDS] [--large] [--unpack]
+//!     lvl digest --check [--quiet] LIST [--top NAME] [--ignore WORDS] [--large] [--unpack]
+//!
+//! A file whose name is `-` is standard input.
 //!
 //! The exit status is 0 if both layouts draw the same mask, or if one was shown or hashed; 1 if
 //! they differ; 2 if a file is refused or can't be opened, or for out of memory; 3 if the command
@@ -25,6 +27,7 @@ use std::process::ExitCode;
 use std::{env, io};
 
 mod disk;
+mod source;
 
 /// Standard output with a buffer, of which a line of a terminal is erased first.
 type Output = Counted<BufWriter<Erasing<Stdout, Stderr>>>;

@@ -112,16 +112,16 @@ module _ {S : Type 0} (opens : S → List ℕ → Option (Option (List ℕ)) →
         go Output h = cut h
 
   module _ (first second : String Global) (top_a top_b map_text window_text ignored : Option (String Global))
-      (is_large why units : Bool)
+      (is_large unpack why units : Bool)
       (view : Option PlainView) (profile : Profile)
       (asked : IsViewAsked (option_map string_bytes map_text) (option_map string_bytes window_text) view)
-      (given : IsProfileAsked (option_map string_bytes ignored) is_large profile) where
-    abbrev both : {Holds : Type 0} → Holds → UnderView map_text window_text (λ _. UnderProfile ignored is_large (λ _. Holds))
+      (given : IsProfileAsked (option_map string_bytes ignored) is_large unpack profile) where
+    abbrev both : {Holds : Type 0} → Holds → UnderView map_text window_text (λ _. UnderProfile ignored is_large unpack (λ _. Holds))
     both h = record { view = view; asked = asked; holds = record { profile = profile; asked = given; holds = h } }
 
     pub job_answered : (old new : S) (from to : Option (List ℕ)) (r : Result Outcome JobFault)
         → IfOk r (IsPairAnswered opens units why view (named profile first top_a) (named profile second top_b) old new from to)
-        → IfOk r (IsAnswered opens (Compare first second top_a top_b map_text window_text ignored is_large why units) old new from to)
+        → IfOk r (IsAnswered opens (Compare first second top_a top_b map_text window_text ignored is_large unpack why units) old new from to)
     job_answered old new from to (Ok status) h = record {
       view = view;
       asked = asked;
@@ -131,13 +131,13 @@ module _ {S : Type 0} (opens : S → List ℕ → Option (Option (List ℕ)) →
 
     pub job_fault : (old new : S) (from to : Option (List ℕ)) (r : Result Outcome JobFault)
         → IfErr r (IsPairFault opens units why view (named profile first top_a) (named profile second top_b) old new from to)
-        → IfErr r (IsFaultOfJob opens (Compare first second top_a top_b map_text window_text ignored is_large why units) old new from to)
+        → IfErr r (IsFaultOfJob opens (Compare first second top_a top_b map_text window_text ignored is_large unpack why units) old new from to)
     job_fault old new from to (Ok status) h = tt
     job_fault old new from to (Err fault) h = go fault h
       where
         go : (fault : JobFault)
             → IsPairFault opens units why view (named profile first top_a) (named profile second top_b) old new from to fault
-            → IsFaultOfJob opens (Compare first second top_a top_b map_text window_text ignored is_large why units) old new from to fault
+            → IsFaultOfJob opens (Compare first second top_a top_b map_text window_text ignored is_large unpack why units) old new from to fault
         go (BadView fault) h = absurd h
         go (BadIgnore fault) h = absurd h
         go (NotOpened name) h = (both h.0, h.1)
@@ -151,12 +151,12 @@ module _ {S : Type 0} (opens : S → List ℕ → Option (Option (List ℕ)) →
           holds = record { profile = profile; asked = given; holds = h };
         }
 
-  module _ (file : String Global) (top ignored : Option (String Global)) (is_large : Bool) (profile : Profile)
-      (given : IsProfileAsked (option_map string_bytes ignored) is_large profile) where
+  module _ (file : String Global) (top ignored : Option (String Global)) (is_large unpack : Bool) (profile : Profile)
+      (given : IsProfileAsked (option_map string_bytes ignored) is_large unpack profile) where
     pub shown_answered : (old new : S) (from to : Option (List ℕ)) (r : Result Outcome JobFault)
         → IfOk r (IsOneAnswered opens IsShownBy text_of_shown (IsShownOutcome profile)
         (named profile file top) old new from to)
-        → IfOk r (IsAnswered opens (Show file top ignored is_large) old new from to)
+        → IfOk r (IsAnswered opens (Show file top ignored is_large unpack) old new from to)
     shown_answered old new from to (Ok status) h = record { profile = profile; asked = given; holds = h }
     shown_answered old new from to (Err fault) h = tt
 
@@ -164,56 +164,56 @@ module _ {S : Type 0} (opens : S → List ℕ → Option (Option (List ℕ)) →
         → IfOk r
         (IsOneAnswered opens IsDigestedBy text_of_digested (IsShownOutcome profile)
         (named profile file top) old new from to)
-        → IfOk r (IsAnswered opens (Digest file top ignored is_large) old new from to)
+        → IfOk r (IsAnswered opens (Digest file top ignored is_large unpack) old new from to)
     digested_answered old new from to (Ok status) h = record { profile = profile; asked = given; holds = h }
     digested_answered old new from to (Err fault) h = tt
 
     pub shown_fault : (old new : S) (from to : Option (List ℕ)) (r : Result Outcome JobFault)
         → IfErr r (IsOneFault opens IsShownBy text_of_shown (named profile file top) old new from to)
-        → IfErr r (IsFaultOfJob opens (Show file top ignored is_large) old new from to)
+        → IfErr r (IsFaultOfJob opens (Show file top ignored is_large unpack) old new from to)
     shown_fault old new from to =
-        fault_of_one IsShownBy text_of_shown (Show file top ignored is_large) profile file top old new from to
+        fault_of_one IsShownBy text_of_shown (Show file top ignored is_large unpack) profile file top old new from to
         (λ name e o. record { profile = profile; asked = given; holds = (e, o) })
         (λ h. record { profile = profile; asked = given; holds = h })
 
     pub digested_fault : (old new : S) (from to : Option (List ℕ)) (r : Result Outcome JobFault)
         → IfErr r (IsOneFault opens IsDigestedBy text_of_digested (named profile file top) old new from to)
-        → IfErr r (IsFaultOfJob opens (Digest file top ignored is_large) old new from to)
+        → IfErr r (IsFaultOfJob opens (Digest file top ignored is_large unpack) old new from to)
     digested_fault old new from to =
-        fault_of_one IsDigestedBy text_of_digested (Digest file top ignored is_large) profile file top old new from to
+        fault_of_one IsDigestedBy text_of_digested (Digest file top ignored is_large unpack) profile file top old new from to
         (λ name e o. record { profile = profile; asked = given; holds = (e, o) })
         (λ h. record { profile = profile; asked = given; holds = h })
 
-  module _ (file : String Global) (ignored : Option (String Global)) (is_large : Bool) (profile : Profile)
-      (given : IsProfileAsked (option_map string_bytes ignored) is_large profile) where
+  module _ (file : String Global) (ignored : Option (String Global)) (is_large unpack : Bool) (profile : Profile)
+      (given : IsProfileAsked (option_map string_bytes ignored) is_large unpack profile) where
     pub cells_answered : (old new : S) (from to : Option (List ℕ)) (r : Result Outcome JobFault)
         → IfOk r (IsOneAnswered opens IsListedBy text_of_list (IsShownOutcome profile)
         (named profile file None) old new from to)
-        → IfOk r (IsAnswered opens (Cells file ignored is_large) old new from to)
+        → IfOk r (IsAnswered opens (Cells file ignored is_large unpack) old new from to)
     cells_answered old new from to (Ok status) h = record { profile = profile; asked = given; holds = h }
     cells_answered old new from to (Err fault) h = tt
 
     pub cells_fault : (old new : S) (from to : Option (List ℕ)) (r : Result Outcome JobFault)
         → IfErr r (IsOneFault opens IsListedBy text_of_list (named profile file None) old new from to)
-        → IfErr r (IsFaultOfJob opens (Cells file ignored is_large) old new from to)
+        → IfErr r (IsFaultOfJob opens (Cells file ignored is_large unpack) old new from to)
     cells_fault old new from to =
-        fault_of_one IsListedBy text_of_list (Cells file ignored is_large) profile file None old new from to
+        fault_of_one IsListedBy text_of_list (Cells file ignored is_large unpack) profile file None old new from to
         (λ name e o. record { profile = profile; asked = given; holds = (e, o) })
         (λ h. record { profile = profile; asked = given; holds = h })
 
   pub view_fault : (first second : String Global) (top_a top_b map_text window_text ignored : Option (String Global))
-      (is_large why units : Bool) (old : S) (from : Option (List ℕ)) (fault : JobFault)
+      (is_large unpack why units : Bool) (old : S) (from : Option (List ℕ)) (fault : JobFault)
       → IsViewFault (option_map string_bytes map_text) (option_map string_bytes window_text) fault
-      → IsFaultOfJob opens (Compare first second top_a top_b map_text window_text ignored is_large why units) old old from from fault
-  view_fault first second top_a top_b map_text window_text ignored is_large why units old from (BadView fault) h =
+      → IsFaultOfJob opens (Compare first second top_a top_b map_text window_text ignored is_large unpack why units) old old from from fault
+  view_fault first second top_a top_b map_text window_text ignored is_large unpack why units old from (BadView fault) h =
       (h, refl, keeps_same from)
-  view_fault first second top_a top_b map_text window_text ignored is_large why units old from (BadIgnore fault) h = absurd h
-  view_fault first second top_a top_b map_text window_text ignored is_large why units old from (NotOpened name) h = absurd h
-  view_fault first second top_a top_b map_text window_text ignored is_large why units old from (UnreadList name) h = absurd h
-  view_fault first second top_a top_b map_text window_text ignored is_large why units old from (LongList name) h = absurd h
-  view_fault first second top_a top_b map_text window_text ignored is_large why units old from (BadLine name n) h = absurd h
-  view_fault first second top_a top_b map_text window_text ignored is_large why units old from OutOfMemory h = keeps_same from
-  view_fault first second top_a top_b map_text window_text ignored is_large why units old from Output h = absurd h
+  view_fault first second top_a top_b map_text window_text ignored is_large unpack why units old from (BadIgnore fault) h = absurd h
+  view_fault first second top_a top_b map_text window_text ignored is_large unpack why units old from (NotOpened name) h = absurd h
+  view_fault first second top_a top_b map_text window_text ignored is_large unpack why units old from (UnreadList name) h = absurd h
+  view_fault first second top_a top_b map_text window_text ignored is_large unpack why units old from (LongList name) h = absurd h
+  view_fault first second top_a top_b map_text window_text ignored is_large unpack why units old from (BadLine name n) h = absurd h
+  view_fault first second top_a top_b map_text window_text ignored is_large unpack why units old from OutOfMemory h = keeps_same from
+  view_fault first second top_a top_b map_text window_text ignored is_large unpack why units old from Output h = absurd h
 
   -- a job whose text of what is ignored is bad
   no_ignore : (job : Job) (text : Option (List ℕ)) (old : S) (from : Option (List ℕ)) (fault : JobFault)
@@ -229,32 +229,32 @@ module _ {S : Type 0} (opens : S → List ℕ → Option (Option (List ℕ)) →
   no_ignore job text old from Output bad h = absurd h
 
   pub ignore_fault : (first second : String Global) (top_a top_b map_text window_text ignored : Option (String Global))
-      (is_large why units : Bool) (view : Option PlainView)
+      (is_large unpack why units : Bool) (view : Option PlainView)
       → IsViewAsked (option_map string_bytes map_text) (option_map string_bytes window_text) view
       → (old : S) (from : Option (List ℕ)) (fault : JobFault) → IsNoIgnore (option_map string_bytes ignored) fault
-      → IsFaultOfJob opens (Compare first second top_a top_b map_text window_text ignored is_large why units) old old from from
+      → IsFaultOfJob opens (Compare first second top_a top_b map_text window_text ignored is_large unpack why units) old old from from
       fault
-  ignore_fault first second top_a top_b map_text window_text ignored is_large why units view asked old from fault =
-      no_ignore (Compare first second top_a top_b map_text window_text ignored is_large why units) (option_map string_bytes ignored)
+  ignore_fault first second top_a top_b map_text window_text ignored is_large unpack why units view asked old from fault =
+      no_ignore (Compare first second top_a top_b map_text window_text ignored is_large unpack why units) (option_map string_bytes ignored)
       old from fault (λ h. record { view = view; asked = asked; holds = h })
 
-  pub shown_ignore_fault : (file : String Global) (top ignored : Option (String Global)) (is_large : Bool) (old : S)
+  pub shown_ignore_fault : (file : String Global) (top ignored : Option (String Global)) (is_large unpack : Bool) (old : S)
       (from : Option (List ℕ)) (fault : JobFault) → IsNoIgnore (option_map string_bytes ignored) fault
-      → IsFaultOfJob opens (Show file top ignored is_large) old old from from fault
-  shown_ignore_fault file top ignored is_large old from fault =
-      no_ignore (Show file top ignored is_large) (option_map string_bytes ignored) old from fault (λ h. h)
+      → IsFaultOfJob opens (Show file top ignored is_large unpack) old old from from fault
+  shown_ignore_fault file top ignored is_large unpack old from fault =
+      no_ignore (Show file top ignored is_large unpack) (option_map string_bytes ignored) old from fault (λ h. h)
 
-  pub digested_ignore_fault : (file : String Global) (top ignored : Option (String Global)) (is_large : Bool) (old : S)
+  pub digested_ignore_fault : (file : String Global) (top ignored : Option (String Global)) (is_large unpack : Bool) (old : S)
       (from : Option (List ℕ)) (fault : JobFault) → IsNoIgnore (option_map string_bytes ignored) fault
-      → IsFaultOfJob opens (Digest file top ignored is_large) old old from from fault
-  digested_ignore_fault file top ignored is_large old from fault =
-      no_ignore (Digest file top ignored is_large) (option_map string_bytes ignored) old from fault (λ h. h)
+      → IsFaultOfJob opens (Digest file top ignored is_large unpack) old old from from fault
+  digested_ignore_fault file top ignored is_large unpack old from fault =
+      no_ignore (Digest file top ignored is_large unpack) (option_map string_bytes ignored) old from fault (λ h. h)
 
-  pub cells_ignore_fault : (file : String Global) (ignored : Option (String Global)) (is_large : Bool) (old : S)
+  pub cells_ignore_fault : (file : String Global) (ignored : Option (String Global)) (is_large unpack : Bool) (old : S)
       (from : Option (List ℕ)) (fault : JobFault) → IsNoIgnore (option_map string_bytes ignored) fault
-      → IsFaultOfJob opens (Cells file ignored is_large) old old from from fault
-  cells_ignore_fault file ignored is_large old from fault =
-      no_ignore (Cells file ignored is_large) (option_map string_bytes ignored) old from fault (λ h. h)
+      → IsFaultOfJob opens (Cells file ignored is_large unpack) old old from from fault
+  cells_ignore_fault file ignored is_large unpack old from fault =
+      no_ignore (Cells file ignored is_large unpack) (option_map string_bytes ignored) old from fault (λ h. h)
 
 pub cut_is : (fault : RunFault) → is_cut {A = Outcome} (Err (fault_of_run fault)) ≡ is_output {A = Outcome} (Err fault)
 cut_is RunOutput = refl

@@ -29,12 +29,12 @@ module _ {S : Type 0} (opens : S → List ℕ → Option (Option (List ℕ)) →
   -- a job with one answer
   pub one_done : (job : Job) (old new : S) (out err : Change) (r : Result Outcome JobFault) → has_one_answer job ≡ true
       → IsOneDone opens job old new out err r → IsDone opens job old new out err r
-  one_done (Compare a b c d e f g h i j) old new out err r one done = done
-  one_done (Show a b c d) old new out err r one done = done
-  one_done (Digest a b c d) old new out err r one done = done
-  one_done (Cells a b c) old new out err r one done = done
-  one_done (ListJob a b c d) old new out err r one done = cc
-  one_done (Check a b c d e) old new out err r one done = cc
+  one_done (Compare a b c d e f g h i j k) old new out err r one done = done
+  one_done (Show a b c d e) old new out err r one done = done
+  one_done (Digest a b c d e) old new out err r one done = done
+  one_done (Cells a b c d) old new out err r one done = done
+  one_done (ListJob a b c d e) old new out err r one done = cc
+  one_done (Check a b c d e f) old new out err r one done = cc
 
   -- the check of the entries ends with its summary
   pub entries_told : (entries : List Entry) (quiet : Bool) (profile : Profile) (top : Option (List ℕ)) (old new : S)
@@ -72,11 +72,11 @@ module _ {S : Type 0} (opens : S → List ℕ → Option (Option (List ℕ)) →
         said_is = sym (no_notes all.done);
       }
 
-  module _ (top : Option (List ℕ)) (ignored : Option (String Global)) (large : Bool) (profile : Profile)
-      (asked : IsProfileAsked (option_map string_bytes ignored) large profile) where
+  module _ (top : Option (List ℕ)) (ignored : Option (String Global)) (large unpack : Bool) (profile : Profile)
+      (asked : IsProfileAsked (option_map string_bytes ignored) large unpack profile) where
     list_fault : (names : List (String Global)) (old new : S) (from to : Option (List ℕ)) (said : List ℕ) (f : JobFault)
         → IsLoopFault opens (file_of_name profile top) name_listed name_unlisted names old new from to said f
-        → IsListFault opens names top ignored large old new from to said f
+        → IsListFault opens names top ignored large unpack old new from to said f
     list_fault names old new from to said OutOfMemory h = inr (record { profile = profile; asked = asked; holds = h })
     list_fault names old new from to said Output h = record { profile = profile; asked = asked; holds = h }
     list_fault names old new from to said (BadView f) h = absurd h
@@ -89,7 +89,7 @@ module _ {S : Type 0} (opens : S → List ℕ → Option (Option (List ℕ)) →
     -- a list under its profile
     pub list_told : (names : List (String Global)) (old new : S) (from to : Option (List ℕ)) (a b : Speaking)
         (r : Result Outcome JobFault) → IsListing opens names profile top old new from to a b r
-        → IsListTold opens names top ignored large old new from to a b r
+        → IsListTold opens names top ignored large unpack old new from to a b r
     list_told names old new from to a b (Ok outcome) h = record {
       said = h.said;
       listed = record { profile = profile; asked = asked; holds = h.listed };
@@ -107,7 +107,7 @@ module _ {S : Type 0} (opens : S → List ℕ → Option (Option (List ℕ)) →
       check_fault : (old mid new : S) (from to : Option (List ℕ)) (said : List ℕ) (entries : List Entry) (f : JobFault)
           → IsEntries opens list old mid entries
           → IsLoopFault opens (file_of_entry profile top) (checked_text quiet) no_note entries mid new from to said f
-          → IsCheckFault opens list quiet top ignored large old new from to said f
+          → IsCheckFault opens list quiet top ignored large unpack old new from to said f
       check_fault old mid new from to said entries OutOfMemory read h = inr (record {
         profile = profile;
         asked = asked;
@@ -147,7 +147,7 @@ module _ {S : Type 0} (opens : S → List ℕ → Option (Option (List ℕ)) →
       pub check_told : (old mid new : S) (from to : Option (List ℕ)) (a b : Speaking) (entries : List Entry)
           (r : Result Outcome JobFault) → IsEntries opens list old mid entries
           → IsEntriesTold opens entries quiet profile top mid new from to a b r
-          → IsCheckTold opens list quiet top ignored large old new from to a b r
+          → IsCheckTold opens list quiet top ignored large unpack old new from to a b r
       check_told old mid new from to a b entries (Ok outcome) read h = record {
         said = h.said;
         checked = record {
@@ -176,7 +176,7 @@ module _ {S : Type 0} (opens : S → List ℕ → Option (Option (List ℕ)) →
 
       no_entries : (old new : S) (from : Option (List ℕ)) (f : JobFault)
           → IsNoEntries opens list profile.limits.file old new f
-          → IsCheckFault opens list quiet top ignored large old new from from [] f
+          → IsCheckFault opens list quiet top ignored large unpack old new from from [] f
       no_entries old new from (NotOpened name) h = (h.0, h.1, keeps_same from, refl)
       no_entries old new from (UnreadList name) h = (h.0, h.1, keeps_same from, refl)
       no_entries old new from (LongList name) h =
@@ -190,7 +190,7 @@ module _ {S : Type 0} (opens : S → List ℕ → Option (Option (List ℕ)) →
       -- a list that wasn't read
       pub unread_told : (old new : S) (from : Option (List ℕ)) (a : Speaking) (f : JobFault)
           → IsNoEntries opens list profile.limits.file old new f
-          → IsCheckTold opens list quiet top ignored large old new from from a a (Err f)
+          → IsCheckTold opens list quiet top ignored large unpack old new from from a a (Err f)
       unread_told old new from a f h = record {
         said = [];
         checked = tt;

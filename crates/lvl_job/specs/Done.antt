@@ -51,25 +51,25 @@ pub record IsListed {S : Type 0} (opens : S → List ℕ → Option (Option (Lis
 
 -- why not all files were listed. Output: the line of one of them was cut
 abbrev pub IsListFault : {S : Type 0} → (S → List ℕ → Option (Option (List ℕ)) → S → Type 0) → List (String Global)
-    → Option (List ℕ) → Option (String Global) → Bool → S → S → Option (List ℕ) → Option (List ℕ) → List ℕ → JobFault
-    → Type 0
-IsListFault opens names top ignored large old new from to said (BadIgnore fault) =
+    → Option (List ℕ) → Option (String Global) → Bool → Bool → S → S → Option (List ℕ) → Option (List ℕ) → List ℕ
+    → JobFault → Type 0
+IsListFault opens names top ignored large unpack old new from to said (BadIgnore fault) =
     IsIgnoreFault (option_map string_bytes ignored) × (new ≡ old) × Keeps from to × (said ≡ [])
-IsListFault opens names top ignored large old new from to said OutOfMemory = (Keeps from to × (said ≡ [])) ⊎
-    UnderProfile ignored large (λ profile.
+IsListFault opens names top ignored large unpack old new from to said OutOfMemory = (Keeps from to × (said ≡ [])) ⊎
+    UnderProfile ignored large unpack (λ profile.
     IsPart opens (file_of_name profile top) name_listed name_unlisted names old from to said)
-IsListFault opens names top ignored large old new from to said Output =
-    UnderProfile ignored large (λ profile.
+IsListFault opens names top ignored large unpack old new from to said Output =
+    UnderProfile ignored large unpack (λ profile.
     IsStopped opens (file_of_name profile top) name_listed name_unlisted names old new from to said)
-IsListFault opens names top ignored large old new from to said fault = ⊥
+IsListFault opens names top ignored large unpack old new from to said fault = ⊥
 
 pub record IsListDone {S : Type 0} (opens : S → List ℕ → Option (Option (List ℕ)) → S → Type 0)
-    (names : List (String Global)) (top : Option (List ℕ)) (ignored : Option (String Global)) (large : Bool) (old new : S)
-    (out err : Change) (ended : Result Outcome JobFault) : Type 0 where
+    (names : List (String Global)) (top : Option (List ℕ)) (ignored : Option (String Global)) (large unpack : Bool)
+    (old new : S) (out err : Change) (ended : Result Outcome JobFault) : Type 0 where
   pub said : List ℕ
-  pub listed : IfOk ended (λ outcome. UnderProfile ignored large (λ profile.
+  pub listed : IfOk ended (λ outcome. UnderProfile ignored large unpack (λ profile.
       IsListed opens names profile top old new out.old out.new said outcome))
-  pub fault : IfErr ended (IsListFault opens names top ignored large old new out.old out.new said)
+  pub fault : IfErr ended (IsListFault opens names top ignored large unpack old new out.old out.new said)
   pub all_said : IsSaidOn err (said ++ end_text ended)
 
 -- ---- `--check`
@@ -110,40 +110,41 @@ pub record IsListOpened {S : Type 0} (opens : S → List ℕ → Option (Option 
 -- why not all files of a list were checked. BadLine, LongList, UnreadList: only the file of the list was opened.
 -- Output: the line of one of the files was cut
 abbrev pub IsCheckFault : {S : Type 0} → (S → List ℕ → Option (Option (List ℕ)) → S → Type 0) → List ℕ → Bool
-    → Option (List ℕ) → Option (String Global) → Bool → S → S → Option (List ℕ) → Option (List ℕ) → List ℕ → JobFault
-    → Type 0
-IsCheckFault opens list quiet top ignored large old new from to said (BadIgnore fault) =
+    → Option (List ℕ) → Option (String Global) → Bool → Bool → S → S → Option (List ℕ) → Option (List ℕ) → List ℕ
+    → JobFault → Type 0
+IsCheckFault opens list quiet top ignored large unpack old new from to said (BadIgnore fault) =
     IsIgnoreFault (option_map string_bytes ignored) × (new ≡ old) × Keeps from to × (said ≡ [])
-IsCheckFault opens list quiet top ignored large old new from to said (NotOpened name) =
+IsCheckFault opens list quiet top ignored large unpack old new from to said (NotOpened name) =
     (string_bytes name ≡ list) × opens old list None new × Keeps from to × (said ≡ [])
-IsCheckFault opens list quiet top ignored large old new from to said (UnreadList name) =
+IsCheckFault opens list quiet top ignored large unpack old new from to said (UnreadList name) =
     (string_bytes name ≡ list) × IsListOpened opens list old new true (λ xs. ⊤) × Keeps from to × (said ≡ [])
-IsCheckFault opens list quiet top ignored large old new from to said (LongList name) =
-    (string_bytes name ≡ list) × UnderProfile ignored large (λ profile.
+IsCheckFault opens list quiet top ignored large unpack old new from to said (LongList name) =
+    (string_bytes name ≡ list) × UnderProfile ignored large unpack (λ profile.
     IsListOpened opens list old new false (λ xs. profile.limits.file < length xs)) × Keeps from to × (said ≡ [])
-IsCheckFault opens list quiet top ignored large old new from to said (BadLine name n) =
+IsCheckFault opens list quiet top ignored large unpack old new from to said (BadLine name n) =
     (string_bytes name ≡ list) × IsListOpened opens list old new false (λ xs. IsBadLine xs n) × Keeps from to × (said ≡ [])
-IsCheckFault opens list quiet top ignored large old new from to said OutOfMemory = (Keeps from to × (said ≡ [])) ⊎
-    UnderProfile ignored large (λ profile. OfList opens list old (λ between entries.
+IsCheckFault opens list quiet top ignored large unpack old new from to said OutOfMemory = (Keeps from to × (said ≡ [])) ⊎
+    UnderProfile ignored large unpack (λ profile. OfList opens list old (λ between entries.
     IsPart opens (file_of_entry profile top) (checked_text quiet) no_note entries between from to said))
-IsCheckFault opens list quiet top ignored large old new from to said Output =
-    UnderProfile ignored large (λ profile. OfList opens list old (λ between entries.
+IsCheckFault opens list quiet top ignored large unpack old new from to said Output =
+    UnderProfile ignored large unpack (λ profile. OfList opens list old (λ between entries.
     IsStopped opens (file_of_entry profile top) (checked_text quiet) no_note entries between new from to said))
-IsCheckFault opens list quiet top ignored large old new from to said (BadView fault) = ⊥
+IsCheckFault opens list quiet top ignored large unpack old new from to said (BadView fault) = ⊥
 
 pub record IsCheckDone {S : Type 0} (opens : S → List ℕ → Option (Option (List ℕ)) → S → Type 0)
-    (list : List ℕ) (quiet : Bool) (top : Option (List ℕ)) (ignored : Option (String Global)) (large : Bool) (old new : S)
-    (out err : Change) (ended : Result Outcome JobFault) : Type 0 where
+    (list : List ℕ) (quiet : Bool) (top : Option (List ℕ)) (ignored : Option (String Global)) (large unpack : Bool)
+    (old new : S) (out err : Change) (ended : Result Outcome JobFault) : Type 0 where
   pub said : List ℕ
-  pub checked : IfOk ended (λ outcome. UnderProfile ignored large (λ profile. OfList opens list old
+  pub checked : IfOk ended (λ outcome. UnderProfile ignored large unpack (λ profile. OfList opens list old
       (IsChecked opens quiet profile top new out.old out.new said outcome)))
-  pub fault : IfErr ended (IsCheckFault opens list quiet top ignored large old new out.old out.new said)
+  pub fault : IfErr ended (IsCheckFault opens list quiet top ignored large unpack old new out.old out.new said)
   pub all_said : IsSaidOn err (said ++ end_text ended)
 
 -- what is done for a job
 abbrev pub IsDone : {S : Type 0} → (S → List ℕ → Option (Option (List ℕ)) → S → Type 0) → Job → S → S → Change → Change
     → Result Outcome JobFault → Type 0
-IsDone opens (ListJob names top ignored large) = IsListDone opens names.items (option_map string_bytes top) ignored large
-IsDone opens (Check list quiet top ignored large) =
-    IsCheckDone opens (string_bytes list) quiet (option_map string_bytes top) ignored large
+IsDone opens (ListJob names top ignored large unpack) =
+    IsListDone opens names.items (option_map string_bytes top) ignored large unpack
+IsDone opens (Check list quiet top ignored large unpack) =
+    IsCheckDone opens (string_bytes list) quiet (option_map string_bytes top) ignored large unpack
 IsDone opens job = IsOneDone opens job

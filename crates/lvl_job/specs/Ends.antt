@@ -7,7 +7,7 @@ use Rattle.std.specs.Prelude.{string_bytes}
 use Rattle.lvl_profile.specs.Ignored.{comma}
 use Rattle.lvl_profile.specs.declared.ignore.Ignore.{Ignore}
 use Rattle.lvl_report.specs.declared.hint.Hint.{Hint}
-use Rattle.lvl_report.specs.declared.hint.Hint.TheVariants.{IgnoreMore, LiftLimits, Unpack, WithoutBlocks}
+use Rattle.lvl_report.specs.declared.hint.Hint.TheVariants.{Foreign, IgnoreMore, LiftLimits, ReadBlocks}
 use Rattle.lvl_report.specs.declared.outcome.Outcome.{Outcome}
 use Rattle.lvl_text.specs.Faults.{ignore_fault, view_fault}
 use Rattle.lvl_view.specs.declared.fault.ViewFault.{ViewFault}
@@ -43,7 +43,7 @@ view_form EmptyWindow = codes "\n"
 
 -- the same for a fault of what is ignored
 abbrev pub ignore_form : List ℕ
-ignore_form = codes "\nlvl: --ignore takes properties, texts, names, padding or all, joined by commas\n"
+ignore_form = codes "\nlvl: --ignore takes properties, texts, names, padding, points or all, joined by commas\n"
 
 -- why a job has no answer, on one line, and the form of a text that was expected on another
 abbrev pub fault_text : JobFault → List ℕ
@@ -66,15 +66,15 @@ ignore_words i =
     listed false i.properties (codes "properties") ++ listed i.properties i.texts (codes "texts")
     ++ listed (i.properties || i.texts) i.names (codes "names")
     ++ listed (i.properties || i.texts || i.names) i.padding (codes "padding")
+    ++ listed (i.properties || i.texts || i.names || i.padding) i.points (codes "points")
 
 -- what would mend a refusal, on one line
 abbrev pub hint_text : Hint → List ℕ
 hint_text (IgnoreMore more) = codes "lvl: try --ignore " ++ ignore_words more ++ codes ", or --ignore all\n"
 hint_text LiftLimits = line (codes "lvl: try " ++ codes "--large")
-hint_text Unpack =
+hint_text Foreign =
     line (codes "lvl: neither GDSII nor OASIS: " ++ codes "if the file is compressed (gzip), unpack it first")
-hint_text WithoutBlocks =
-    line (codes "lvl: a compressed block: " ++ codes "write the file without CBLOCK compression")
+hint_text ReadBlocks = line (codes "lvl: try " ++ codes "--unpack")
 
 -- what is written for an answer: its hint, or its line
 abbrev pub said_of : Option Hint → Option (List ℕ) → List ℕ

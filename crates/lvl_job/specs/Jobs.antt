@@ -32,8 +32,8 @@ use Rattle.lvl_job.specs.declared.fault.JobFault.TheVariants.{BadLine, LongList,
 
 -- whether the job has one answer, and is on no list
 abbrev pub has_one_answer : Job → Bool
-has_one_answer (ListJob names top ignored is_large) = false
-has_one_answer (Check list quiet top ignored is_large) = false
+has_one_answer (ListJob names top ignored is_large unpack) = false
+has_one_answer (Check list quiet top ignored is_large unpack) = false
 has_one_answer job = true
 
 -- the name of a file in a job, its profile, and the name of its top
@@ -114,15 +114,18 @@ IsIgnoreAsked (Some text) ignore = IsText text ignore
 abbrev pub limits_asked : Bool → Limits
 limits_asked is_large = if is_large then large else standard
 
--- the profile has the set that a text of what is ignored gives, and the limits that are asked for
-pub record IsProfileAsked (text : Option (List ℕ)) (is_large : Bool) (profile : Profile) : Type 0 where
+-- the profile has the set that a text of what is ignored gives and the limits that are asked for, and reads compressed
+-- blocks if that is asked for
+pub record IsProfileAsked (text : Option (List ℕ)) (is_large is_unpacked : Bool) (profile : Profile) : Type 0 where
   pub ignore : IsIgnoreAsked text profile.ignore
   pub limits : profile.limits ≡ limits_asked is_large
+  pub unpack : profile.unpack ≡ is_unpacked
 
 -- Holds is true of the profile that is asked for
-pub record UnderProfile (ignored : Option (String Global)) (is_large : Bool) (Holds : Profile → Type 0) : Type 0 where
+pub record UnderProfile (ignored : Option (String Global)) (is_large unpack : Bool) (Holds : Profile → Type 0)
+    : Type 0 where
   pub profile : Profile
-  pub asked : IsProfileAsked (option_map string_bytes ignored) is_large profile
+  pub asked : IsProfileAsked (option_map string_bytes ignored) is_large unpack profile
   pub holds : Holds profile
 
 -- the text gives no set of what is ignored
@@ -166,66 +169,67 @@ IsPairBegun true why view a b from to = IsBegun (IsMeasuredUnder why view a b) t
 -- the answer to a job was written, and the job ends as it does for this answer
 abbrev pub IsAnswered : {S : Type 0} → (S → List ℕ → Option (Option (List ℕ)) → S → Type 0) → Job → S → S
     → Option (List ℕ) → Option (List ℕ) → Outcome → Type 0
-IsAnswered opens (Compare first second top_a top_b map_text window_text ignored is_large why units) old new from to outcome =
-    UnderView map_text window_text (λ view. UnderProfile ignored is_large (λ profile.
+IsAnswered opens (Compare first second top_a top_b map_text window_text ignored is_large unpack why units) old new from to
+    outcome =
+    UnderView map_text window_text (λ view. UnderProfile ignored is_large unpack (λ profile.
     OfTwo opens old new (named profile first top_a) (named profile second top_b) (λ a b.
     IsPairWritten units why view profile a b from to outcome)))
-IsAnswered opens (Show file top ignored is_large) old new from to outcome =
-    UnderProfile ignored is_large (λ profile. OfOne opens old new (named profile file top) (λ a.
+IsAnswered opens (Show file top ignored is_large unpack) old new from to outcome =
+    UnderProfile ignored is_large unpack (λ profile. OfOne opens old new (named profile file top) (λ a.
     IsWritten (IsShownBy a) text_of_shown (IsShownOutcome profile) from to outcome))
-IsAnswered opens (Digest file top ignored is_large) old new from to outcome =
-    UnderProfile ignored is_large (λ profile. OfOne opens old new (named profile file top) (λ a.
+IsAnswered opens (Digest file top ignored is_large unpack) old new from to outcome =
+    UnderProfile ignored is_large unpack (λ profile. OfOne opens old new (named profile file top) (λ a.
     IsWritten (IsDigestedBy a) text_of_digested (IsShownOutcome profile) from to outcome))
-IsAnswered opens (Cells file ignored is_large) old new from to outcome =
-    UnderProfile ignored is_large (λ profile. OfOne opens old new (named profile file None) (λ a.
+IsAnswered opens (Cells file ignored is_large unpack) old new from to outcome =
+    UnderProfile ignored is_large unpack (λ profile. OfOne opens old new (named profile file None) (λ a.
     IsWritten (IsListedBy a) text_of_list (IsShownOutcome profile) from to outcome))
 IsAnswered opens job old new from to outcome = ⊥
 
 -- a beginning of the answer to a job was written
 abbrev pub IsCut : {S : Type 0} → (S → List ℕ → Option (Option (List ℕ)) → S → Type 0) → Job → S → S
     → Option (List ℕ) → Option (List ℕ) → Type 0
-IsCut opens (Compare first second top_a top_b map_text window_text ignored is_large why units) old new from to =
-    UnderView map_text window_text (λ view. UnderProfile ignored is_large (λ profile.
+IsCut opens (Compare first second top_a top_b map_text window_text ignored is_large unpack why units) old new from to =
+    UnderView map_text window_text (λ view. UnderProfile ignored is_large unpack (λ profile.
     OfTwo opens old new (named profile first top_a) (named profile second top_b) (λ a b.
     IsPairBegun units why view a b from to)))
-IsCut opens (Show file top ignored is_large) old new from to =
-    UnderProfile ignored is_large (λ profile.
+IsCut opens (Show file top ignored is_large unpack) old new from to =
+    UnderProfile ignored is_large unpack (λ profile.
     OfOne opens old new (named profile file top) (λ a. IsBegun (IsShownBy a) text_of_shown from to))
-IsCut opens (Digest file top ignored is_large) old new from to =
-    UnderProfile ignored is_large (λ profile.
+IsCut opens (Digest file top ignored is_large unpack) old new from to =
+    UnderProfile ignored is_large unpack (λ profile.
     OfOne opens old new (named profile file top) (λ a. IsBegun (IsDigestedBy a) text_of_digested from to))
-IsCut opens (Cells file ignored is_large) old new from to =
-    UnderProfile ignored is_large (λ profile.
+IsCut opens (Cells file ignored is_large unpack) old new from to =
+    UnderProfile ignored is_large unpack (λ profile.
     OfOne opens old new (named profile file None) (λ a. IsBegun (IsListedBy a) text_of_list from to))
 IsCut opens job old new from to = ⊥
 
 -- the file of this name is the first in the job that could not be opened
 abbrev pub IsNotOpened : {S : Type 0} → (S → List ℕ → Option (Option (List ℕ)) → S → Type 0) → Job → S → S → List ℕ
     → Type 0
-IsNotOpened opens (Compare first second top_a top_b map_text window_text ignored is_large why units) old new name =
-    UnderView map_text window_text (λ _. UnderProfile ignored is_large (λ _.
+IsNotOpened opens (Compare first second top_a top_b map_text window_text ignored is_large unpack why units) old new name =
+    UnderView map_text window_text (λ _. UnderProfile ignored is_large unpack (λ _.
     IsMissing opens old new (string_bytes first) (string_bytes second) name))
-IsNotOpened opens (Show file top ignored is_large) old new name =
-    UnderProfile ignored is_large (λ _. (name ≡ string_bytes file) × opens old name None new)
-IsNotOpened opens (Digest file top ignored is_large) old new name =
-    UnderProfile ignored is_large (λ _. (name ≡ string_bytes file) × opens old name None new)
-IsNotOpened opens (Cells file ignored is_large) old new name =
-    UnderProfile ignored is_large (λ _. (name ≡ string_bytes file) × opens old name None new)
+IsNotOpened opens (Show file top ignored is_large unpack) old new name =
+    UnderProfile ignored is_large unpack (λ _. (name ≡ string_bytes file) × opens old name None new)
+IsNotOpened opens (Digest file top ignored is_large unpack) old new name =
+    UnderProfile ignored is_large unpack (λ _. (name ≡ string_bytes file) × opens old name None new)
+IsNotOpened opens (Cells file ignored is_large unpack) old new name =
+    UnderProfile ignored is_large unpack (λ _. (name ≡ string_bytes file) × opens old name None new)
 IsNotOpened opens job old new name = ⊥
 
 -- why the texts of a map and a window give no view; a job on one file has no such texts
 abbrev pub IsBadView : Job → ViewFault → Type 0
-IsBadView (Compare first second top_a top_b map_text window_text ignored is_large why units) fault =
+IsBadView (Compare first second top_a top_b map_text window_text ignored is_large unpack why units) fault =
     IsFaultOf (option_map string_bytes map_text) (option_map string_bytes window_text) fault
 IsBadView job fault = ⊥
 
 -- the text of what is ignored gives no set, but the texts of a map and a window give a view
 abbrev pub IsBadIgnore : Job → Type 0
-IsBadIgnore (Compare first second top_a top_b map_text window_text ignored is_large why units) =
+IsBadIgnore (Compare first second top_a top_b map_text window_text ignored is_large unpack why units) =
     UnderView map_text window_text (λ _. IsIgnoreFault (option_map string_bytes ignored))
-IsBadIgnore (Show file top ignored is_large) = IsIgnoreFault (option_map string_bytes ignored)
-IsBadIgnore (Digest file top ignored is_large) = IsIgnoreFault (option_map string_bytes ignored)
-IsBadIgnore (Cells file ignored is_large) = IsIgnoreFault (option_map string_bytes ignored)
+IsBadIgnore (Show file top ignored is_large unpack) = IsIgnoreFault (option_map string_bytes ignored)
+IsBadIgnore (Digest file top ignored is_large unpack) = IsIgnoreFault (option_map string_bytes ignored)
+IsBadIgnore (Cells file ignored is_large unpack) = IsIgnoreFault (option_map string_bytes ignored)
 IsBadIgnore job = ⊥
 
 -- the fault is true: if a text is bad, no file was opened; and unless the output failed, nothing was written

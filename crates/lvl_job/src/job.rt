@@ -86,14 +86,15 @@ fn ignore_of(alloc: Global, text: &Option<String>) -> Result<Ignore, JobFault>
     }
 }
 
-/// The profile that is asked for: the text of what is ignored, and whether the limits are those for whole
-/// chips.
+/// The profile that is asked for: the text of what is ignored, whether the limits are those for whole chips, and
+/// whether compressed blocks are read.
 pub(crate) fn profile_of(
     alloc: Global,
     ignored: &Option<String>,
     large: bool,
+    unpack: bool,
 ) -> Result<Profile, JobFault>
-    ensures asked { IfOk result (IsProfileAsked (option_map string_bytes ignored.now) large) }
+    ensures asked { IfOk result (IsProfileAsked (option_map string_bytes ignored.now) large unpack) }
     ensures fault { IfErr result (IsNoIgnore (option_map string_bytes ignored.now)) }
 {
     let ignore = ignore_of(alloc, ignored)?;
@@ -102,7 +103,11 @@ pub(crate) fn profile_of(
     } else {
         Limits::STANDARD
     };
-    Ok(Profile { ignore, limits })
+    Ok(Profile {
+        ignore,
+        limits,
+        unpack,
+    })
 }
 
 /// The fault of a run as one of its job.
@@ -210,11 +215,12 @@ fn perform<F: Files, O: Write>(
             window,
             ignore,
             large,
+            unpack,
             why,
             units,
         } => {
             let view = view_of(alloc, &map, &window)?;
-            let profile = profile_of(alloc, &ignore, large)?;
+            let profile = profile_of(alloc, &ignore, large, unpack)?;
             let tops = Tops {
                 first: top_of(top_a),
                 second: top_of(top_b),
@@ -232,8 +238,9 @@ fn perform<F: Files, O: Write>(
             top,
             ignore,
             large,
+            unpack,
         } => {
-            let profile = profile_of(alloc, &ignore, large)?;
+            let profile = profile_of(alloc, &ignore, large, unpack)?;
             let top = top_of(top);
             show(alloc, file, top.as_deref(), profile, files, out)
         }
@@ -241,8 +248,9 @@ fn perform<F: Files, O: Write>(
             file,
             ignore,
             large,
+            unpack,
         } => {
-            let profile = profile_of(alloc, &ignore, large)?;
+            let profile = profile_of(alloc, &ignore, large, unpack)?;
             cells(alloc, file, profile, files, out)
         }
         Job::Digest {
@@ -250,8 +258,9 @@ fn perform<F: Files, O: Write>(
             top,
             ignore,
             large,
+            unpack,
         } => {
-            let profile = profile_of(alloc, &ignore, large)?;
+            let profile = profile_of(alloc, &ignore, large, unpack)?;
             let top = top_of(top);
             digest(alloc, file, top.as_deref(), profile, files, out)
         }
@@ -332,8 +341,14 @@ pub fn do_job<F: Files, O: Write, E: Write>(
             top,
             ignore,
             large,
+            unpack,
         } => {
-            let asked = Asked { top, ignore, large };
+            let asked = Asked {
+                top,
+                ignore,
+                large,
+                unpack,
+            };
             do_list(alloc, &names, asked, files, out, err)
         }
         Job::Check {
@@ -342,8 +357,14 @@ pub fn do_job<F: Files, O: Write, E: Write>(
             top,
             ignore,
             large,
+            unpack,
         } => {
-            let asked = Asked { top, ignore, large };
+            let asked = Asked {
+                top,
+                ignore,
+                large,
+                unpack,
+            };
             do_check(alloc, list, quiet, asked, files, out, err)
         }
         job => answer(alloc, job, files, out, err),

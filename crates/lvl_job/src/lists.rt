@@ -24,6 +24,7 @@ pub(crate) struct Asked {
     pub(crate) top: Option<String>,
     pub(crate) ignore: Option<String>,
     pub(crate) large: bool,
+    pub(crate) unpack: bool,
 }
 
 /// Lists the digests of files. `said` is whether all was said so far.
@@ -36,13 +37,14 @@ fn list_under<F: Files, O: Write, E: Write>(
     err: &mut E,
     said: &mut Said,
 ) -> Result<Outcome, JobFault>
-    ensures told { IsListTold F.opens names.now (option_map string_bytes asked.top) asked.ignore asked.large
+    ensures told { IsListTold F.opens names.now (option_map string_bytes asked.top)
+        asked.ignore asked.large asked.unpack
         files.old files.new (O.contents out.old) (O.contents out.new)
         (record { so_far = said.old; contents = E.contents err.old; errors = E.write_errors err.old })
         (record { so_far = said.new; contents = E.contents err.new; errors = E.write_errors err.new }) result }
     ensures errors { CountsFailure (O.write_errors out.old) (O.write_errors out.new) (is_cut result) }
 {
-    let profile = profile_of(alloc, &asked.ignore, asked.large)?;
+    let profile = profile_of(alloc, &asked.ignore, asked.large, asked.unpack)?;
     let top = top_of(asked.top);
     list(alloc, names, top.as_deref(), profile, files, out, err, said)
 }
@@ -105,13 +107,14 @@ fn check_under<F: Files, O: Write, E: Write>(
     err: &mut E,
     said: &mut Said,
 ) -> Result<Outcome, JobFault>
-    ensures told { IsCheckTold F.opens (string_bytes list) quiet (option_map string_bytes asked.top) asked.ignore asked.large
+    ensures told { IsCheckTold F.opens (string_bytes list) quiet (option_map string_bytes asked.top)
+        asked.ignore asked.large asked.unpack
         files.old files.new (O.contents out.old) (O.contents out.new)
         (record { so_far = said.old; contents = E.contents err.old; errors = E.write_errors err.old })
         (record { so_far = said.new; contents = E.contents err.new; errors = E.write_errors err.new }) result }
     ensures errors { CountsFailure (O.write_errors out.old) (O.write_errors out.new) (is_cut result) }
 {
-    let profile = profile_of(alloc, &asked.ignore, asked.large)?;
+    let profile = profile_of(alloc, &asked.ignore, asked.large, asked.unpack)?;
     let top = top_of(asked.top);
     match read_entries(alloc, list, profile.limits.file, files) {
         Ok(entries) => check_entries(
@@ -138,7 +141,8 @@ pub(crate) fn do_list<F: Files, O: Write, E: Write>(
     out: &mut O,
     err: &mut E,
 ) -> Result<Outcome, JobFault>
-    ensures done { IsListDone F.opens names.now (option_map string_bytes asked.top) asked.ignore asked.large
+    ensures done { IsListDone F.opens names.now (option_map string_bytes asked.top)
+        asked.ignore asked.large asked.unpack
         files.old files.new
         (record {
           old = O.contents out.old;
@@ -170,7 +174,8 @@ pub(crate) fn do_check<F: Files, O: Write, E: Write>(
     out: &mut O,
     err: &mut E,
 ) -> Result<Outcome, JobFault>
-    ensures done { IsCheckDone F.opens (string_bytes list) quiet (option_map string_bytes asked.top) asked.ignore asked.large
+    ensures done { IsCheckDone F.opens (string_bytes list) quiet (option_map string_bytes asked.top)
+        asked.ignore asked.large asked.unpack
         files.old files.new
         (record {
           old = O.contents out.old;

@@ -1,5 +1,5 @@
 //! What a job writes to standard error.
-ghost use Rattle.std.specs.Prelude.{◌≡◌, ◌++◌, codes, decimal, IfErr, OnOk, OnErr, option_map};
+ghost use Rattle.std.specs.Prelude.{◌≡◌, ◌++◌, false, true, codes, decimal, IfErr, OnOk, OnErr, option_map};
 ghost use Rattle.std.specs.Prelude.{ℕ, List, Option};
 ghost use Rattle.std.specs.Io.KnownBytes.{Appends};
 ghost use Rattle.lvl_io.specs.Bytes.{CountsFailure, failed};
@@ -138,7 +138,7 @@ pub(crate) fn say<E: Write>(err: &mut E, fault: &JobFault)
             err,
             "lvl: bad ignore ",
             ignore_fault(*fault),
-            "\nlvl: --ignore takes properties, texts, names, padding or all, joined by commas\n",
+            "\nlvl: --ignore takes properties, texts, names, padding, points or all, joined by commas\n",
         ),
         JobFault::NotOpened(name) => say_line(err, "lvl: cannot open ", name.as_str()),
         JobFault::UnreadList(name) => say_parts(err, "lvl: ", name.as_str(), ": cannot read\n"),
@@ -149,8 +149,9 @@ pub(crate) fn say<E: Write>(err: &mut E, fault: &JobFault)
     }
 }
 
-/// What is ignored, as words joined by commas.
-fn ignore_words(ignore: Ignore) -> &'static str
+/// What is ignored, as words joined by commas; points of paths aren't.
+fn words_but_points(ignore: Ignore) -> &'static str
+    requires { ignore.points ≡ false }
     ensures { result.now ≡ ignore_words ignore }
 {
     let Ignore {
@@ -158,6 +159,7 @@ fn ignore_words(ignore: Ignore) -> &'static str
         texts,
         names,
         padding,
+        ..
     } = ignore;
     match (properties, texts, names, padding) {
         (false, false, false, false) => "",
@@ -176,6 +178,49 @@ fn ignore_words(ignore: Ignore) -> &'static str
         (true, true, false, true) => "properties,texts,padding",
         (true, true, true, false) => "properties,texts,names",
         (true, true, true, true) => "properties,texts,names,padding",
+    }
+}
+
+/// What is ignored, as words joined by commas; points of paths are.
+fn words_and_points(ignore: Ignore) -> &'static str
+    requires { ignore.points ≡ true }
+    ensures { result.now ≡ ignore_words ignore }
+{
+    let Ignore {
+        properties,
+        texts,
+        names,
+        padding,
+        ..
+    } = ignore;
+    match (properties, texts, names, padding) {
+        (false, false, false, false) => "points",
+        (false, false, false, true) => "padding,points",
+        (false, false, true, false) => "names,points",
+        (false, false, true, true) => "names,padding,points",
+        (false, true, false, false) => "texts,points",
+        (false, true, false, true) => "texts,padding,points",
+        (false, true, true, false) => "texts,names,points",
+        (false, true, true, true) => "texts,names,padding,points",
+        (true, false, false, false) => "properties,points",
+        (true, false, false, true) => "properties,padding,points",
+        (true, false, true, false) => "properties,names,points",
+        (true, false, true, true) => "properties,names,padding,points",
+        (true, true, false, false) => "properties,texts,points",
+        (true, true, false, true) => "properties,texts,padding,points",
+        (true, true, true, false) => "properties,texts,names,points",
+        (true, true, true, true) => "properties,texts,names,padding,points",
+    }
+}
+
+/// What is ignored, as words joined by commas.
+fn ignore_words(ignore: Ignore) -> &'static str
+    ensures { result.now ≡ ignore_words ignore }
+{
+    if ignore.points {
+        words_and_points(ignore)
+    } else {
+        words_but_points(ignore)
     }
 }
 
@@ -198,16 +243,12 @@ fn say_hint<E: Write>(err: &mut E, hint: Hint)
     match hint {
         Hint::IgnoreMore(more) => say_ignore(err, more),
         Hint::LiftLimits => say_line(err, "lvl: try ", "--large"),
-        Hint::Unpack => say_line(
+        Hint::Foreign => say_line(
             err,
             "lvl: neither GDSII nor OASIS: ",
             "if the file is compressed (gzip), unpack it first",
         ),
-        Hint::WithoutBlocks => say_line(
-            err,
-            "lvl: a compressed block: ",
-            "write the file without CBLOCK compression",
-        ),
+        Hint::ReadBlocks => say_line(err, "lvl: try ", "--unpack"),
     }
 }
 

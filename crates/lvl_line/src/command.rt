@@ -33,7 +33,7 @@ const WINDOW_HELP: &str = "The only squares to be compared, in grid steps: x=0..
 
 /// The help of `--ignore`.
 const IGNORE_HELP: &str =
-    "Records to read and ignore: properties, texts, names, padding or all, joined by commas";
+    "What to read and ignore: properties, texts, names, padding, points or all, joined by commas";
 
 /// The help of `--why`.
 const WHY_HELP: &str = "Of a difference, says which references lead to which shape";
@@ -43,6 +43,9 @@ const UNITS_HELP: &str = "Doesn't compare layouts whose grid steps differ";
 
 /// The help of `--large`.
 const LARGE_HELP: &str = "Takes the limits for whole chips";
+
+/// The help of `--unpack`.
+const UNPACK_HELP: &str = "Reads the compressed blocks of OASIS (CBLOCK)";
 
 /// The help of `--progress`.
 const PROGRESS_HELP: &str = "Shows on standard error how far it is, also if that isn't a terminal";
@@ -100,7 +103,7 @@ fn compare_tops<'a>(alloc: Global) -> Result<Command<'a>, AllocError>
         .arg(option(alloc, "top-b", "NAME", "The second layout's top cell"))
 }
 
-/// The same with `[--map PAIRS] [--window RANGES] [--ignore WORDS] [--large] [--why] [--units]`.
+/// The same with `[--map PAIRS] [--window RANGES] [--ignore WORDS] [--large] [--unpack] [--why] [--units]`.
 fn compare<'a>(alloc: Global) -> Result<Command<'a>, AllocError>
     ensures { IfOk result (λ c. app_of c ≡ compare_app) }
 {
@@ -109,11 +112,12 @@ fn compare<'a>(alloc: Global) -> Result<Command<'a>, AllocError>
         .arg(option(alloc, "window", "RANGES", WINDOW_HELP))?
         .arg(option(alloc, "ignore", "WORDS", IGNORE_HELP))?
         .arg(flag(alloc, "large", LARGE_HELP))?
+        .arg(flag(alloc, "unpack", UNPACK_HELP))?
         .arg(flag(alloc, "why", WHY_HELP))?
         .arg(flag(alloc, "units", UNITS_HELP))
 }
 
-/// `show A [--top NAME] [--ignore WORDS] [--large]`.
+/// `show A [--top NAME] [--ignore WORDS] [--large] [--unpack]`.
 fn show<'a>(alloc: Global) -> Result<Command<'a>, AllocError>
     ensures { IfOk result (λ c. app_of c ≡ show_app) }
 {
@@ -122,10 +126,11 @@ fn show<'a>(alloc: Global) -> Result<Command<'a>, AllocError>
         .arg(file(alloc, "A", "The layout, GDSII or OASIS"))?
         .arg(option(alloc, "top", "NAME", "The layout's top cell"))?
         .arg(option(alloc, "ignore", "WORDS", IGNORE_HELP))?
-        .arg(flag(alloc, "large", LARGE_HELP))
+        .arg(flag(alloc, "large", LARGE_HELP))?
+        .arg(flag(alloc, "unpack", UNPACK_HELP))
 }
 
-/// `digest A.. [--top NAME] [--ignore WORDS] [--large]`.
+/// `digest A.. [--top NAME] [--ignore WORDS] [--large] [--unpack]`.
 fn several<'a>(alloc: Global) -> Result<Command<'a>, AllocError>
     ensures { IfOk result (λ c. app_of c ≡ several_app) }
 {
@@ -134,7 +139,8 @@ fn several<'a>(alloc: Global) -> Result<Command<'a>, AllocError>
         .arg(files(alloc, "A", LAYOUTS_HELP))?
         .arg(option(alloc, "top", "NAME", "The top cell of each layout"))?
         .arg(option(alloc, "ignore", "WORDS", IGNORE_HELP))?
-        .arg(flag(alloc, "large", LARGE_HELP))
+        .arg(flag(alloc, "large", LARGE_HELP))?
+        .arg(flag(alloc, "unpack", UNPACK_HELP))
 }
 
 /// The same with `[--list] [--check] [--quiet]`.
@@ -147,7 +153,7 @@ fn digest<'a>(alloc: Global) -> Result<Command<'a>, AllocError>
         .arg(flag(alloc, "quiet", QUIET_HELP))
 }
 
-/// `cells A [--ignore WORDS] [--large]`.
+/// `cells A [--ignore WORDS] [--large] [--unpack]`.
 fn cells<'a>(alloc: Global) -> Result<Command<'a>, AllocError>
     ensures { IfOk result (λ c. app_of c ≡ cells_app) }
 {
@@ -155,7 +161,8 @@ fn cells<'a>(alloc: Global) -> Result<Command<'a>, AllocError>
         .about("Lists a layout's cells, and which of them could be its top")
         .arg(file(alloc, "A", "The layout, GDSII or OASIS"))?
         .arg(option(alloc, "ignore", "WORDS", IGNORE_HELP))?
-        .arg(flag(alloc, "large", LARGE_HELP))
+        .arg(flag(alloc, "large", LARGE_HELP))?
+        .arg(flag(alloc, "unpack", UNPACK_HELP))
 }
 
 /// A subcommand with `[--progress] [--no-progress]` too. No job depends on them.

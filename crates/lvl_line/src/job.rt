@@ -1,7 +1,8 @@
 //! What a command line asks for, and why one is refused.
 use clap::Error;
 
-/// What a command line asks for. All texts are as they are in the line, not parsed yet.
+/// What a command line asks for. All texts are as they are in the line, not parsed yet. A file whose name is `-` is
+/// standard input; at most one is.
 #[derive(Debug, Drop, PartialEq, Eq)]
 pub enum Job {
     /// To compare two files, each with the name of its top cell if one is given, with the texts of
@@ -16,6 +17,8 @@ pub enum Job {
         ignore: Option<String>,
         /// Whether the limits are those for whole chips.
         large: bool,
+        /// Whether compressed blocks are read.
+        unpack: bool,
         /// Whether the reason of a difference is asked for.
         why: bool,
         /// Whether files are compared only if their grid steps agree.
@@ -28,6 +31,8 @@ pub enum Job {
         ignore: Option<String>,
         /// Whether the limits are those for whole chips.
         large: bool,
+        /// Whether compressed blocks are read.
+        unpack: bool,
     },
     /// To list the cells of a file, with the text of what is ignored if it is given.
     Cells {
@@ -35,6 +40,8 @@ pub enum Job {
         ignore: Option<String>,
         /// Whether the limits are those for whole chips.
         large: bool,
+        /// Whether compressed blocks are read.
+        unpack: bool,
     },
     /// To hash what a file draws, with the name of its top cell and the text of what is ignored if they are
     /// given.
@@ -44,6 +51,8 @@ pub enum Job {
         ignore: Option<String>,
         /// Whether the limits are those for whole chips.
         large: bool,
+        /// Whether compressed blocks are read.
+        unpack: bool,
     },
     /// To list the digests of files, with the name of the top cell of each and the text of what is ignored if
     /// they are given.
@@ -53,6 +62,8 @@ pub enum Job {
         ignore: Option<String>,
         /// Whether the limits are those for whole chips.
         large: bool,
+        /// Whether compressed blocks are read.
+        unpack: bool,
     },
     /// To hash the files of a list again, with the name of the top cell of each and the text of what is ignored
     /// if they are given.
@@ -65,14 +76,16 @@ pub enum Job {
         ignore: Option<String>,
         /// Whether the limits are those for whole chips.
         large: bool,
+        /// Whether compressed blocks are read.
+        unpack: bool,
     },
 }
 
 /// Why a command line is refused.
 #[derive(Debug, Drop)]
 pub enum LineFault {
-    /// `clap` refuses the words, the options of `digest` don't go together, or the words ask for help or the
-    /// version. The error has the text to print.
+    /// `clap` refuses the words, the options of `digest` don't go together, standard input is named twice, or the words
+    /// ask for help or the version. The error has the text to print.
     Words(Error),
     /// An allocation failed.
     OutOfMemory,

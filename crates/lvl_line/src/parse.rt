@@ -1,9 +1,10 @@
 //! Makes a job of the words of a command line.
 ghost use Rattle.std.specs.Prelude.{◌≡◌, ◌≢◌, ◌⊎◌, Some, true, false, codes, is_some, map, option_map, IfOk};
-ghost use Rattle.std.specs.Prelude.{IfErr};
+ghost use Rattle.std.specs.Prelude.{IfErr, count_by};
 ghost use Rattle.std.specs.String.{string_bytes};
 ghost use Rattle.clap.specs.Words.{all_of, first_of, found_of, kind_of, rows_of, subcommand_of, takes};
-ghost use Rattle.lvl_line.specs.Line.{line, is_misplaced, is_set, is_several, IsJob, IsMisplaced, IsNamed, IsRefusal};
+ghost use Rattle.lvl_line.specs.Line.{line, is_compared_twice, is_input, is_input_name, is_listed_twice, is_misplaced};
+ghost use Rattle.lvl_line.specs.Line.{is_set, is_several, IsJob, IsMisplaced, IsNamed, IsRefusal};
 ghost use Rattle.lvl_line.specs.declared.job.LineFault.TheVariants.{OutOfMemory, Words};
 ghost use Rattle.lvl_line.specs.inside.Given.{HasValue, IsConflictFault, IsJobOf};
 
@@ -12,6 +13,9 @@ use crate::job::{Job, LineFault};
 use clap::error::ErrorKind;
 use clap::{ArgMatches, Error};
 use std::alloc::{AllocError, Global};
+
+/// What is said if standard input is named twice.
+const INPUT_TWICE: &str = "standard input, '-', cannot be used twice";
 
 /// A copy of the value of an option, if it is given.
 fn value_of(alloc: Global, matches: &ArgMatches<'_>, id: &str) -> Result<Option<String>, AllocError>
@@ -33,6 +37,30 @@ fn is_set(matches: &ArgMatches<'_>, id: &str) -> bool
     }
 }
 
+/// Whether the name of a file is that of standard input.
+fn is_input_name(name: &str) -> bool
+    ensures { result ≡ is_input_name name.now }
+{
+    name == "-"
+}
+
+/// Whether the file of an argument is standard input.
+fn is_input(matches: &ArgMatches<'_>, id: &str) -> bool
+    ensures { result ≡ is_input id.now (rows_of (found_of matches.now)) }
+{
+    match matches.get_str(id) {
+        Some(name) => is_input_name(name),
+        None => false,
+    }
+}
+
+/// Whether both files of `compare` are standard input.
+fn is_compared_twice(matches: &ArgMatches<'_>) -> bool
+    ensures { result ≡ is_compared_twice (rows_of (found_of matches.now)) }
+{
+    is_input(matches, "A") && is_input(matches, "B")
+}
+
 /// A copy of the name of a file, which `clap` has found in the line.
 fn file_of(alloc: Global, matches: &ArgMatches<'_>, id: &str) -> Result<String, AllocError>
     requires { HasValue id.now (rows_of (found_of matches.now)) }
@@ -44,10 +72,11 @@ fn file_of(alloc: Global, matches: &ArgMatches<'_>, id: &str) -> Result<String, 
     String::from_str(alloc, text)
 }
 
-/// The job of `compare`.
+/// The job of `compare`, whose files aren't both standard input.
 fn compare_of(alloc: Global, matches: &ArgMatches<'_>) -> Result<Job, AllocError>
     requires first { HasValue (codes "A") (rows_of (found_of matches.now)) }
     requires second { HasValue (codes "B") (rows_of (found_of matches.now)) }
+    requires once { is_compared_twice (rows_of (found_of matches.now)) ≡ false }
     ensures { IfOk result (λ job. IsNamed job (Some (codes "compare", rows_of (found_of matches.now)))) }
 {
     Ok(Job::Compare {
@@ -59,6 +88,7 @@ fn compare_of(alloc: Global, matches: &ArgMatches<'_>) -> Result<Job, AllocError
         window: value_of(alloc, matches, "window")?,
         ignore: value_of(alloc, matches, "ignore")?,
         large: is_set(matches, "large"),
+        unpack: is_set(matches, "unpack"),
         why: is_set(matches, "why"),
         units: is_set(matches, "units"),
     })
@@ -74,6 +104,7 @@ fn show_of(alloc: Global, matches: &ArgMatches<'_>) -> Result<Job, AllocError>
         top: value_of(alloc, matches, "top")?,
         ignore: value_of(alloc, matches, "ignore")?,
         large: is_set(matches, "large"),
+        unpack: is_set(matches, "unpack"),
     })
 }
 
@@ -86,6 +117,7 @@ fn cells_of(alloc: Global, matches: &ArgMatches<'_>) -> Result<Job, AllocError>
         file: file_of(alloc, matches, "A")?,
         ignore: value_of(alloc, matches, "ignore")?,
         large: is_set(matches, "large"),
+        unpack: is_set(matches, "unpack"),
     })
 }
 
@@ -121,6 +153,23 @@ fn is_several(matches: &ArgMatches<'_>, id: &str) -> bool
     }
 }
 
+/// How many of the files are standard input.
+fn count_inputs(names: &[&str]) -> usize
+    ensures { result ≡ count_by is_input_name (map (λ s. s.now) names.now) }
+{
+    names.iter().filter(|name| is_input_name(name)).count()
+}
+
+/// Whether several of the files of an argument are standard input.
+fn is_listed_twice(matches: &ArgMatches<'_>, id: &str) -> bool
+    ensures { result ≡ is_listed_twice id.now (rows_of (found_of matches.now)) }
+{
+    match matches.get_strs(id) {
+        Some(names) => count_inputs(names) > 1,
+        None => false,
+    }
+}
+
 /// Why the options of `digest` don't go together; `None` if they do.
 fn misplaced(matches: &ArgMatches<'_>) -> Option<&'static str>
     ensures { is_some result ≡ is_misplaced (rows_of (found_of matches.now)) }
@@ -136,6 +185,9 @@ fn misplaced(matches: &ArgMatches<'_>) -> Option<&'static str>
     if !list && is_several(matches, "A") {
         return Some("several files cannot be used without '--list'");
     }
+    if is_listed_twice(matches, "A") {
+        return Some(INPUT_TWICE);
+    }
     None
 }
 
@@ -148,12 +200,14 @@ fn digest_of(alloc: Global, matches: &ArgMatches<'_>) -> Result<Job, AllocError>
     let top = value_of(alloc, matches, "top")?;
     let ignore = value_of(alloc, matches, "ignore")?;
     let large = is_set(matches, "large");
+    let unpack = is_set(matches, "unpack");
     if is_set(matches, "list") {
         return Ok(Job::List {
             files: files_of(alloc, matches, "A")?,
             top,
             ignore,
             large,
+            unpack,
         });
     }
     let file = file_of(alloc, matches, "A")?;
@@ -164,6 +218,7 @@ fn digest_of(alloc: Global, matches: &ArgMatches<'_>) -> Result<Job, AllocError>
             top,
             ignore,
             large,
+            unpack,
         });
     }
     Ok(Job::Digest {
@@ -171,10 +226,11 @@ fn digest_of(alloc: Global, matches: &ArgMatches<'_>) -> Result<Job, AllocError>
         top,
         ignore,
         large,
+        unpack,
     })
 }
 
-/// The fault of a line in which the options of `digest` don't go together. `why` says which.
+/// The fault of a line whose words don't go together. `why` says which.
 fn conflict(alloc: Global, why: &str) -> LineFault
     ensures { (result ≡ OutOfMemory) ⊎ IsConflictFault result }
 {
@@ -187,7 +243,7 @@ fn conflict(alloc: Global, why: &str) -> LineFault
     }
 }
 
-/// The job of the subcommand that `clap` has found in the line, or why its options don't go together.
+/// The job of the subcommand that `clap` has found in the line, or why its words don't go together.
 fn job_of(alloc: Global, name: &str, matches: &ArgMatches<'_>) -> Result<Job, LineFault>
     requires { IsJobOf name.now (rows_of (found_of matches.now)) }
     ensures job { IfOk result (λ job. IsNamed job (Some (name.now, rows_of (found_of matches.now)))) }
@@ -195,7 +251,12 @@ fn job_of(alloc: Global, name: &str, matches: &ArgMatches<'_>) -> Result<Job, Li
         ⊎ (IsMisplaced (Some (name.now, rows_of (found_of matches.now))) × IsConflictFault fault)) }
 {
     let made = match name {
-        "compare" => compare_of(alloc, matches),
+        "compare" => {
+            if is_compared_twice(matches) {
+                return Err(conflict(alloc, INPUT_TWICE));
+            }
+            compare_of(alloc, matches)
+        }
         "show" => show_of(alloc, matches),
         "cells" => cells_of(alloc, matches),
         _ => {
@@ -225,8 +286,8 @@ fn refused(error: Error) -> LineFault
 ///
 /// The job is what the words mean by `clap` (see [`crate`]), and all files are given. `Words` is
 /// returned with `clap`'s error if the words are no line of the program, or ask for help or the
-/// version, and with an error of the kind `ArgumentConflict` if the options of `digest` don't go together. If
-/// `clap` accepts the words, only that and a failed allocation are reported.
+/// version, and with an error of the kind `ArgumentConflict` if the options of `digest` don't go together or standard
+/// input is named twice. If `clap` accepts the words, only that and a failed allocation are reported.
 pub fn parse_line<'a>(alloc: Global, words: &'a [&'a str]) -> Result<Job, LineFault>
     ensures job { IfOk result (IsJob (map (λ s. s.now) words.entry.now)) }
     ensures refused { IfErr result (IsRefusal (map (λ s. s.now) words.entry.now)) }

@@ -1,8 +1,10 @@
--- What would mend a refusal: to ignore more, to lift limits, or to use another program (own rule).
-use Rattle.std.specs.Prelude.{ℕ, ◌==◌, ◌&&◌, nat_lt, if◌then◌else◌, Bool, true, false, List, [], ◌∷◌, Option, Some, None}
+-- What would mend a refusal: to ignore more, to lift limits, to read compressed blocks, or to use another program (own
+-- rule).
+use Rattle.std.specs.Prelude.{ℕ, ◌==◌, ◌&&◌, not, nat_lt, if◌then◌else◌, Bool, true, false, List, [], ◌∷◌, Option, Some, None}
 use Rattle.std.specs.Prelude.{◌≡◌, Result, Ok, Err, is_ok, option_map}
 use Rattle.lvl_cells.specs.declared.fault.CellFault.TheVariants.{TooManyPlacements, TooManyRings}
 use Rattle.lvl_cells.specs.declared.fault.CellFault.{CellFault}
+use Rattle.lvl_path.specs.declared.fault.PathFault.TheVariants.{RepeatedPoint}
 use Rattle.lvl_profile.specs.Limits.{large}
 use Rattle.lvl_profile.specs.declared.ignore.Ignore.{Ignore}
 use Rattle.lvl_profile.specs.declared.limits.Limits.{Limits}
@@ -11,7 +13,7 @@ use Rattle.gds_records.specs.Table.{is_ignored}
 use Rattle.gds_records.specs.declared.fault.RecordFault.{RecordFault}
 use Rattle.gds_records.specs.declared.fault.RecordFault.TheVariants.{BadLength, BadDataType, UnknownRecord}
 use Rattle.gds_records.specs.declared.fault.RecordFault.TheVariants.{TooLong as RecordTooLong}
-use Rattle.gds_elements.specs.declared.fault.ElementRule.TheVariants.{Repetition}
+use Rattle.gds_elements.specs.declared.fault.ElementRule.TheVariants.{Path as GdsPath, Repetition}
 use Rattle.gds_elements.specs.declared.fault.Misplaced.TheVariants.{Unsupported as UnsupportedType}
 use Rattle.gds_library.specs.declared.fault.GdsKind.{GdsKind}
 use Rattle.gds_library.specs.declared.fault.GdsKind.TheVariants.{Record as GdsRecord, Misplaced, Element}
@@ -19,8 +21,10 @@ use Rattle.gds_library.specs.declared.fault.GdsKind.TheVariants.{TooManyCells as
 use Rattle.oasis_values.specs.declared.fault.ValueFault.TheVariants.{IntegerTooLarge, RepetitionSize, TooLong}
 use Rattle.oasis_records.specs.Records.{record_type}
 use Rattle.oasis_records.specs.declared.fault.RecordRule.TheVariants.{Unsupported as UnsupportedId}
+use Rattle.oasis_figures.specs.declared.rule.FigureRule.TheVariants.{Path as OasisPath}
+use Rattle.oasis_blocks.specs.declared.fault.BlockRule.TheVariants.{TooLong as BlockTooLong}
 use Rattle.oasis_stream.specs.declared.fault.OasisKind.{OasisKind}
-use Rattle.oasis_stream.specs.declared.fault.OasisKind.TheVariants.{Value, Record, TooManyCells}
+use Rattle.oasis_stream.specs.declared.fault.OasisKind.TheVariants.{Block, Figure, Value, Record, TooManyCells}
 use Rattle.oasis_library.specs.declared.fault.OasisFault.TheVariants.{At, Unresolved}
 use Rattle.lvl.specs.declared.layout.FileFault.{FileFault}
 use Rattle.lvl.specs.declared.layout.FileFault.TheVariants.{Gds, Oasis}
@@ -38,18 +42,21 @@ use Rattle.lvl_report.specs.Texts.{comparison_of}
 use Rattle.lvl_report.specs.Tops.{line_of_one, line_of_two}
 use Rattle.lvl_report.specs.declared.outcome.Outcome.{Outcome}
 use Rattle.lvl_report.specs.declared.hint.Hint.{Hint}
-use Rattle.lvl_report.specs.declared.hint.Hint.TheVariants.{IgnoreMore, LiftLimits, Unpack, WithoutBlocks}
+use Rattle.lvl_report.specs.declared.hint.Hint.TheVariants.{Foreign, IgnoreMore, LiftLimits, ReadBlocks}
 
--- whether records of the kind for which a GDSII file is refused are read under the profile
+-- whether records of the kind for which a GDSII file is refused, or points that equal the one before, are read under
+-- the profile
 abbrev pub reads_record : Profile → GdsKind → Bool
 reads_record profile (Misplaced (UnsupportedType kind)) = is_ignored profile.ignore kind
+reads_record profile (Element (GdsPath RepeatedPoint)) = profile.ignore.points
 reads_record profile kind = false
 
--- whether records of the kind for which an OASIS file is refused, or integers of more bytes, are read under the
--- profile
+-- whether records of the kind for which an OASIS file is refused, integers of more bytes, or points that equal the one
+-- before, are read under the profile
 abbrev pub reads_spelling : Profile → OasisKind → Bool
 reads_spelling profile (Value IntegerTooLarge) = profile.ignore.padding
 reads_spelling profile (Record (UnsupportedId id)) = is_ok (record_type profile id)
+reads_spelling profile (Figure (OasisPath RepeatedPoint)) = profile.ignore.points
 reads_spelling profile kind = false
 
 -- the same for a file of either format
@@ -62,20 +69,19 @@ is_read_by profile (Oasis (Unresolved number)) = false
 abbrev pub with_one_more : Ignore → List Ignore
 with_one_more given =
     record given { properties = true } ∷ record given { texts = true } ∷ record given { names = true }
-    ∷ record given { padding = true } ∷ []
+    ∷ record given { padding = true } ∷ record given { points = true } ∷ []
 
--- the first of the sets with which such records or integers are read, within these limits
-abbrev pub first_that_reads : Limits → FileFault → List Ignore → Option Ignore
-first_that_reads limits fault [] = None
-first_that_reads limits fault (more ∷ others) =
-    if is_read_by (record { ignore = more; limits = limits }) fault then Some more
-    else first_that_reads limits fault others
+-- the first of the sets with which these are read, if nothing else is changed
+abbrev pub first_that_reads : Profile → FileFault → List Ignore → Option Ignore
+first_that_reads given fault [] = None
+first_that_reads given fault (more ∷ others) =
+    if is_read_by (record given { ignore = more }) fault then Some more else first_that_reads given fault others
 
 -- what to ignore so that they are read; None if they are read already, or if no word would change that. The value or
 -- the place of the one that is refused may still breach a rule
 abbrev pub to_ignore : Profile → FileFault → Option Ignore
 to_ignore given fault =
-    if is_read_by given fault then None else first_that_reads given.limits fault (with_one_more given.ignore)
+    if is_read_by given fault then None else first_that_reads given fault (with_one_more given.ignore)
 
 -- whether a GDSII file is refused by a limit that is lower than the one for whole chips
 abbrev pub lifts_gds : Limits → GdsKind → Bool
@@ -87,6 +93,7 @@ lifts_gds given kind = false
 -- the same for an OASIS file
 abbrev pub lifts_oasis : Limits → OasisKind → Bool
 lifts_oasis given (Value TooLong) = nat_lt given.file large.file
+lifts_oasis given (Block BlockTooLong) = nat_lt given.file large.file
 lifts_oasis given (Value RepetitionSize) = nat_lt given.placed large.placed
 lifts_oasis given TooManyCells = nat_lt given.cells large.cells
 lifts_oasis given kind = false
@@ -114,21 +121,21 @@ is_headless fault = false
 abbrev pub cblock : ℕ
 cblock = 34
 
--- a file whose first record has a faulty header is perhaps a compressed file
+-- a file whose first record has a faulty header is perhaps of another format
 abbrev pub of_first : ℕ → GdsKind → Option Hint
-of_first offset (GdsRecord fault) = if (offset == 0) && is_headless fault then Some Unpack else None
+of_first offset (GdsRecord fault) = if (offset == 0) && is_headless fault then Some Foreign else None
 of_first offset kind = None
 
--- an OASIS file with a CBLOCK
-abbrev pub of_block : OasisKind → Option Hint
-of_block (Record (UnsupportedId id)) = if id == cblock then Some WithoutBlocks else None
-of_block kind = None
+-- an OASIS file with a CBLOCK, if blocks aren't read
+abbrev pub of_block : Profile → OasisKind → Option Hint
+of_block given (Record (UnsupportedId id)) = if (id == cblock) && not given.unpack then Some ReadBlocks else None
+of_block given kind = None
 
--- a hint to use another program
-abbrev pub other_program : FileFault → Option Hint
-other_program (Gds fault) = of_first fault.offset fault.kind
-other_program (Oasis (At offset kind)) = of_block kind
-other_program (Oasis (Unresolved number)) = None
+-- a hint at a file or a part of it that is packed
+abbrev pub of_packed : Profile → FileFault → Option Hint
+of_packed given (Gds fault) = of_first fault.offset fault.kind
+of_packed given (Oasis (At offset kind)) = of_block given kind
+of_packed given (Oasis (Unresolved number)) = None
 
 -- the hint to ignore more if there is one, else the other hint
 abbrev pub ignore_or : Option Ignore → Option Hint → Option Hint
@@ -138,7 +145,7 @@ ignore_or None other = other
 -- the hint for a file that is refused
 abbrev pub hint_of_file : Profile → FileFault → Option Hint
 hint_of_file given fault =
-    if lifts_file given.limits fault then Some LiftLimits else ignore_or (to_ignore given fault) (other_program fault)
+    if lifts_file given.limits fault then Some LiftLimits else ignore_or (to_ignore given fault) (of_packed given fault)
 
 -- the hint if a file is refused
 abbrev pub hint_of : Profile → Refusal → Option Hint

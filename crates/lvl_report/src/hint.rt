@@ -1,7 +1,7 @@
-//! What would mend a refusal: to ignore more, to lift limits, or to use another program.
+//! What would mend a refusal: to ignore more, to lift limits, to read compressed blocks, or to use another program.
 ghost use Rattle.std.specs.Prelude.{◌≡◌};
 ghost use Rattle.lvl_report.specs.Hints.{reads_record, reads_spelling, is_read_by, with_one_more, first_that_reads};
-ghost use Rattle.lvl_report.specs.Hints.{to_ignore, is_headless, of_first, of_block, other_program, ignore_or};
+ghost use Rattle.lvl_report.specs.Hints.{to_ignore, is_headless, of_first, of_block, of_packed, ignore_or};
 ghost use Rattle.lvl_report.specs.Hints.{lifts_gds, lifts_oasis, lifts_file, lifts_cells};
 ghost use Rattle.lvl_report.specs.Hints.{hint_of, hint_of_file};
 
@@ -9,8 +9,9 @@ use gds_library::{ElementRule, GdsKind, Misplaced, RecordFault};
 use gds_records::is_ignored;
 use lvl::{FileFault, Refusal};
 use lvl_cells::CellFault;
+use lvl_path::PathFault;
 use lvl_profile::{Ignore, Limits, Profile};
-use oasis_library::{OasisFault, OasisKind, RecordRule, ValueFault};
+use oasis_library::{BlockRule, FigureRule, OasisFault, OasisKind, RecordRule, ValueFault};
 use oasis_records::RecordType;
 
 /// The id of a CBLOCK (SEMI P39, "CBLOCK record").
@@ -19,35 +20,39 @@ const CBLOCK: u64 = 34;
 /// What would mend a refusal (own rule).
 #[derive(Clone, Copy, Debug, PartialEq, Eq)]
 pub enum Hint {
-    /// To ignore this, one word more than before: then records of the kind that was refused are read, or
-    /// integers of more bytes. Its value or its place may still be refused.
+    /// To ignore this, one word more than before: then records of the kind that was refused are read, integers of
+    /// more bytes, or points that equal the one before. Its value or its place may still be refused.
     IgnoreMore(Ignore),
     /// To take the limits for whole chips, [`Limits::LARGE`]: the limit that refuses is higher there.
     LiftLimits,
-    /// To unpack the file: it begins neither with a record of GDSII nor as OASIS does, so it may be
-    /// compressed.
-    Unpack,
-    /// To write the OASIS file without compressed blocks (CBLOCK).
-    WithoutBlocks,
+    /// To give another file: it begins neither with a record of GDSII nor as OASIS does, so it may be
+    /// compressed, or of another format.
+    Foreign,
+    /// To read the compressed blocks of an OASIS file (CBLOCK).
+    ReadBlocks,
 }
 
-/// Whether records of the kind for which a GDSII file is refused are read under the profile.
+/// Whether records of the kind for which a GDSII file is refused, or points that equal the one before, are read under
+/// the profile.
 fn reads_record(profile: Profile, kind: &GdsKind) -> bool
     ensures { result ≡ reads_record profile kind.now }
 {
     match kind {
         GdsKind::Misplaced(Misplaced::Unsupported(kind)) => is_ignored(profile.ignore, *kind),
+        GdsKind::Element(ElementRule::Path(PathFault::RepeatedPoint)) => profile.ignore.points,
         _ => false,
     }
 }
 
-/// Whether records of the kind for which an OASIS file is refused, or longer integers, are read under the profile.
+/// Whether records of the kind for which an OASIS file is refused, longer integers, or points that equal the one
+/// before, are read under the profile.
 fn reads_spelling(profile: Profile, kind: &OasisKind) -> bool
     ensures { result ≡ reads_spelling profile kind.now }
 {
     match kind {
         OasisKind::Value(ValueFault::IntegerTooLarge) => profile.ignore.padding,
         OasisKind::Record(RecordRule::Unsupported(id)) => RecordType::of(*id, profile).is_ok(),
+        OasisKind::Figure(FigureRule::Path(PathFault::RepeatedPoint)) => profile.ignore.points,
         _ => false,
     }
 }
@@ -64,7 +69,7 @@ fn is_read_by(profile: Profile, fault: &FileFault) -> bool
 }
 
 /// The sets with one more word than `given`, in the order of the words.
-fn with_one_more(given: Ignore) -> [Ignore; 4]
+fn with_one_more(given: Ignore) -> [Ignore; 5]
     ensures { result ≡ with_one_more given }
 {
     [
@@ -84,17 +89,21 @@ fn with_one_more(given: Ignore) -> [Ignore; 4]
             padding: true,
             ..given
         },
+        Ignore {
+            points: true,
+            ..given
+        },
     ]
 }
 
-/// The first of the sets with which such records or integers are read, within these limits.
-fn first_that_reads(limits: Limits, fault: &FileFault, sets: &[Ignore]) -> Option<Ignore>
-    ensures { result ≡ first_that_reads limits fault.now sets.now }
+/// The first of the sets with which these are read, if nothing else is changed.
+fn first_that_reads(given: Profile, fault: &FileFault, sets: &[Ignore]) -> Option<Ignore>
+    ensures { result ≡ first_that_reads given fault.now sets.now }
 {
     for more in sets {
         let profile = Profile {
             ignore: *more,
-            limits,
+            ..given
         };
         if is_read_by(profile, fault) {
             return Some(*more);
@@ -110,7 +119,7 @@ fn to_ignore(given: Profile, fault: &FileFault) -> Option<Ignore>
     if is_read_by(given, fault) {
         return None;
     }
-    first_that_reads(given.limits, fault, &with_one_more(given.ignore))
+    first_that_reads(given, fault, &with_one_more(given.ignore))
 }
 
 /// Whether a GDSII file is refused by a limit that is lower than the one for whole chips.
@@ -131,6 +140,7 @@ fn lifts_oasis(given: Limits, kind: &OasisKind) -> bool
 {
     match kind {
         OasisKind::Value(ValueFault::TooLong) => given.file < Limits::LARGE.file,
+        OasisKind::Block(BlockRule::TooLong) => given.file < Limits::LARGE.file,
         OasisKind::Value(ValueFault::RepetitionSize) => given.placed < Limits::LARGE.placed,
         OasisKind::TooManyCells => given.cells < Limits::LARGE.cells,
         _ => false,
@@ -175,28 +185,30 @@ fn of_first(offset: u64, kind: &GdsKind) -> Option<Hint>
     ensures { result ≡ of_first offset kind.now }
 {
     match kind {
-        GdsKind::Record(fault) if offset == 0 && is_headless(*fault) => Some(Hint::Unpack),
+        GdsKind::Record(fault) if offset == 0 && is_headless(*fault) => Some(Hint::Foreign),
         _ => None,
     }
 }
 
-/// The hint for an OASIS file with a CBLOCK.
-fn of_block(kind: &OasisKind) -> Option<Hint>
-    ensures { result ≡ of_block kind.now }
+/// The hint for an OASIS file with a CBLOCK, if blocks aren't read.
+fn of_block(given: Profile, kind: &OasisKind) -> Option<Hint>
+    ensures { result ≡ of_block given kind.now }
 {
     match kind {
-        OasisKind::Record(RecordRule::Unsupported(CBLOCK)) => Some(Hint::WithoutBlocks),
+        OasisKind::Record(RecordRule::Unsupported(CBLOCK)) if !given.unpack => {
+            Some(Hint::ReadBlocks)
+        }
         _ => None,
     }
 }
 
-/// The hint to use another program, if it would mend the refusal.
-fn other_program(fault: &FileFault) -> Option<Hint>
-    ensures { result ≡ other_program fault.now }
+/// The hint at a file or a part of it that is packed.
+fn of_packed(given: Profile, fault: &FileFault) -> Option<Hint>
+    ensures { result ≡ of_packed given fault.now }
 {
     match fault {
         FileFault::Gds(fault) => of_first(fault.offset, &fault.kind),
-        FileFault::Oasis(OasisFault::At { kind, .. }) => of_block(kind),
+        FileFault::Oasis(OasisFault::At { kind, .. }) => of_block(given, kind),
         FileFault::Oasis(OasisFault::Unresolved(_)) => None,
     }
 }
@@ -210,7 +222,7 @@ fn hint_of_file(given: Profile, fault: &FileFault) -> Option<Hint>
     }
     match to_ignore(given, fault) {
         Some(more) => Some(Hint::IgnoreMore(more)),
-        None => other_program(fault),
+        None => of_packed(given, fault),
     }
 }
 

@@ -61,14 +61,10 @@ impl Files for Shelf {
     }
 }
 
-/// The job of a line in order: `list`, a top and what is ignored, each `-` where it is none, and files; or `check` or
+/// The job of words in order: `list`, a top and what is ignored, each `-` where it is none, and files; or `check` or
 /// `quiet`, a top and what is ignored.
-fn job_of(alloc: Global, line: &str) -> Result<Job, AllocError> {
-    let mut words = Vec::new(alloc);
-    for word in line.split(' ') {
-        words.push(word)?;
-    }
-    match words.as_slice() {
+fn job_of_words(alloc: Global, words: &[&str], unpack: bool) -> Result<Job, AllocError> {
+    match words {
         ["list", top, ignore, names @ ..] => {
             let mut files = Vec::new(alloc);
             for name in names {
@@ -79,6 +75,7 @@ fn job_of(alloc: Global, line: &str) -> Result<Job, AllocError> {
                 top: given(alloc, top)?,
                 ignore: given(alloc, ignore)?,
                 large: false,
+                unpack,
             })
         }
         [word, top, ignore] => Ok(Job::Check {
@@ -87,14 +84,27 @@ fn job_of(alloc: Global, line: &str) -> Result<Job, AllocError> {
             top: given(alloc, top)?,
             ignore: given(alloc, ignore)?,
             large: false,
+            unpack,
         }),
         _ => Err(AllocError),
     }
 }
 
+/// The job of the words of a line; after the word `unpack` compressed blocks are read.
+fn job_of(alloc: Global, line: &str) -> Result<Job, AllocError> {
+    let mut words = Vec::new(alloc);
+    for word in line.split(' ') {
+        words.push(word)?;
+    }
+    match words.as_slice() {
+        ["unpack", words @ ..] => job_of_words(alloc, words, true),
+        words => job_of_words(alloc, words, false),
+    }
+}
+
 /// What is said of a bad word.
 const BAD_IGNORE: &str = "lvl: bad ignore 1 IgnoreText\n\
-    lvl: --ignore takes properties, texts, names, padding or all, joined by commas\n";
+    lvl: --ignore takes properties, texts, names, padding, points or all, joined by commas\n";
 
 /// A list of two files that are the same.
 const SAME: &[u8] = b"\
@@ -109,6 +119,10 @@ cfc0bc7fd8a84f10bc2892f2c74e75073d5463f896d47d97244a7b12a9635572  none\n\
 0000000000000000000000000000000000000000000000000000000000000000  square\n\
 cfc0bc7fd8a84f10bc2892f2c74e75073d5463f896d47d97244a7b12a9635572  square\n";
 
+/// A list of a file with a block.
+const PRESSED: &[u8] =
+    b"cfc0bc7fd8a84f10bc2892f2c74e75073d5463f896d47d97244a7b12a9635572  pressed\n";
+
 /// A list of a file that differs.
 const WRONG: &[u8] = b"0000000000000000000000000000000000000000000000000000000000000000  square\n";
 
@@ -117,7 +131,7 @@ const BAD: &[u8] =
     b"cfc0bc7fd8a84f10bc2892f2c74e75073d5463f896d47d97244a7b12a9635572  square\ncfc0bc7fd8a84f10bc2892f2c74e75073d5463f896d47d97244a7b12a9635572 square\n";
 
 /// A list, a job, how many files it asks for, what it writes and says, and its status.
-static ROWS: [(&[u8], &str, u8, &str, &str, u8); 16] = [
+static ROWS: [(&[u8], &str, u8, &str, &str, u8); 20] = [
     (
         b"",
         "list - - square",
@@ -151,6 +165,31 @@ static ROWS: [(&[u8], &str, u8, &str, &str, u8); 16] = [
         2,
     ),
     (b"", "list - property square", 0, "", BAD_IGNORE, 3),
+    (
+        b"",
+        "unpack list - - pressed",
+        1,
+        "cfc0bc7fd8a84f10bc2892f2c74e75073d5463f896d47d97244a7b12a9635572  pressed\n",
+        "",
+        0,
+    ),
+    (
+        b"",
+        "list - - pressed",
+        1,
+        "",
+        "lvl: pressed: refused: first: oasis 24 Unsupported 34 at 37\n",
+        2,
+    ),
+    (PRESSED, "unpack quiet - -", 2, "", "", 0),
+    (
+        PRESSED,
+        "check - -",
+        2,
+        "pressed: refused: first: oasis 24 Unsupported 34 at 37\n",
+        "lvl: 1 of 1 files differ or could not be compared\n",
+        2,
+    ),
     (
         SAME,
         "check - -",

@@ -34,8 +34,9 @@ Options:
       --top-b <NAME>     The second layout's top cell
       --map <PAIRS>      Layers of the second layout, as those of the first: 1/0=2/0,3/1=3/0
       --window <RANGES>  The only squares to be compared, in grid steps: x=0..100,y=-50..50
-      --ignore <WORDS>   Records to read and ignore: properties, texts, names, padding or all, joined by commas
+      --ignore <WORDS>   What to read and ignore: properties, texts, names, padding, points or all, joined by commas
       --large            Takes the limits for whole chips
+      --unpack           Reads the compressed blocks of OASIS (CBLOCK)
       --why              Of a difference, says which references lead to which shape
       --units            Doesn't compare layouts whose grid steps differ
       --progress         Shows on standard error how far it is, also if that isn't a terminal
@@ -53,8 +54,9 @@ Arguments:
 
 Options:
       --top <NAME>      The layout's top cell
-      --ignore <WORDS>  Records to read and ignore: properties, texts, names, padding or all, joined by commas
+      --ignore <WORDS>  What to read and ignore: properties, texts, names, padding, points or all, joined by commas
       --large           Takes the limits for whole chips
+      --unpack          Reads the compressed blocks of OASIS (CBLOCK)
       --progress        Shows on standard error how far it is, also if that isn't a terminal
       --no-progress     Doesn't show how far it is
   -h, --help            Print help
@@ -70,8 +72,9 @@ Arguments:
 
 Options:
       --top <NAME>      The top cell of each layout
-      --ignore <WORDS>  Records to read and ignore: properties, texts, names, padding or all, joined by commas
+      --ignore <WORDS>  What to read and ignore: properties, texts, names, padding, points or all, joined by commas
       --large           Takes the limits for whole chips
+      --unpack          Reads the compressed blocks of OASIS (CBLOCK)
       --list            Prints a line for each file: the digest of its mask, and its name
       --check           Reads such a list, and hashes the files that it names again
       --quiet           With --check, prints only the files that aren't the same
@@ -89,8 +92,9 @@ Arguments:
   <A>  The layout, GDSII or OASIS
 
 Options:
-      --ignore <WORDS>  Records to read and ignore: properties, texts, names, padding or all, joined by commas
+      --ignore <WORDS>  What to read and ignore: properties, texts, names, padding, points or all, joined by commas
       --large           Takes the limits for whole chips
+      --unpack          Reads the compressed blocks of OASIS (CBLOCK)
       --progress        Shows on standard error how far it is, also if that isn't a terminal
       --no-progress     Doesn't show how far it is
   -h, --help            Print help
@@ -113,6 +117,14 @@ Usage: lvl <COMMAND>
 For more information, try '--help'.
 ";
 
+const TWICE: &str = "\
+error: standard input, '-', cannot be used twice
+
+Usage: lvl <COMMAND>
+
+For more information, try '--help'.
+";
+
 const BOTH: &str = "\
 error: the argument '--list' cannot be used with '--check'
 
@@ -129,7 +141,7 @@ Usage: lvl <COMMAND>
 For more information, try '--help'.
 ";
 
-static TEXTS: [(&str, &str); 13] = [
+static TEXTS: [(&str, &str); 15] = [
     ("lvl --help", LVL),
     ("lvl -h", LVL),
     ("lvl help", LVL),
@@ -143,6 +155,8 @@ static TEXTS: [(&str, &str); 13] = [
     ("lvl digest a b", SEVERAL),
     ("lvl digest --list --check a", BOTH),
     ("lvl digest a --quiet", ALONE),
+    ("lvl compare - -", TWICE),
+    ("lvl digest --list - -", TWICE),
 ];
 
 #[test]

@@ -15,12 +15,12 @@ use Rattle.lvl_job.specs.inside.Steps.{Says, Speaking}
 
 -- the files were listed, or this is why not all of them were; and this was said
 pub record IsListTold {S : Type 0} (opens : S → List ℕ → Option (Option (List ℕ)) → S → Type 0)
-    (names : List (String Global)) (top : Option (List ℕ)) (ignored : Option (String Global)) (large : Bool) (old new : S)
-    (from to : Option (List ℕ)) (a b : Speaking) (r : Result Outcome JobFault) : Type 0 where
+    (names : List (String Global)) (top : Option (List ℕ)) (ignored : Option (String Global)) (large unpack : Bool)
+    (old new : S) (from to : Option (List ℕ)) (a b : Speaking) (r : Result Outcome JobFault) : Type 0 where
   pub said : List ℕ
-  pub listed : IfOk r (λ outcome. UnderProfile ignored large (λ profile.
+  pub listed : IfOk r (λ outcome. UnderProfile ignored large unpack (λ profile.
       IsListed opens names profile top old new from to said outcome))
-  pub fault : IfErr r (IsListFault opens names top ignored large old new from to said)
+  pub fault : IfErr r (IsListFault opens names top ignored large unpack old new from to said)
   pub told : Says said a b
 
 -- how a check ends whose files were checked: its summary was said, or there was no memory for it
@@ -40,10 +40,10 @@ pub record IsEntriesTold {S : Type 0} (opens : S → List ℕ → Option (Option
 
 -- the files of a list were checked, or this is why not all of them were; and this was said
 pub record IsCheckTold {S : Type 0} (opens : S → List ℕ → Option (Option (List ℕ)) → S → Type 0) (list : List ℕ)
-    (quiet : Bool) (top : Option (List ℕ)) (ignored : Option (String Global)) (large : Bool) (old new : S)
-    (from to : Option (List ℕ)) (a b : Speaking) (r : Result Outcome JobFault) : Type 0 where
+    (quiet : Bool) (top : Option (List ℕ)) (ignored : Option (String Global)) (large unpack : Bool)
+    (old new : S) (from to : Option (List ℕ)) (a b : Speaking) (r : Result Outcome JobFault) : Type 0 where
   pub said : List ℕ
-  pub checked : IfOk r (λ outcome. UnderProfile ignored large (λ profile. OfList opens list old
+  pub checked : IfOk r (λ outcome. UnderProfile ignored large unpack (λ profile. OfList opens list old
       (IsChecked opens quiet profile top new from to said outcome)))
-  pub fault : IfErr r (IsCheckFault opens list quiet top ignored large old new from to said)
+  pub fault : IfErr r (IsCheckFault opens list quiet top ignored large unpack old new from to said)
   pub told : Says said a b

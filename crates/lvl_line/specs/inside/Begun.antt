@@ -12,8 +12,9 @@ tops_app = with_rule (with_rule (with_rule (with_rule (new_app (codes "compare")
 
 -- `digest` with its files and the options that hold for each
 abbrev pub several_app : App
-several_app = with_rule (with_rule (with_rule (with_rule (new_app (codes "digest")) (files_rule (codes "A")))
-    (option_rule (codes "top"))) (option_rule (codes "ignore"))) (flag_rule (codes "large"))
+several_app = with_rule (with_rule (with_rule (with_rule (with_rule (new_app (codes "digest")) (files_rule (codes "A")))
+    (option_rule (codes "top"))) (option_rule (codes "ignore")))
+    (flag_rule (codes "large"))) (flag_rule (codes "unpack"))
 
 -- a line with the subcommand `compare` only
 abbrev pub comparing_line : App

@@ -17,8 +17,11 @@ with_ignore = with_rule with_window (option_rule (codes "ignore"))
 abbrev with_large : App
 with_large = with_rule with_ignore (flag_rule (codes "large"))
 
+abbrev with_unpack : App
+with_unpack = with_rule with_large (flag_rule (codes "unpack"))
+
 abbrev with_why : App
-with_why = with_rule with_large (flag_rule (codes "why"))
+with_why = with_rule with_unpack (flag_rule (codes "why"))
 
 pub returns : goal.returns
 returns c =
@@ -31,7 +34,9 @@ returns c =
     c.in_ok-arg-3.ensures.shape c.option-3.ensures.local ∙ ap₂ with_rule window c.option-3.ensures.rule in
     let large : app_of c.in_ok-arg-4.field-0 ≡ with_large =
     c.in_ok-arg-4.ensures.shape c.flag.ensures.local ∙ ap₂ with_rule ignored c.flag.ensures.rule in
-    let why : app_of c.in_ok-arg-5.field-0 ≡ with_why =
+    let unpack : app_of c.in_ok-arg-5.field-0 ≡ with_unpack =
     c.in_ok-arg-5.ensures.shape c.flag-2.ensures.local ∙ ap₂ with_rule large c.flag-2.ensures.rule in
-    IfOk-weaker c.arg-6.result _ _
-    (λ r h. h.shape c.flag-3.ensures.local ∙ ap₂ with_rule why c.flag-3.ensures.rule) c.arg-6.ensures
+    let why : app_of c.in_ok-arg-6.field-0 ≡ with_why =
+    c.in_ok-arg-6.ensures.shape c.flag-3.ensures.local ∙ ap₂ with_rule unpack c.flag-3.ensures.rule in
+    IfOk-weaker c.arg-7.result _ _
+    (λ r h. h.shape c.flag-4.ensures.local ∙ ap₂ with_rule why c.flag-4.ensures.rule) c.arg-7.ensures

@@ -5,4 +5,4 @@ use Rattle.lvl_report.proofs.hint.first_that_reads.Given as goal
 -- the first set of all is the first of those that are left
 abbrev pub invariant-loop-more : goal.invariant-loop-more
 invariant-loop-more l =
-    first_that_reads l.limits l.fault l.sets ≡ first_that_reads l.limits l.fault (drop l.more-index l.sets)
+    first_that_reads l.given l.fault l.sets ≡ first_that_reads l.given l.fault (drop l.more-index l.sets)
