@@ -26,4 +26,6 @@ mod records;
 #[cfg(test)]
 mod rows;
 #[cfg(test)]
+mod unpacked;
+#[cfg(test)]
 mod values;
