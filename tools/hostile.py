@@ -58,6 +58,27 @@ def arrays_of_arrays():
     yield case("arrays of arrays, against wider squares", 2 * 63**4, file(1), file(2))
 
 
+def placed_five_times(*cells):
+    """A file whose top places the cell A five times."""
+    return oas_file(oas_cell("TOP", *(placement("A", x, x % 3) for x in range(0, 10_000_000, 2_000_000))), *cells)
+
+
+def cells_that_differ():
+    """Cells that are placed a few times and differ everywhere from their partners."""
+    n, rng = 200_000, random.Random(1)
+    spots = [(rng.randrange(10**6), rng.randrange(10**6)) for _ in range(n)]
+    def own(width):
+        shapes = b"".join(rectangle(x, y, width, 20, 1 + at % 4) for at, (x, y) in enumerate(spots))
+        return placed_five_times(oas_cell("A", shapes))
+    def places(width, by):
+        references = b"".join(placement("B", x + by, y) for x, y in spots)
+        small = (rectangle(0, 0, width, 20, 1), rectangle(5, 5, 4, 30, 2), rectangle(9, 9, 40, 3, 3))
+        return placed_five_times(oas_cell("A", references), oas_cell("B", *small))
+    yield case("a cell of %d rectangles, placed five times, all of them wider" % n, 10 * n, own(20), own(21))
+    yield case("a cell that places another %d times, that one wider" % n, 30 * n, places(20, 0), places(21, 0))
+    yield case("the same, each place to the right by one", 30 * n, places(20, 0), places(20, 1))
+
+
 def deep_chains():
     def file(n, last):
         parts = (b"".join(oas_cell("%07d" % at, placement("%07d" % (at + 1), 1, 0))) for at in range(n - 1))
@@ -513,9 +534,9 @@ def deceptive():
 
 
 GROUPS = [
-    deep_chains, hierarchies, cells_that_double, arrays_of_arrays, paths, polygons, small_cells, records, repetitions,
-    tables, layers, wires, overlaps, scattered, views, far_combs, far_spirals, far_stairs, far_rounds, far_bars,
-    far_lines, deceptive, long_bars, many_places, layers_and_lists,
+    deep_chains, hierarchies, cells_that_double, arrays_of_arrays, cells_that_differ, paths, polygons, small_cells,
+    records, repetitions, tables, layers, wires, overlaps, scattered, views, far_combs, far_spirals, far_stairs,
+    far_rounds, far_bars, far_lines, deceptive, long_bars, many_places, layers_and_lists,
 ]
 
 

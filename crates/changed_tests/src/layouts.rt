@@ -4,7 +4,7 @@
 //! semicolon between them. A cell is its name and then words: `0..2` is a box from 0 to 2, one high, on
 //! the layer 1, `0..2@2` one on the layer 2, and `A,5,3,90` places the cell A three times, ten steps apart
 //! from 5 on, turned by 90 degrees; `-90` reflects it first. `A,5,3,90,2` has two such rows, ten steps
-//! above one another, and `A,5,3,90,1,20` one row from 20 up.
+//! above one another, `A,5,3,90,1,20` one row from 20 up, and `A,5,3,90,1,0,7` one with steps of 7.
 use lvl_cells::{Builder, Checked, Library, Reference, check};
 use lvl_flat::Fitted;
 use lvl_grid::{Point, Ring, Turn};
@@ -69,15 +69,20 @@ fn add_places(alloc: Global, cells: &mut Builder, word: &str) -> Result<(), Fail
     let (x, rest) = cut(rest, ",");
     let (count, rest) = cut(rest, ",");
     let (by, rest) = cut(rest, ",");
-    let (rows, y) = cut(rest, ",");
+    let (rows, rest) = cut(rest, ",");
+    let (y, step) = cut(rest, ",");
     let (flip, turn) = turned(by);
     let at = Point {
         x: x.parse::<i64>()?,
         y: number_or(y, 0)?,
     };
+    let across = Point {
+        x: number_or(step, STEP.x)?,
+        y: 0,
+    };
     let up = step_up(rows);
     let rows = number_or(rows, 1)?.unsigned_abs();
-    let shifts = Offsets::lattice(STEP, count.parse::<u64>()?, up, rows).ok_or("shifts")?;
+    let shifts = Offsets::lattice(across, count.parse::<u64>()?, up, rows).ok_or("shifts")?;
     let name = Name::new(Vec::from_slice(alloc, name.as_bytes())?)?;
     let reference = Reference::new(name, flip, turn, at, shifts).ok_or("places")?;
     cells.add_reference(reference)?;

@@ -231,6 +231,14 @@ a row moved | T A,0,2000000,0,1 A,0,2000000,0,1,13; A 0..2@5 | T A,0,2000000,0,2
 a row of a cell that is changed | T A,0,2000000,0,3; A 0..2 | \
     T A,0,2000000,0,1 A,0,2000000,0,1,20 A,0,2000000,0,1,10; A 0..2 7..8@2 | \
     7,0,19999998,21 @2
+rows that follow one another, and one line | T R,0,2000,0,1,0,20000; R A,0,2000,0; A 0..2 | \
+    T A,0,4000000,0; A 0..2 |
+and the other way round | T A,0,4000000,0; A 0..2 | \
+    T R,0,2000,0; R A,0,2000,0,1,0,20000; A 0..2 |
+rows with a step left out between them | T R,0,2000,0,1,0,20010; R A,0,2000,0; A 0..2 | \
+    T A,0,4000000,0; A 0..2 | 0,0,40019982,1 @1
+rows of a cell that is changed | T R,0,2000,0,1,0,20000; R A,0,2000,0; A 0..2 | \
+    T A,0,4000000,0; A 0..2 7..8@2 | 7,0,39999998,1 @2
 ";
 
 /// Where the libraries of a row may differ, and where that says that they may.

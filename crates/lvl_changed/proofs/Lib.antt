@@ -7,6 +7,7 @@ pub mod Placing
 pub mod Drawn
 pub mod Grid
 pub mod Sums
+pub mod Joining
 pub mod Rebasing
 pub mod SeenThrough
 pub mod Arraying

@@ -1,5 +1,6 @@
 //! Lattices of shifts: their steps and counts, their sums, and the form in which they are compared.
 ghost use Rattle.std.specs.Prelude.{◌≡◌, neg_ℤ, IfOk, IfSome};
+ghost use Rattle.lvl_names.specs.Shifts.{lattice};
 ghost use Rattle.lvl_changed.specs.inside.Rows.{AreRowsOf, IsSameLine, scaled};
 ghost use Rattle.lvl_changed.specs.inside.Shifts.{AreMovedBy, AreSums, IsLatticeOf, turned_by};
 
@@ -82,6 +83,20 @@ fn lattice_of(shifts: &Offsets) -> Option<Lattice>
     })
 }
 
+/// The shifts `i * across + j * up` with `i < columns` and `j < rows`, or None if they can't be kept.
+/// Rows each of which begins one step after the end of the one before are kept as one line: then they
+/// are found to be one at once, however many shifts there are.
+fn joined(across: Point, columns: u64, up: Point, rows: u64) -> Option<Offsets>
+    ensures { IfSome result (λ shifts. shifts ≡ lattice across columns up rows) }
+{
+    if let Some(next) = times(across, columns) {
+        if next == up {
+            return Offsets::lattice(across, columns.checked_mul(rows)?, ORIGIN, 1);
+        }
+    }
+    Offsets::lattice(across, columns, up, rows)
+}
+
 /// The displacement as the map turns it, or None if it is outside 64 bits.
 fn turned(by: &Map, step: Point) -> Option<Point>
     ensures { IfSome result (λ turned. turned ≡ turned_by by.now step) }
@@ -124,16 +139,16 @@ fn lattice_of_sums(outer: &Offsets, inner: &Offsets, by: &Map) -> Option<Offsets
     let across = turned(by, line.across)?;
     if outer.is_single() {
         let up = turned(by, line.up)?;
-        return Offsets::lattice(across, line.columns, up, line.rows);
+        return joined(across, line.columns, up, line.rows);
     }
     let steps = lattice_of(outer)?;
     if line.rows != 1 || steps.rows != 1 {
         return None;
     }
     if comes_first(across, steps.across) {
-        return Offsets::lattice(across, line.columns, steps.across, steps.columns);
+        return joined(across, line.columns, steps.across, steps.columns);
     }
-    Offsets::lattice(steps.across, steps.columns, across, line.columns)
+    joined(steps.across, steps.columns, across, line.columns)
 }
 
 /// The step in the other direction, or None if it is outside 64 bits.
@@ -168,9 +183,9 @@ pub(crate) fn rebased(shifts: &Offsets) -> Option<(Point, Offsets)>
     let (other, up) = rising(found.up, found.rows)?;
     let least = moved(from, other)?;
     let listed = if found.rows > 1 && comes_first(up, across) {
-        Offsets::lattice(up, found.rows, across, found.columns)?
+        joined(up, found.rows, across, found.columns)?
     } else {
-        Offsets::lattice(across, found.columns, up, found.rows)?
+        joined(across, found.columns, up, found.rows)?
     };
     Some((least, listed))
 }

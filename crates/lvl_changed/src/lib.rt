@@ -44,6 +44,7 @@ mod lattices;
 mod layers;
 mod left;
 mod listing;
+mod look;
 mod partners;
 mod pays;
 mod placed;

@@ -1,5 +1,7 @@
 //! Whether a comparison cell by cell is likely to pay.
 use lvl_cells::{Cell, Checked};
+use lvl_flat::Fitted;
+use lvl_grid::Window;
 
 /// The number of rings that a cell itself draws, at most `u64::MAX`: each counts once for each
 /// shift of its shape.
@@ -48,6 +50,28 @@ pub(crate) fn placed_rings(checked: &Checked) -> u64 {
         }
     }
     placed
+}
+
+/// A count as it is shared out by length: the part of it that belongs to `part` of `whole`.
+pub(crate) fn share(count: u64, part: u64, whole: u64) -> u64 {
+    let product = u128::from(count).saturating_mul(u128::from(part.min(whole)));
+    let shared = product / u128::from(whole.max(1));
+    u64::try_from(shared).unwrap_or(u64::MAX)
+}
+
+/// How many of the rings that a layout places may be in a window, by the size of its extent.
+pub(crate) fn placed_in(fitted: &Fitted, window: Option<&Window>) -> u64 {
+    let placed = placed_rings(fitted.checked());
+    let Some(window) = window else {
+        return placed;
+    };
+    let all = fitted.extent();
+    let wide = share(
+        placed,
+        window.x0.abs_diff(window.x1),
+        all.x0.abs_diff(all.x1),
+    );
+    share(wide, window.y0.abs_diff(window.y1), all.y0.abs_diff(all.y1))
 }
 
 /// Whether a comparison cell by cell is likely to cost less than one of flat layouts. It is if the

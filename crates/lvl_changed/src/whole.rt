@@ -11,10 +11,10 @@ ghost use Rattle.lvl_changed.specs.inside.Finding.{IsFound, PartnerCovers};
 use crate::area::Area;
 use crate::changes::{Changes, difference_among};
 use crate::found::Found;
-use crate::pays::{placed_rings, size_of};
+use crate::look::differ_at_a_look;
+use crate::pays::{placed_in, placed_rings, size_of};
 use lvl_cells::Checked;
 use lvl_flat::Fitted;
-use lvl_grid::Window;
 use lvl_view::View;
 use std::alloc::{AllocError, Global};
 
@@ -40,6 +40,9 @@ const POINTS: usize = 65_536;
 /// places one that differs mostly differs too.
 const MOST_IN_VAIN: u8 = 2;
 
+/// Up to how many rings on both sides are compared at once, without a first look at a part of them.
+const MOST_AT_ONCE: u64 = 16_384;
+
 /// What comparisons of whole cells may still cost. Each costs the rings that both cells place, and
 /// once the cells and references of both libraries, since the places of these cells are counted.
 #[derive(Drop)]
@@ -49,28 +52,6 @@ pub(crate) struct Budget {
     /// For each cell of the first library, how many levels below it, with itself, were compared in
     /// vain.
     in_vain: Vec<u8>,
-}
-
-/// A count as it is shared out by length: the part of it that belongs to `part` of `whole`.
-fn share(count: u64, part: u64, whole: u64) -> u64 {
-    let product = u128::from(count).saturating_mul(u128::from(part.min(whole)));
-    let shared = product / u128::from(whole.max(1));
-    u64::try_from(shared).unwrap_or(u64::MAX)
-}
-
-/// How many of the rings that a layout places may be in a window, by the size of its extent.
-fn placed_in(fitted: &Fitted, window: Option<&Window>) -> u64 {
-    let placed = placed_rings(fitted.checked());
-    let Some(window) = window else {
-        return placed;
-    };
-    let all = fitted.extent();
-    let wide = share(
-        placed,
-        window.x0.abs_diff(window.x1),
-        all.x0.abs_diff(all.x1),
-    );
-    share(wide, window.y0.abs_diff(window.y1), all.y0.abs_diff(all.y1))
 }
 
 impl Budget {
@@ -167,6 +148,9 @@ fn are_same_tops(
     }
     let rings = placed_rings(first.checked()).saturating_add(placed_rings(second.checked()));
     if !budget.takes(rings) {
+        return Ok(false);
+    }
+    if rings > MOST_AT_ONCE && differ_at_a_look(alloc, first, second, view, changes, POINTS)? {
         return Ok(false);
     }
     let found = difference_among(alloc, first, second, view, changes, POINTS)?;

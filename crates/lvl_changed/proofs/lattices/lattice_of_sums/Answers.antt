@@ -25,8 +25,8 @@ returns-then-is_single c =
     (subst
     (λ (q : Point). Sums c.args.by.now c.args.outer.now c.args.inner.now (turned_by c.args.by.now l.across) l.columns q
     l.rows) (sym c.in_ok-up.ensures) turned) in
-    if_same (AreSums c.args.by.now c.args.outer.now c.args.inner.now) c.lattice.result
-    (lattice c.in_ok-across.across l.columns c.in_ok-up.up l.rows) sums c.lattice.ensures.same
+    if_same (AreSums c.args.by.now c.args.outer.now c.args.inner.now) c.joined.result
+    (lattice c.in_ok-across.across l.columns c.in_ok-up.up l.rows) sums c.joined.ensures
 
 pub returns-then-comes_first : goal.returns-then-comes_first
 returns-then-comes_first c =
@@ -44,10 +44,10 @@ returns-then-comes_first c =
     let sums : Sums c.args.by.now c.args.outer.now c.args.inner.now k.across k.columns c.in_ok-across.across l.columns =
     subst (λ (q : Point). Sums c.args.by.now c.args.outer.now c.args.inner.now k.across k.columns q l.columns)
     (sym c.in_ok-across.ensures) turned in
-    if_same (AreSums c.args.by.now c.args.outer.now c.args.inner.now) c.lattice-then-comes_first.result
+    if_same (AreSums c.args.by.now c.args.outer.now c.args.inner.now) c.joined-then-comes_first.result
     (lattice c.in_ok-across.across l.columns k.across k.columns)
     (sums_swapped c.args.by.now c.args.outer.now c.args.inner.now k.across k.columns c.in_ok-across.across l.columns
-    first.columns is.columns sums) c.lattice-then-comes_first.ensures.same
+    first.columns is.columns sums) c.joined-then-comes_first.ensures
 
 pub returns : goal.returns
 returns c =
@@ -65,5 +65,5 @@ returns c =
     let sums : Sums c.args.by.now c.args.outer.now c.args.inner.now k.across k.columns c.in_ok-across.across l.columns =
     subst (λ (q : Point). Sums c.args.by.now c.args.outer.now c.args.inner.now k.across k.columns q l.columns)
     (sym c.in_ok-across.ensures) turned in
-    if_same (AreSums c.args.by.now c.args.outer.now c.args.inner.now) c.lattice-2.result
-    (lattice k.across k.columns c.in_ok-across.across l.columns) sums c.lattice-2.ensures.same
+    if_same (AreSums c.args.by.now c.args.outer.now c.args.inner.now) c.joined-2.result
+    (lattice k.across k.columns c.in_ok-across.across l.columns) sums c.joined-2.ensures

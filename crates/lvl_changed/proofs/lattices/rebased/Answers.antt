@@ -22,8 +22,8 @@ returns c =
     c.in_ok-from.ensures c.in_ok-other.ensures) in
     elim c.if-found-gt1.branch [
       | then-found-gt1+then-comes_first+in_ok-listed w ↦
-          subst (λ (es : List Point). AreMovedBy least shifts es) (sym (w.listed-is ∙ w.in_ok-listed.ensures.same))
+          subst (λ (es : List Point). AreMovedBy least shifts es) (sym (w.listed-is ∙ w.in_ok-listed.ensures))
           (rebased_swapped shifts least across up l.columns l.rows is.columns is.rows plain)
       | else-found-gt1+in_ok-listed-2 w ↦
-          subst (λ (es : List Point). AreMovedBy least shifts es) (sym (w.listed-is ∙ w.in_ok-listed-2.ensures.same)) plain
+          subst (λ (es : List Point). AreMovedBy least shifts es) (sym (w.listed-is ∙ w.in_ok-listed-2.ensures)) plain
     ]
