@@ -117,7 +117,7 @@ impl WithIgnored {
             return Err(Cause::Breach(GdsKind::Misplaced(misplaced(kind))));
         }
         self.reading
-            .take(alloc, self.profile.limits, kind, payload)?;
+            .take(alloc, self.profile, kind, payload)?;
         self.last = Some(kind);
         Ok(())
     }
