@@ -21,6 +21,7 @@ use Rattle.gds_elements.specs.declared.fault.ElementRule.TheVariants.{PathType, 
 use Rattle.gds_elements.proofs.Fields.{kinds-snoc}
 use Rattle.gds_elements.proofs.Words.{begun_known}
 use Rattle.gds_elements.proofs.Allowed.{one_opener, boundary_counted, path_counted, aref_counted}
+use Rattle.lvl_path.specs.Repeats.{asked}
 use Rattle.lvl_path.proofs.Lowest.{one_lowest}
 use Rattle.lvl_profile.specs.declared.profile.Profile.{Profile}
 
@@ -44,7 +45,7 @@ one_value profile piece r PathType PathType x y = refl
 one_value profile piece r Oblique Oblique x y = refl
 one_value profile piece r Repetition Repetition x y = refl
 one_value profile piece r (Path f) (Path g) x y =
-    ap (λ (i : PathFault). Path i) (one_lowest (points r.payload) _ f g x.4 y.4)
+    ap (λ (i : PathFault). Path i) (one_lowest (asked profile.ignore.points (points r.payload)) _ f g x.4 y.4)
 one_value profile piece r Points NotClosed x y = absurd (boundary_counted piece (length (points r.payload)) y.1 y.2 x.1)
 one_value profile piece r NotClosed Points x y = absurd (boundary_counted piece (length (points r.payload)) x.1 x.2 y.1)
 one_value profile piece r Points Oblique x y = absurd (boundary_counted piece (length (points r.payload)) y.1 y.2 x.1)

@@ -37,7 +37,7 @@ pub inside_on : {R : Type 0} {remaining : R → Option (List ℕ)} {errors : R �
     (to : ReadTo (inside profile outer (length ys)) ys (input_offset old) Has (bytes_left remaining old)) (r : Record)
     → has_failed old ≡ false → input_profile old ≡ profile
     → Reads remaining errors lent (IsNext true (outer ++ to.records)) old new (Ok (Ok (item r)))
-    → KeepsRules (outer ++ to.records) r → Has' (to.records ++ r ∷ [])
+    → KeepsRules profile (outer ++ to.records) r → Has' (to.records ++ r ∷ [])
     → ReadTo (inside profile outer (length ys)) ys (input_offset new) Has' (bytes_left remaining new)
 inside_on {remaining = remaining} profile outer ys Has Has' {old = old} {new = new} to r live under p keeps has =
     let G = inside profile outer (length ys) in
@@ -90,7 +90,7 @@ pub inside_breached : {R : Type 0} {remaining : R → Option (List ℕ)} {errors
     (to : ReadTo (inside profile outer (length ys)) ys (input_offset old) Has (bytes_left remaining old)) (r : Record)
     (k : OasisKind) → has_failed old ≡ false → input_profile old ≡ profile
     → Reads remaining errors lent (IsNext true (outer ++ to.records)) old new (Ok (Ok (item r)))
-    → RecordBreaches (outer ++ to.records) r k → StopsInside profile outer ys (cause k)
+    → RecordBreaches profile (outer ++ to.records) r k → StopsInside profile outer ys (cause k)
 inside_breached {remaining = remaining} profile outer ys Has {old = old} {new = new} to r (Name k) live under p b =
     let f = (answers_under profile under p live (drop (input_offset old) ys) to.left_is).0 in
     stops_at profile outer ys (input_offset old) Has (bytes_left remaining old) to (Name k)

@@ -4,7 +4,7 @@ use Rattle.std.specs.Ordering.{int_eq}
 use Rattle.lvl_grid.specs.declared.point.Point.{Point}
 use Rattle.lvl_path.specs.Repeats.{asked}
 use Rattle.lvl_path.specs.Runs.{IsLowestFault}
-use Rattle.gds_elements.specs.Types.{path, layer, pathtype, width}
+use Rattle.gds_elements.specs.Types.{path, pathtype, width}
 use Rattle.gds_elements.specs.Order.{an_element, a_path}
 use Rattle.lvl_grammar.specs.Order.{Order}
 use Rattle.gds_elements.specs.Rec.{Rec, kinds, opener, field, last_of}
