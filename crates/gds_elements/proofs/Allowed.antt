@@ -94,7 +94,8 @@ text_counted : (piece : List Rec) (n : ℕ) → opener piece ≡ Some text → n
 text_counted piece n o h = counted piece text n o (grind (arith, h))
 
 -- a record in order whose values breach no rule breaches none
-pub allowed : (profile : Profile) (piece : List Rec) (r : Rec) → InOrder piece r → ((k : ElementRule) → ValueBreaches profile piece r k → ⊥)
+pub allowed : (profile : Profile) (piece : List Rec) (r : Rec) → InOrder piece r → ((k : ElementRule)
+    → ValueBreaches profile piece r k → ⊥)
     → BreachesNone profile piece r
 allowed profile piece r g n (MisplacedRecord (Unexpected j)) x = x.2 g
 allowed profile piece r g n (MisplacedRecord (Unsupported j)) x =
@@ -110,7 +111,8 @@ law_boundary profile piece r o l p Layer x = (let z = l x.0 in omega (arith, int
 law_boundary profile piece r o l p Points x = boundary_counted piece _ o (p x.0).0 x.1
 law_boundary profile piece r o l p NotClosed x = x.3 (p x.0).1
 law_boundary profile piece r o l p Strans x = shape_refers piece boundary o (λ e. omega arith) (λ e. omega arith) x.1
-law_boundary profile piece r o l p Magnification x = shape_refers piece boundary o (λ e. omega arith) (λ e. omega arith) x.1
+law_boundary profile piece r o l p Magnification x = shape_refers piece boundary o (λ e. omega arith)
+    (λ e. omega arith) x.1
 law_boundary profile piece r o l p Angle x = shape_refers piece boundary o (λ e. omega arith) (λ e. omega arith) x.1
 law_boundary profile piece r o l p ColRow x = (let z = one_opener piece boundary aref o x.1 in omega (arith, z))
 law_boundary profile piece r o l p ArrayStep x = (let z = one_opener piece boundary aref o x.1 in omega (arith, z))
@@ -125,7 +127,8 @@ pub law_path : (profile : Profile) (piece : List Rec) (r : Rec) → opener piece
     → (IsLayerNumber r.kind → pos 0 ≤ℤ short r.payload)
     → (r.kind ≡ pathtype → short r.payload ≢ pos 0 → short r.payload ≡ pos 2)
     → (r.kind ≡ width → IsWidth (long r.payload))
-    → (r.kind ≡ xy → (2 ≤ length (points r.payload)) × (last_of width piece ≢ None) × IsPath (asked profile.ignore.points (points r.payload))
+    → (r.kind ≡ xy → (2 ≤ length (points r.payload)) × (last_of width piece ≢ None)
+    × IsPath (asked profile.ignore.points (points r.payload))
     (record { half = half_of piece; start = end_of piece; end = end_of piece }))
     → (k : ElementRule) → ValueBreaches profile piece r k → ⊥
 law_path profile piece r o l t w p Layer x = (let z = l x.0 in omega (arith, ints, z, x.2))
@@ -212,13 +215,15 @@ placing_at_points k p x = record {
 }
 
 -- ENDEL breaches no rule
-pub law_endel : (profile : Profile) (piece : List Rec) (r : Rec) → r.kind ≡ endel → (k : ElementRule) → ValueBreaches profile piece r k → ⊥
+pub law_endel : (profile : Profile) (piece : List Rec) (r : Rec) → r.kind ≡ endel → (k : ElementRule)
+    → ValueBreaches profile piece r k → ⊥
 law_endel profile piece r e Layer x = elim x.0 [ inl y ↦ omega (arith, y, e) | inr y ↦ omega (arith, y, e) ]
 law_endel profile piece r e Width x = elim x.1 [ inl y ↦ omega (arith, y.0, e) | inr y ↦ omega (arith, y.0, e) ]
 law_endel profile piece r e other x = omega (arith, x.0, e)
 
 -- a fault of the points of a boundary is a breach
-pub ring_fault : (profile : Profile) (piece : List Rec) (r : Rec) → opener piece ≡ Some boundary → r.kind ≡ xy → (k : ElementRule)
+pub ring_fault : (profile : Profile) (piece : List Rec) (r : Rec) → opener piece ≡ Some boundary → r.kind ≡ xy
+    → (k : ElementRule)
     → IsRingFault (points r.payload) k → ValueBreaches profile piece r k
 ring_fault profile piece r o x Points b = (x, inl (o, b))
 ring_fault profile piece r o x NotClosed b = (x, o, b.0, b.1)

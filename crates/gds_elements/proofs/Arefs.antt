@@ -87,7 +87,8 @@ steps_of s piece ps h k = (
 )
 
 -- a fault of the points of an array is a breach
-pub array_fault : (profile : Profile) (s : Aref) (piece : List Rec) (r : Rec) → IsArefRead s piece → r.kind ≡ xy → (k : ElementRule)
+pub array_fault : (profile : Profile) (s : Aref) (piece : List Rec) (r : Rec) → IsArefRead s piece → r.kind ≡ xy
+    → (k : ElementRule)
     → IsArrayFault (points r.payload) s.counts.columns s.counts.rows k → ValueBreaches profile piece r k
 array_fault profile s piece r h x PointsFault b = (x, inr (inr (inl (h.opened, b))))
 array_fault profile s piece r h x ArrayStep b = (

@@ -29,7 +29,8 @@ two_openers : (piece : List Rec) (k j : ℕ) → opener piece ≡ Some k → ope
 two_openers piece k j o p n = n (one_opener piece k j o p)
 
 -- the values of a record breach at most one rule
-pub one_value : (profile : Profile) (piece : List Rec) (r : Rec) (j k : ElementRule) → ValueBreaches profile piece r j → ValueBreaches profile piece r k
+pub one_value : (profile : Profile) (piece : List Rec) (r : Rec) (j k : ElementRule) → ValueBreaches profile piece r j
+    → ValueBreaches profile piece r k
     → j ≡ k
 one_value profile piece r Layer Layer x y = refl
 one_value profile piece r Points Points x y = refl
@@ -98,10 +99,22 @@ one_value profile piece r Width Layer x y =
       | inl z ↦ elim y.0 [ inl e ↦ omega (arith, e, z.0) | inr e ↦ omega (arith, e, z.0) ]
       | inr z ↦ elim y.0 [ inl e ↦ omega (arith, e, z.0) | inr e ↦ omega (arith, e, z.0) ]
     ])
-one_value profile piece r Layer k x y = absurd (elim x.0 [ inl e ↦ omega (arith, e, y.0) | inr e ↦ omega (arith, e, y.0) ])
-one_value profile piece r j Layer x y = absurd (elim y.0 [ inl e ↦ omega (arith, e, x.0) | inr e ↦ omega (arith, e, x.0) ])
-one_value profile piece r Width k x y = absurd (elim x.1 [ inl z ↦ omega (arith, z.0, y.0) | inr z ↦ omega (arith, z.0, y.0) ])
-one_value profile piece r j Width x y = absurd (elim y.1 [ inl z ↦ omega (arith, z.0, x.0) | inr z ↦ omega (arith, z.0, x.0) ])
+one_value profile piece r Layer k x y = absurd (elim x.0 [
+  | inl e ↦ omega (arith, e, y.0)
+  | inr e ↦ omega (arith, e, y.0)
+])
+one_value profile piece r j Layer x y = absurd (elim y.0 [
+  | inl e ↦ omega (arith, e, x.0)
+  | inr e ↦ omega (arith, e, x.0)
+])
+one_value profile piece r Width k x y = absurd (elim x.1 [
+  | inl z ↦ omega (arith, z.0, y.0)
+  | inr z ↦ omega (arith, z.0, y.0)
+])
+one_value profile piece r j Width x y = absurd (elim y.1 [
+  | inl z ↦ omega (arith, z.0, x.0)
+  | inr z ↦ omega (arith, z.0, x.0)
+])
 one_value profile piece r j k x y = absurd (omega (arith, x.0, y.0))
 
 known_there : (piece : List Rec) (r : Rec) → InOrder piece r → IsKnown r.kind
@@ -121,7 +134,8 @@ not_misplaced ordered r (Unexpected j) g i x = x.2 g
 not_misplaced ordered r (Unsupported j) g i x = x.2 (subst IsKnown x.0 i)
 
 -- a record breaches at most one rule
-pub one_rule : (profile : Profile) (piece : List Rec) (r : Rec) (f g : ElementFault) → ElementBreaches profile piece r f → ElementBreaches profile piece r g
+pub one_rule : (profile : Profile) (piece : List Rec) (r : Rec) (f g : ElementFault) → ElementBreaches profile piece r f
+    → ElementBreaches profile piece r g
     → f ≡ g
 one_rule profile piece r (MisplacedRecord m) (MisplacedRecord n) x y =
     ap (λ (i : Misplaced). MisplacedRecord i) (one_misplaced (InOrder piece r) r m n x y)
@@ -129,7 +143,8 @@ one_rule profile piece r (MisplacedRecord m) (Rule k) x y =
     absurd (not_misplaced (InOrder piece r) r m y.0 (known_there piece r y.0) x)
 one_rule profile piece r (Rule j) (MisplacedRecord n) x y =
     absurd (not_misplaced (InOrder piece r) r n x.0 (known_there piece r x.0) y)
-one_rule profile piece r (Rule j) (Rule k) x y = ap (λ (i : ElementRule). Rule i) (one_value profile piece r j k x.1 y.1)
+one_rule profile piece r (Rule j) (Rule k) x y = ap (λ (i : ElementRule). Rule i)
+    (one_value profile piece r j k x.1 y.1)
 
 -- a type whose value may breach a rule
 abbrev pub is_value : ℕ → Bool
@@ -141,7 +156,8 @@ at_value : (k j : ℕ) → is_value j ≡ true → k ≡ j → is_value k ≡ tr
 at_value k j h e = subst (λ i. is_value i ≡ true) (sym e) h
 
 -- only such a type breaches a rule
-pub value_breaches : (profile : Profile) (piece : List Rec) (r : Rec) (k : ElementRule) → ValueBreaches profile piece r k → is_value r.kind ≡ true
+pub value_breaches : (profile : Profile) (piece : List Rec) (r : Rec) (k : ElementRule)
+    → ValueBreaches profile piece r k → is_value r.kind ≡ true
 value_breaches profile piece r Layer x =
     elim x.0 [ inl e ↦ at_value r.kind layer refl e | inr e ↦ at_value r.kind datatype refl e ]
 value_breaches profile piece r Points x = at_value r.kind xy refl x.0

@@ -114,10 +114,12 @@ path_ends p piece r h rings i a x w e =
     }
 
 -- a fault of the points of a path is a breach
-pub bands_fault : (profile : Profile) (p : Path) (piece : List Rec) (r : Rec) → IsPathRead p piece → r.kind ≡ xy → (k : ElementRule)
+pub bands_fault : (profile : Profile) (p : Path) (piece : List Rec) (r : Rec) → IsPathRead p piece → r.kind ≡ xy
+    → (k : ElementRule)
     → IsBandsFault profile.ignore.points (points r.payload) p.half p.square k → ValueBreaches profile piece r k
 bands_fault profile p piece r h x PointsFault b = (x, inr (inl (h.opened, b)))
-bands_fault profile p piece r h x WidthFault b = (h.opened, inr (x, b.0, none_half (last_of width piece) (sym h.half ∙ b.1)))
+bands_fault profile p piece r h x WidthFault b =
+    (h.opened, inr (x, b.0, none_half (last_of width piece) (sym h.half ∙ b.1)))
 bands_fault profile p piece r h x (PathFault f) (n, half, e, low) =
     let ps = asked profile.ignore.points (points r.payload) in
     let low' = subst (λ (i : ℕ). IsLowestFault ps (record { half = half; start = i; end = i }) f)

@@ -155,7 +155,8 @@ refuses_essential profile before r k e c b = (
 
 pub says_essential : (profile : Profile) (before : List Rec) (r : Rec) (x : Cause GdsKind) → is_passed profile r ≡ false
     → (AwaitsValue before → ⊥)
-    → Says x (λ k. Breaches profile (essential profile before) r k × BreachesOnly profile (essential profile before) r k)
+    → Says x (λ k. Breaches profile (essential profile before) r k
+    × BreachesOnly profile (essential profile before) r k)
     → Says x (λ k. BreachesBy profile before r k × BreachesOnlyBy profile before r k)
 says_essential profile before r (Breach k) e c b = refuses_essential profile before r k e c b
 says_essential profile before r OutOfMemory e c b = tt

@@ -73,7 +73,8 @@ nowhere b rs r h o e g =
     leads_nowhere (kinds rs) b.stage r.kind h.leads o e (subst (Begins a_library) (kinds-snoc rs r) g)
 
 -- a fault by the table is a breach after the records that lead there
-pub law_fault : (profile : Profile) (b : Builder) (rs : List Rec) (r : Rec) (f : GdsKind) → Holds b rs → OpensNothing b.stage r.kind
+pub law_fault : (profile : Profile) (b : Builder) (rs : List Rec) (r : Rec) (f : GdsKind) → Holds b rs
+    → OpensNothing b.stage r.kind
     → r.kind < 60 → IsFault profile.limits b.stage (length b.cells.cells) r.kind r.payload f → Breaches profile rs r f
 law_fault profile b rs r (Record f) h o l x = absurd x
 law_fault profile b rs r (Misplaced m) h o l x = misplaced_as (InOrder rs r) r m (nowhere b rs r h o x.1) l x.0
@@ -97,11 +98,13 @@ order_known : (b : Builder) (rs : List Rec) (r : Rec) → Holds b rs → OpensNo
 order_known b rs r h o l g = known_at b rs r (after b.stage r.kind) h o l g refl
 
 -- a record breaches no rule of an element if none tests its type
-pub no_rule : (profile : Profile) (piece : List Rec) (r : Rec) (k : ElementRule) → is_value r.kind ≡ false → ValueBreaches profile piece r k → ⊥
+pub no_rule : (profile : Profile) (piece : List Rec) (r : Rec) (k : ElementRule) → is_value r.kind ≡ false
+    → ValueBreaches profile piece r k → ⊥
 no_rule profile piece r k v x = (let z : true ≡ false = sym (value_breaches profile piece r k x) ∙ v in cc)
 
 -- a record that may not come next breaches no other rule
-misplaced_only : (profile : Profile) (rs : List Rec) (r : Rec) (m : Misplacement) → (InOrder rs r → ⊥) → IsMisplacedAs (InOrder rs r) r m
+misplaced_only : (profile : Profile) (rs : List Rec) (r : Rec) (m : Misplacement) → (InOrder rs r → ⊥)
+    → IsMisplacedAs (InOrder rs r) r m
     → BreachesOnly profile rs r (Misplaced m)
 misplaced_only profile rs r m n x (Record f) y = absurd y
 misplaced_only profile rs r m n x (Misplaced j) y =
@@ -112,7 +115,8 @@ misplaced_only profile rs r m n x AfterEnd y = absurd y
 misplaced_only profile rs r m n x TooManyCells y = absurd (n y.0)
 
 -- one that may come next, and whose value no rule of an element tests, can only breach Name and TooManyCells
-one_value : (profile : Profile) (rs : List Rec) (r : Rec) → is_value r.kind ≡ false → InOrder rs r → IsKnown r.kind → (k : GdsKind)
+one_value : (profile : Profile) (rs : List Rec) (r : Rec) → is_value r.kind ≡ false → InOrder rs r → IsKnown r.kind
+    → (k : GdsKind)
     → Breaches profile rs r k → ((k ≡ Name) × (r.kind ≡ strname)) ⊎ ((k ≡ TooManyCells) × (r.kind ≡ bgnstr))
 one_value profile rs r v g i (Record f) x = absurd x
 one_value profile rs r v g i (Misplaced m) x = absurd (not_misplaced (InOrder rs r) r m g i x)
@@ -121,22 +125,28 @@ one_value profile rs r v g i Name x = inl (refl, x.1)
 one_value profile rs r v g i AfterEnd x = absurd x
 one_value profile rs r v g i TooManyCells x = inr (refl, x.1)
 
-value_at : (profile : Profile) (b : Builder) (rs : List Rec) (r : Rec) (t : Option LibraryStage) → Holds b rs → OpensNothing b.stage r.kind
+value_at : (profile : Profile) (b : Builder) (rs : List Rec) (r : Rec) (t : Option LibraryStage) → Holds b rs
+    → OpensNothing b.stage r.kind
     → r.kind < 60 → after b.stage r.kind ≡ t → t ≢ None
-    → (k : GdsKind) → Breaches profile rs r k → ((k ≡ Name) × (r.kind ≡ strname)) ⊎ ((k ≡ TooManyCells) × (r.kind ≡ bgnstr))
+    → (k : GdsKind) → Breaches profile rs r k → ((k ≡ Name) × (r.kind ≡ strname)) ⊎ ((k ≡ TooManyCells)
+    × (r.kind ≡ bgnstr))
 value_at profile b rs r None h o l e n = absurd (n refl)
 value_at profile b rs r (Some q) h o l e n =
     let g = stands_at b rs r (Some q) h e n in
     one_value profile rs r (outside_after b.stage q r.kind e).value g (order_known b rs r h o l g)
 
-value_only : (profile : Profile) (b : Builder) (rs : List Rec) (r : Rec) → Holds b rs → OpensNothing b.stage r.kind → r.kind < 60
+value_only : (profile : Profile) (b : Builder) (rs : List Rec) (r : Rec) → Holds b rs → OpensNothing b.stage r.kind
+    → r.kind < 60
     → after b.stage r.kind ≢ None
-    → (k : GdsKind) → Breaches profile rs r k → ((k ≡ Name) × (r.kind ≡ strname)) ⊎ ((k ≡ TooManyCells) × (r.kind ≡ bgnstr))
+    → (k : GdsKind) → Breaches profile rs r k → ((k ≡ Name) × (r.kind ≡ strname)) ⊎ ((k ≡ TooManyCells)
+    × (r.kind ≡ bgnstr))
 value_only profile b rs r h o l n = value_at profile b rs r (after b.stage r.kind) h o l refl n
 
 -- a fault by the table is the only breach
-law_only : (profile : Profile) (b : Builder) (rs : List Rec) (r : Rec) (f : GdsKind) → Holds b rs → OpensNothing b.stage r.kind
-    → r.kind < 60 → IsFault profile.limits b.stage (length b.cells.cells) r.kind r.payload f → BreachesOnly profile rs r f
+law_only : (profile : Profile) (b : Builder) (rs : List Rec) (r : Rec) (f : GdsKind) → Holds b rs
+    → OpensNothing b.stage r.kind
+    → r.kind < 60 → IsFault profile.limits b.stage (length b.cells.cells) r.kind r.payload f
+    → BreachesOnly profile rs r f
 law_only profile b rs r (Record f) h o l x = absurd x
 law_only profile b rs r (Misplaced m) h o l x =
     (let n = nowhere b rs r h o x.1 in misplaced_only profile rs r m n (misplaced_as (InOrder rs r) r m n l x.0))
@@ -148,8 +158,10 @@ law_only profile b rs r TooManyCells h o l x =
     λ i y. elim (value_only profile b rs r h o l x.1 i y) [ inl z ↦ absurd (omega (arith, x.0, z.1)) | inr z ↦ z.0 ]
 
 pub says_fault : (profile : Profile) (b : Builder) (rs : List Rec) (r : Rec) (e : Cause GdsKind) → Holds b rs
-    → OpensNothing b.stage r.kind → r.kind < 60 → Says e (IsFault profile.limits b.stage (length b.cells.cells) r.kind r.payload)
+    → OpensNothing b.stage r.kind → r.kind < 60
+    → Says e (IsFault profile.limits b.stage (length b.cells.cells) r.kind r.payload)
     → Says e (λ k. Breaches profile rs r k × BreachesOnly profile rs r k)
 says_fault profile b rs r e h o l x =
-    says_carried e (IsFault profile.limits b.stage (length b.cells.cells) r.kind r.payload) (λ k. Breaches profile rs r k
+    says_carried e (IsFault profile.limits b.stage (length b.cells.cells) r.kind r.payload)
+    (λ k. Breaches profile rs r k
     × BreachesOnly profile rs r k) (λ f y. (law_fault profile b rs r f h o l y, law_only profile b rs r f h o l y)) x

@@ -216,7 +216,8 @@ layer_follows : MayFollow strict (take 7 square) (rec 0x0D 2 (0 ∷ 1 ∷ []))
 layer_follows =
     let r = rec 0x0D 2 (0 ∷ 1 ∷ []) in
     inside strict 8 (take 7 square) (rec 0x08 0 [] ∷ []) r refl refl refl refl (0x0E ∷ 0x10 ∷ 0x11 ∷ [], element)
-    (law_boundary strict (rec 0x08 0 [] ∷ []) r refl (λ _. omega (arith, ints)) (λ e. absurd (is_not 0x0D xy refl e))) word
+    (law_boundary strict (rec 0x08 0 [] ∷ []) r refl (λ _. omega (arith, ints)) (λ e. absurd
+    (is_not 0x0D xy refl e))) word
 
 datatype_follows : MayFollow strict (take 8 square) (rec 0x0E 2 (0 ∷ 0 ∷ []))
 datatype_follows =
@@ -251,7 +252,8 @@ ends_follow = (
 
 element_follows : FollowAll (gds strict) (take 6 square) (drop 6 square)
 element_follows = (
-  follows (take 6 square) (rec 0x08 0 []) (plain strict 7 (take 6 square) (rec 0x08 0 []) refl refl refl word) (λ w. cc),
+  follows (take 6 square) (rec 0x08 0 []) (plain strict 7 (take 6 square) (rec 0x08 0 []) refl refl refl word)
+      (λ w. cc),
   (
     follows (take 7 square) (rec 0x0D 2 (0 ∷ 1 ∷ [])) layer_follows (λ w. cc),
     (

@@ -63,8 +63,10 @@ pub may_follow : (profile : Profile) (rs : List Rec) (r : Rec) → is_value r.ki
 may_follow profile rs r v g m c = (g, record { element = λ k x. no_rule profile _ r k v x; name = m; cells = c })
 
 -- a record of an element may follow if it breaches no rule of the element
-pub may_follow_inside : (profile : Profile) (rs piece : List Rec) (r : Rec) → last_piece is_opener rs ≡ piece → KeepsElement profile piece r
-    → InOrderInElement piece r → InOrder rs r → r.kind == strname ≡ false → r.kind == bgnstr ≡ false → MayFollow profile rs r
+pub may_follow_inside : (profile : Profile) (rs piece : List Rec) (r : Rec) → last_piece is_opener rs ≡ piece
+    → KeepsElement profile piece r
+    → InOrderInElement piece r → InOrder rs r → r.kind == strname ≡ false → r.kind == bgnstr ≡ false
+    → MayFollow profile rs r
 may_follow_inside profile rs piece r e n o g s b = (
   g,
   record {
@@ -94,8 +96,11 @@ breach_inside : (profile : Profile) (before piece : List Rec) (r : Rec) (f : Ele
     → ElementBreaches profile piece r f → Breaches profile (before ++ piece) r (lifted f)
 breach_inside profile before piece r (MisplacedInElement m) h o p x =
     misplaced_carried (InOrderInElement piece r) (InOrder (before ++ piece) r) r m (order_element before piece r h o) x
-breach_inside profile before piece r (Rule k) h o p x =
-    (order_inside before piece r h x.0, subst (λ l. BreachesInElement profile l r k) (sym (last_opened before piece p)) x.1)
+breach_inside profile before piece r (Rule k) h o p x = (
+  order_inside before piece r h x.0,
+  subst (λ l. BreachesInElement profile l r k) (sym
+      (last_opened before piece p)) x.1,
+)
 
 last_one : (P : Rec → Type 0) (xs : List Rec) (r : Rec) → AllByRecursion P (xs ++ r ∷ []) → P r
 last_one P [] r h = h.0
@@ -119,7 +124,8 @@ never_inside before piece r j h o p g a b e =
     is_not r.kind j (last_lacks piece r j more a b) e
 
 -- and conversely
-breach_back : (profile : Profile) (before piece : List Rec) (r : Rec) (k : GdsKind) → LeadsTo a_library (kinds before) (left Elements)
+breach_back : (profile : Profile) (before piece : List Rec) (r : Rec) (k : GdsKind)
+    → LeadsTo a_library (kinds before) (left Elements)
     → IsOpen (kinds piece) → IsPiece piece → Breaches profile (before ++ piece) r k
     → (f : ElementFault) × (k ≡ lifted f) × ElementBreaches profile piece r f
 breach_back profile before piece r (Record f) h o p x = absurd x
@@ -140,10 +146,13 @@ breach_back profile before piece r (Element k) h o p x = (
 )
 breach_back profile before piece r Name h o p x = absurd (never_inside before piece r strname h o p x.0 refl refl x.1)
 breach_back profile before piece r AfterEnd h o p x = absurd x
-breach_back profile before piece r TooManyCells h o p x = absurd (never_inside before piece r bgnstr h o p x.0 refl refl x.1)
+breach_back profile before piece r TooManyCells h o p x = absurd
+    (never_inside before piece r bgnstr h o p x.0 refl refl x.1)
 
-breaches_both : (profile : Profile) (b : Builder) (e : OpenElement) (rs : List Rec) (r : Rec) (f : ElementFault) (i : IsInside b e rs)
-    → ElementBreaches profile i.piece r f → OnlyInElement profile i.piece r f → Breaches profile rs r (lifted f) × BreachesOnly profile rs r (lifted f)
+breaches_both : (profile : Profile) (b : Builder) (e : OpenElement) (rs : List Rec) (r : Rec) (f : ElementFault)
+    (i : IsInside b e rs)
+    → ElementBreaches profile i.piece r f → OnlyInElement profile i.piece r f → Breaches profile rs r (lifted f)
+    × BreachesOnly profile rs r (lifted f)
 breaches_both profile b e rs r f i x only =
     let h = subst (λ p. LeadsTo a_library (kinds i.before) (left p)) i.at i.holds.leads in
     let o = reading_open e i.piece i.reading in
@@ -154,7 +163,8 @@ breaches_both profile b e rs r f i x only =
           z.1 ∙ ap lifted (only z.0 z.2),
     )
 
-says_lifted : (profile : Profile) (b : Builder) (e : OpenElement) (rs : List Rec) (r : Rec) (f : Cause ElementFault) (i : IsInside b e rs)
+says_lifted : (profile : Profile) (b : Builder) (e : OpenElement) (rs : List Rec) (r : Rec) (f : Cause ElementFault)
+    (i : IsInside b e rs)
     → Says f (ElementBreaches profile i.piece r) → Says f (OnlyInElement profile i.piece r)
     → Says (lifted_refusal f) (λ k. Breaches profile rs r k × BreachesOnly profile rs r k)
 says_lifted profile b e rs r (Breach k) i x only = breaches_both profile b e rs r k i x only
@@ -174,7 +184,8 @@ pub none_open : (b : Builder) (e : Option OpenElement) (rs : List Rec) → e ≡
 none_open b e rs none h = subst (λ (o : Option OpenElement). HoldsWith o b rs) (sym none) h
 
 -- a refusal that is passed on
-pub takes_refused : (profile : Profile) {A : Type 0} (rs : List Rec) (r : Rec) (x : Reading) (res : Result A (Cause GdsKind))
+pub takes_refused : (profile : Profile) {A : Type 0} (rs : List Rec) (r : Rec) (x : Reading) (res : Result A
+    (Cause GdsKind))
     (e : Cause GdsKind) → IsErr res × IsErrAnd res (λ f. f ≡ e)
     → Says e (λ k. Breaches profile rs r k × BreachesOnly profile rs r k) → Takes profile rs r x res
 takes_refused profile rs r x (Ok v) e h b = absurd h.1
@@ -219,16 +230,20 @@ law_holds b b' rs r h e s k =
     }
 
 -- and breaches no rule
-pub law_allowed : (profile : Profile) (b b' : Builder) (rs : List Rec) (r : Rec) → Holds b rs → Holds b' (rs ++ r ∷ []) → r.kind < 60
-    → after b.stage r.kind ≡ Some b'.stage → IsAllowed profile.limits (length b.cells.cells) r.kind r.payload → MayFollow profile rs r
+pub law_allowed : (profile : Profile) (b b' : Builder) (rs : List Rec) (r : Rec) → Holds b rs → Holds b' (rs ++ r ∷ [])
+    → r.kind < 60
+    → after b.stage r.kind ≡ Some b'.stage → IsAllowed profile.limits (length b.cells.cells) r.kind r.payload
+    → MayFollow profile rs r
 law_allowed profile b b' rs r h h' l e a =
-    may_follow profile rs r (outside_after b.stage b'.stage r.kind e).value (leads_begins (kinds (rs ++ r ∷ [])) b'.stage
+    may_follow profile rs r (outside_after b.stage b'.stage r.kind e).value (leads_begins (kinds
+    (rs ++ r ∷ [])) b'.stage
     h'.leads) a.name
     (λ k. (let n = cells_shown b.stage b'.stage b (subst (λ i. after b.stage i ≡ Some b'.stage) k e) in
     omega (arith, a.cells k, n, ap (λ ds. length ds) h.shown, kept_many rs)))
 
 -- a zero byte after ENDLIB breaches no rule
-pub law_fill : (profile : Profile) (rs : List Rec) → Begins a_library (kinds (rs ++ a_fill ∷ [])) → MayFollow profile rs a_fill
+pub law_fill : (profile : Profile) (rs : List Rec) → Begins a_library (kinds (rs ++ a_fill ∷ []))
+    → MayFollow profile rs a_fill
 law_fill profile rs g =
     may_follow profile rs a_fill (outside_after Fill Fill fill refl).value g (λ e. absurd (omega (arith, e)))
     (λ e. absurd (omega (arith, e)))
@@ -265,7 +280,8 @@ inside_begins b e rs i =
 
 -- one more record of an open element, which stays open
 pub law_inside : (profile : Profile) (b : Builder) (e e' : OpenElement) (rs : List Rec) (r : Rec) (i : IsInside b e rs)
-    → IsReading e' (i.piece ++ r ∷ []) → KeepsElement profile i.piece r → IsInside b e' (rs ++ r ∷ []) × MayFollow profile rs r
+    → IsReading e' (i.piece ++ r ∷ []) → KeepsElement profile i.piece r → IsInside b e' (rs ++ r ∷ [])
+    × MayFollow profile rs r
 law_inside profile b e e' rs r i re n =
     let next : IsInside b e' (rs ++ r ∷ []) = record {
       before = i.before;
@@ -285,7 +301,8 @@ law_inside profile b e e' rs r i re n =
     )
 
 -- the ENDEL of an open element
-pub law_whole : (profile : Profile) (b b' : Builder) (e : OpenElement) (rs : List Rec) (r : Rec) (d : Drawn) (i : IsInside b e rs)
+pub law_whole : (profile : Profile) (b b' : Builder) (e : OpenElement) (rs : List Rec) (r : Rec) (d : Drawn)
+    (i : IsInside b e rs)
     → IsWord an_element (kinds (i.piece ++ r ∷ [])) × IsDrawn d (i.piece ++ r ∷ []) → KeepsElement profile i.piece r
     → b'.stage ≡ b.stage → b'.version ≡ b.version → b'.units ≡ b.units
     → shown b' ≡ on_last (with_drawn (shapes_in d) (references_in d)) (shown b)
@@ -306,7 +323,8 @@ law_whole profile b b' e rs r d i w n p v u s =
     )
 
 -- the record that opens an element
-pub law_opens : (profile : Profile) (b : Builder) (e : OpenElement) (rs : List Rec) (r : Rec) → Holds b rs → b.stage ≡ Elements
+pub law_opens : (profile : Profile) (b : Builder) (e : OpenElement) (rs : List Rec) (r : Rec) → Holds b rs
+    → b.stage ≡ Elements
     → IsReading e (r ∷ []) → IsInside b e (rs ++ r ∷ []) × MayFollow profile rs r
 law_opens profile b e rs r h at re =
     let next : IsInside b e (rs ++ r ∷ []) = record {

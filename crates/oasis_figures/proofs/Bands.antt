@@ -110,7 +110,8 @@ has_reaches earlier p v s e a r =
     }
 
 -- if the vertices fit, no rule before Extension is breached
-before_extension : (ignore : Ignore) (earlier : List Record) (p : Path) (v : Resolved) (qs : List Point) → IsRead earlier p v qs
+before_extension : (ignore : Ignore) (earlier : List Record) (p : Path) (v : Resolved) (qs : List Point)
+    → IsRead earlier p v qs
     → All FitsPoint qs
     → (other : FigureRule) → order other < 5 → ¬ Breaks ignore earlier (a_path p) other
 before_extension ignore earlier p v qs a h (Undefined x) lt b =
@@ -126,13 +127,16 @@ before_extension ignore earlier p v qs a h Oblique lt b = b
 before_extension ignore earlier p v qs a h (PathRule f) lt b = omega (arith, lt)
 
 -- if in addition no extension is negative, no rule before Path is breached
-before_path : (ignore : Ignore) (earlier : List Record) (p : Path) (v : Resolved) (qs : List Point) (s e : ℕ) → IsRead earlier p v qs
+before_path : (ignore : Ignore) (earlier : List Record) (p : Path) (v : Resolved) (qs : List Point) (s e : ℕ)
+    → IsRead earlier p v qs
     → All FitsPoint qs
     → HasReaches earlier p s e → (other : FigureRule) → order other < 7 → ¬ Breaks ignore earlier (a_path p) other
 before_path ignore earlier p v qs s e a h r (Undefined x) lt b =
     before_extension ignore earlier p v qs a h (Undefined x) (omega arith) b
-before_path ignore earlier p v qs s e a h r WideLayer lt b = before_extension ignore earlier p v qs a h WideLayer (omega arith) b
-before_path ignore earlier p v qs s e a h r OutOfRange lt b = before_extension ignore earlier p v qs a h OutOfRange (omega arith) b
+before_path ignore earlier p v qs s e a h r WideLayer lt b = before_extension ignore earlier p v qs a h WideLayer
+    (omega arith) b
+before_path ignore earlier p v qs s e a h r OutOfRange lt b = before_extension ignore earlier p v qs a h OutOfRange
+    (omega arith) b
 before_path ignore earlier p v qs s e a h r Magnification lt b = b
 before_path ignore earlier p v qs s e a h r Angle lt b = b
 before_path ignore earlier p v qs s e a h r Extension lt b =
@@ -183,20 +187,24 @@ as_given P earlier p v qs s e a r x =
     (sym (ap number a.values.half))
     (sym (ap reach r.start)) (sym (ap reach r.end)) x
 
-bands_breached : (ignore : Ignore) (earlier : List Record) (p : Path) (v : Resolved) (qs : List Point) (s e : ℕ) (rule : FigureRule)
+bands_breached : (ignore : Ignore) (earlier : List Record) (p : Path) (v : Resolved) (qs : List Point) (s e : ℕ)
+    (rule : FigureRule)
     → IsRead earlier p v qs
     → All FitsPoint qs → HasReaches earlier p s e → BandsBreak ignore.points qs v.stroke.half s e rule
     → Breaches ignore earlier (a_path p) rule
 bands_breached ignore earlier p v qs s e (PathRule f) a h r b = record {
-  broken = as_given (λ (l : List Point) (i j k : ℕ). IsLowestFault (asked ignore.points l) (record { half = i; start = j; end = k }) f)
+  broken = as_given (λ (l : List Point) (i j k : ℕ). IsLowestFault (asked ignore.points l)
+      (record { half = i; start = j; end = k }) f)
       earlier p v qs s e a r b;
   first = before_path ignore earlier p v qs s e a h r;
 }
 bands_breached ignore earlier p v qs s e _ a h r b = absurd b
 
-pub bands_refused : (ignore : Ignore) (m : Modal) (p : Path) (v : Resolved) (qs : List Point) (s e : ℕ) (x : Cause FigureRule)
+pub bands_refused : (ignore : Ignore) (m : Modal) (p : Path) (v : Resolved) (qs : List Point) (s e : ℕ)
+    (x : Cause FigureRule)
     → IsReadAfter m p v qs
-    → All FitsPoint qs → reaches v.stroke.start v.stroke.end ≡ Some (s, e) → Says x (BandsBreak ignore.points qs v.stroke.half s e)
+    → All FitsPoint qs → reaches v.stroke.start v.stroke.end ≡ Some (s, e)
+    → Says x (BandsBreak ignore.points qs v.stroke.half s e)
     → Says x (BreachesAfter ignore m (a_path p))
 bands_refused ignore m p v qs s e (Breach rule) read h r b = λ earlier st.
     let a = read earlier st in
@@ -215,13 +223,15 @@ no_later ignore earlier p s e r k Extension lt b =
 no_later ignore earlier p s e r k Oblique lt b = b
 no_later ignore earlier p s e r k (PathRule f) lt b = k f b
 
-pub path_none : (ignore : Ignore) (earlier : List Record) (p : Path) (v : Resolved) (qs : List Point) (s e : ℕ) → IsRead earlier p v qs
+pub path_none : (ignore : Ignore) (earlier : List Record) (p : Path) (v : Resolved) (qs : List Point) (s e : ℕ)
+    → IsRead earlier p v qs
     → All FitsPoint qs
     → HasReaches earlier p s e → IsPath (asked ignore.points qs) (record { half = v.stroke.half; start = s; end = e })
     → BreachesNone ignore earlier (a_path p)
 path_none ignore earlier p v qs s e a h r x =
     let fits = subst (λ (ps : List Point). All FitsPoint ps) a.points h in
-    let good = as_given (λ (l : List Point) (i j k : ℕ). IsPath (asked ignore.points l) (record { half = i; start = j; end = k })) earlier p
+    let good = as_given (λ (l : List Point) (i j k : ℕ). IsPath (asked ignore.points l)
+    (record { half = i; start = j; end = k })) earlier p
     v qs s e a r x in
     no_rule ignore earlier (a_path p) a.values.known.defined a.values.known.narrow
     (λ out. out (subst FitsPoint (sym a.values.at) a.values.fits, fits))
@@ -239,7 +249,8 @@ path_drawn earlier p v qs rings s e a r x =
     ≡ path_rings (without_repeats l) (record { half = i; start = j; end = k })) earlier p v qs s e a r x in
     record {
       shapes = shape_is v.on (layer_of all) rings.items
-          (path_rings (without_repeats (path_points all)) (record { half = half_of all; start = start_of all; end = end_of all }))
+          (path_rings (without_repeats (path_points all))
+          (record { half = half_of all; start = start_of all; end = end_of all }))
           (shifts_of earlier (a_path p)) layer bands;
       placements = refl;
     }

@@ -59,7 +59,8 @@ no_rule ignore earlier r d n m k Oblique b = k Oblique (omega arith) b
 no_rule ignore earlier r d n m k (Path f) b = k (Path f) (omega arith) b
 
 -- a record whose values are known breaches no rule before OutOfRange
-pub known_first : (ignore : Ignore) (earlier : List Record) (r : Record) → IsKnown earlier r → (other : FigureRule) → order other < 2
+pub known_first : (ignore : Ignore) (earlier : List Record) (r : Record) → IsKnown earlier r → (other : FigureRule)
+    → order other < 2
     → ¬ Breaks ignore earlier r other
 known_first ignore earlier r k (Undefined v) lt b = none_some (sym k.defined ∙ b)
 known_first ignore earlier r k WideLayer lt b = k.narrow b
@@ -92,12 +93,14 @@ position_after m earlier r s =
     sym (before ∙ mode)
 
 -- if all variables are defined, no rule before WideLayer is breached
-wide_first : (ignore : Ignore) (earlier : List Record) (r : Record) → AreDefined earlier r → (other : FigureRule) → order other < 1
+wide_first : (ignore : Ignore) (earlier : List Record) (r : Record) → AreDefined earlier r → (other : FigureRule)
+    → order other < 1
     → ¬ Breaks ignore earlier r other
 wide_first ignore earlier r d (Undefined v) lt b = none_some (sym d ∙ b)
 wide_first ignore earlier r d _ lt b = omega (arith, lt)
 
-pub wide_breached : (ignore : Ignore) (earlier : List Record) (r : Record) → AreDefined earlier r → HasWideLayer earlier r
+pub wide_breached : (ignore : Ignore) (earlier : List Record) (r : Record) → AreDefined earlier r
+    → HasWideLayer earlier r
     → Breaches ignore earlier r WideLayer
 wide_breached ignore earlier r d w = record { broken = w; first = wide_first ignore earlier r d }
 

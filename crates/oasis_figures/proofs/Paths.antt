@@ -103,7 +103,8 @@ stroke_known m earlier p t vs s a q =
     next f TheLayer (Datatype ∷ PathHalfWidth ∷ PathStartExtension ∷ PathEndExtension ∷ vs)
     (ap is_some (layer_at m earlier p t s a)) datatype
 
-pub list_unknown : (ignore : Ignore) (m : Modal) (earlier : List Record) (p : Path) (t : Stroke) → StandsFor m earlier → IsStroke m p t
+pub list_unknown : (ignore : Ignore) (m : Modal) (earlier : List Record) (p : Path) (t : Stroke) → StandsFor m earlier
+    → IsStroke m p t
     → has_list m p ≡ false → Breaches ignore earlier (a_path p) (Undefined PathPointList)
 list_unknown ignore m earlier p t s a k =
     let f = defined earlier p in
@@ -123,7 +124,8 @@ list_known m earlier p t s a k q =
     let here = ap (λ (o : Option (List Point)). is_some (option_or p.points o)) (sym s.path) ∙ k in
     stroke_known m earlier p t (PathPointList ∷ vs) s a (next (defined earlier p) PathPointList vs here q)
 
-pub repetition_unknown : (ignore : Ignore) (m : Modal) (earlier : List Record) (p : Path) (t : Stroke) → StandsFor m earlier
+pub repetition_unknown : (ignore : Ignore) (m : Modal) (earlier : List Record) (p : Path) (t : Stroke)
+    → StandsFor m earlier
     → IsStroke m p t
     → has_list m p ≡ true → is_known p.position.repetition m.repetition ≡ false
     → Breaches ignore earlier (a_path p) (Undefined TheRepetition)
@@ -137,7 +139,8 @@ all_defined m earlier p t s a k n =
     list_known m earlier p t s a k
     (known (defined earlier p) p.position.repetition m.repetition (repeated m earlier (a_path p) s) n)
 
-pub layer_wide : (ignore : Ignore) (m : Modal) (earlier : List Record) (p : Path) (t : Stroke) → StandsFor m earlier → IsStroke m p t
+pub layer_wide : (ignore : Ignore) (m : Modal) (earlier : List Record) (p : Path) (t : Stroke) → StandsFor m earlier
+    → IsStroke m p t
     → AreDefined earlier (a_path p) → ¬ AreNarrow t.layer t.datatype → Breaches ignore earlier (a_path p) WideLayer
 layer_wide ignore m earlier p t s a d n =
     let layer = modal layer_set (all earlier p) in
@@ -158,8 +161,10 @@ all_known m earlier p t s a d n =
       narrow = λ out. out narrow;
     }
 
-pub position_out : (ignore : Ignore) (m : Modal) (earlier : List Record) (p : Path) → StandsFor m earlier → IsKnown earlier (a_path p)
-    → ¬ FitsPoint (moved m.geometry p.position.x p.position.y m.is_relative) → Breaches ignore earlier (a_path p) OutOfRange
+pub position_out : (ignore : Ignore) (m : Modal) (earlier : List Record) (p : Path) → StandsFor m earlier
+    → IsKnown earlier (a_path p)
+    → ¬ FitsPoint (moved m.geometry p.position.x p.position.y m.is_relative)
+    → Breaches ignore earlier (a_path p) OutOfRange
 position_out ignore m earlier p s k n =
     range_breached ignore earlier (a_path p) k (λ h. n (subst FitsPoint (position_after m earlier (a_path p) s) h.0))
 

@@ -52,7 +52,8 @@ read_after m p v list points vertices known f g w = λ earlier s.
     }
 
 -- if the vertices fit, no rule before Oblique is breached
-before_oblique : (ignore : Ignore) (earlier : List Record) (p : Polygon) (v : Resolved) (qs : List Point) → IsRead earlier p v qs
+before_oblique : (ignore : Ignore) (earlier : List Record) (p : Polygon) (v : Resolved) (qs : List Point)
+    → IsRead earlier p v qs
     → All FitsPoint qs
     → (other : FigureRule) → order other < 6 → ¬ Breaks ignore earlier (a_polygon p) other
 before_oblique ignore earlier p v qs a h (Undefined x) lt b =
@@ -67,7 +68,8 @@ before_oblique ignore earlier p v qs a h Extension lt b = b
 before_oblique ignore earlier p v qs a h Oblique lt b = omega (arith, lt)
 before_oblique ignore earlier p v qs a h (Path f) lt b = b
 
-ring_breached : (ignore : Ignore) (earlier : List Record) (p : Polygon) (v : Resolved) (qs : List Point) (rule : FigureRule)
+ring_breached : (ignore : Ignore) (earlier : List Record) (p : Polygon) (v : Resolved) (qs : List Point)
+    (rule : FigureRule)
     → IsRead earlier p v qs
     → RingBreaks qs rule → Breaches ignore earlier (a_polygon p) rule
 ring_breached ignore earlier p v qs OutOfRange a b = record {
@@ -83,7 +85,8 @@ ring_breached ignore earlier p v qs _ a b = absurd b
 pub ring_refused : (ignore : Ignore) (m : Modal) (p : Polygon) (v : Resolved) (qs : List Point) (x : Cause FigureRule)
     → IsReadAfter m p v qs
     → Says x (RingBreaks qs) → Says x (BreachesAfter ignore m (a_polygon p))
-ring_refused ignore m p v qs (Breach rule) read b = λ earlier s. ring_breached ignore earlier p v qs rule (read earlier s) b
+ring_refused ignore m p v qs (Breach rule) read b = λ earlier s. ring_breached ignore earlier p v qs rule
+    (read earlier s) b
 ring_refused ignore m p v qs OutOfMemory read b = tt
 
 no_later : (ignore : Ignore) (earlier : List Record) (p : Polygon) → IsRing (polygon_ring (a_polygon p ∷ earlier))
@@ -94,7 +97,8 @@ no_later ignore earlier p h OutOfRange lt b = omega (arith, lt)
 no_later ignore earlier p h Oblique lt b = b h
 no_later ignore earlier p h _ lt b = b
 
-pub polygon_none : (ignore : Ignore) (earlier : List Record) (p : Polygon) (v : Resolved) (qs : List Point) → IsRead earlier p v qs
+pub polygon_none : (ignore : Ignore) (earlier : List Record) (p : Polygon) (v : Resolved) (qs : List Point)
+    → IsRead earlier p v qs
     → All FitsPoint qs
     → IsRing qs → BreachesNone ignore earlier (a_polygon p)
 polygon_none ignore earlier p v qs a h ring =

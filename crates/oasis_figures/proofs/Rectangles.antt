@@ -155,7 +155,8 @@ resolved m earlier r v s a k n on low_fit low high_fit high = record {
   on = on;
   low = position_after m earlier (a_rectangle r) s ∙ sym low;
   high = high;
-  none = λ ignore. no_rule ignore earlier (a_rectangle r) (all_defined m earlier r v.layer v.datatype v.width v.height s a k)
+  none = λ ignore. no_rule ignore earlier (a_rectangle r)
+      (all_defined m earlier r v.layer v.datatype v.width v.height s a k)
       (not_wide m earlier r v.layer v.datatype v.width v.height s a n)
       (λ out. out (subst (λ (ps : List Point). All FitsPoint ps)
       (sym (ring_of m earlier r v.layer v.datatype v.width v.height v.low s a low))

@@ -9,7 +9,8 @@ use Rattle.oasis_figures.specs.declared.rule.FigureRule.TheVariants.{Magnificati
 use Rattle.oasis_figures.specs.inside.Taking.{a_text}
 use Rattle.oasis_figures.proofs.Defined.{BreaksNoLater}
 
-pub no_later : (ignore : Ignore) (earlier : List Record) (r : Option Repetition) → BreaksNoLater ignore earlier (a_text r)
+pub no_later : (ignore : Ignore) (earlier : List Record) (r : Option Repetition)
+    → BreaksNoLater ignore earlier (a_text r)
 no_later ignore earlier r (Undefined v) lt b = omega (arith, lt)
 no_later ignore earlier r WideLayer lt b = b
 no_later ignore earlier r OutOfRange lt b = b

@@ -56,8 +56,10 @@ fn bands_of(
     ignored: bool,
 ) -> Result<Vec<Ring>, Cause<FigureRule>>
     ensures value { IfOk result
-        (λ rings. rings.items ≡ path_rings (without_repeats points.items) (record { half = half; start = start; end = end })) }
-    ensures path { OnOk result (IsPath (asked ignored points.items) (record { half = half; start = start; end = end })) }
+        (λ rings. rings.items ≡ path_rings (without_repeats points.items)
+        (record { half = half; start = start; end = end })) }
+    ensures path { OnOk result (IsPath (asked ignored points.items)
+        (record { half = half; start = start; end = end })) }
     ensures refused { IfErr result (λ e. Says e (BandsBreak ignored points.items half start end)) }
 {
     match bands_by(alloc, points, half, start, end, ignored) {

@@ -125,7 +125,8 @@ name_ok (Ok v) q u e f p = p
 name_ok (Err (Breach k)) q u e f p = (let z : Err (Breach (Name k)) ≡ Ok u = sym e ∙ f in cc)
 name_ok (Err OutOfMemory) q u e f p = (let z : Err OutOfMemory ≡ Ok u = sym e ∙ f in cc)
 
-pub record Takes (ignore : Ignore) (old new : Modal) (next : Record) (r : Result (Option Drawn) (Cause FigureRule)) : Type 0 where
+pub record Takes (ignore : Ignore) (old new : Modal) (next : Record) (r : Result (Option Drawn)
+    (Cause FigureRule)) : Type 0 where
   pub drawn : IfOk r (λ drawn. (earlier : List Record) → StandsFor old earlier → IsDrawn earlier next drawn)
   pub places : IfOk r (λ drawn. (earlier : List Record) → StandsFor old earlier → PlacesFit (shifts_of earlier next)
       drawn)
@@ -147,7 +148,8 @@ figure_ok ignore old new next (Ok x) q d e f t earlier h =
       }),
       t.none earlier h,
     )
-figure_ok ignore old new next (Err (Breach k)) q d e f t earlier h = (let z : Err (Breach (Figure k)) ≡ Ok d = sym e ∙ f in cc)
+figure_ok ignore old new next (Err (Breach k)) q d e f t earlier h = (let z : Err (Breach
+    (Figure k)) ≡ Ok d = sym e ∙ f in cc)
 figure_ok ignore old new next (Err OutOfMemory) q d e f t earlier h = (let z : Err OutOfMemory ≡ Ok d = sym e ∙ f in cc)
 
 -- a CELL breaches no rule

@@ -100,7 +100,8 @@ pub item_room : (profile : Profile) (is : List Item) (r : Record)
 item_room profile is r = omega (arith, unpacked-snoc is (item r))
 
 -- a rule of records is no rule of blocks
-pub record_cause : (profile : Profile) (rs : List Record) (r : Record) (k : OasisKind) → RecordBreaches profile rs r k → RecordBreaches profile rs r (cause k)
+pub record_cause : (profile : Profile) (rs : List Record) (r : Record) (k : OasisKind) → RecordBreaches profile rs r k
+    → RecordBreaches profile rs r (cause k)
 record_cause profile rs r (Name j) b = b
 record_cause profile rs r (Figure j) b = b
 record_cause profile rs r _ b = absurd b

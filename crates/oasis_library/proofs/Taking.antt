@@ -24,7 +24,8 @@ use Rattle.oasis_library.specs.inside.Kept.{placed}
 use Rattle.oasis_library.specs.inside.Taken.{IsTaken, grown}
 
 -- a PLACEMENT whose cell is undefined breaches a rule
-unknown_cell : (ignore : Ignore) (earlier : List Record) (r : Record) (x : Placed) (xs : List Placed) → x ∷ xs ≡ placements_of earlier r
+unknown_cell : (ignore : Ignore) (earlier : List Record) (r : Record) (x : Placed) (xs : List Placed)
+    → x ∷ xs ≡ placements_of earlier r
     → BreachesNone ignore earlier r → modal cell_set (r ∷ earlier) ≡ None → ⊥
 unknown_cell ignore earlier (Placement p) x xs e none h =
     none (Undefined PlacementCell)

@@ -64,7 +64,8 @@ cut_inside profile rs room ys text r l b p agree fits =
     })
 
 rule_stops : (profile : Profile) (rs : List Record) (ys text : List ℕ) (r : Record) (k : OasisKind)
-    → BreaksRuleInside profile rs ys k → IsNext true rs profile text (said r) → KeepsRules profile rs r → Agree text ys → ⊥
+    → BreaksRuleInside profile rs ys k → IsNext true rs profile text (said r) → KeepsRules profile rs r → Agree text ys
+    → ⊥
 rule_stops profile rs ys text r k w p g agree = elim w.1 [
   | inl q ↦ (let e : Ok (Err k) ≡ said r = front_only (IsNext true rs profile) ys w.0 (Ok (Err k)) (said r)
       (next_free true rs profile) q text p agree in
@@ -76,7 +77,8 @@ rule_stops profile rs ys text r k w p g agree = elim w.1 [
 ]
 
 inside_stops : (profile : Profile) (rs : List Record) (room : ℕ) (ys text : List ℕ) (r : Record) (k : OasisKind)
-    → IsWrongInside profile rs room ys k → IsNext true rs profile text (said r) → KeepsRules profile rs r → Agree text ys
+    → IsWrongInside profile rs room ys k → IsNext true rs profile text (said r) → KeepsRules profile rs r
+    → Agree text ys
     → length text ≤ room → ⊥
 inside_stops profile rs room ys text r (Value f) w p g agree fits =
     breached_none (IsNext true rs profile) ys w.1 f (Ok (item r)) (next_free true rs profile) w.2 text p agree

@@ -141,8 +141,11 @@ rules_grow less more within rs r k =
 inside_follow_all : (less more : Profile) → IsWider less more → (outer before rs : List Record) (count : ℕ)
     → FollowAll (inside less outer count) before rs → FollowAll (inside more outer count) before rs
 inside_follow_all less more within outer before [] count p = p
-inside_follow_all less more within outer before (r ∷ rs) count p =
-    (rules_grow less more within (outer ++ before) r p.0, inside_follow_all less more within outer (before ++ r ∷ []) rs count p.1)
+inside_follow_all less more within outer before (r ∷ rs) count p = (
+  rules_grow less more within (outer ++ before) r p.0,
+  inside_follow_all less more within outer
+      (before ++ r ∷ []) rs count p.1,
+)
 
 inside_grows : (less more : Profile) → IsWider less more → (before : List Item) (p : Packed) (rs : List Record)
     → HasInside less before p rs → HasInside more before p rs

@@ -30,7 +30,8 @@ path_once ignore earlier (Path p) f g x y =
 path_once ignore earlier _ f g x y = absurd x
 
 -- rules with the same position in the order of tests are the same rule
-same_rule : (ignore : Ignore) (earlier : List ARecord) (r : ARecord) (f g : FigureRule) → order f ≡ order g → Breaks ignore earlier r f
+same_rule : (ignore : Ignore) (earlier : List ARecord) (r : ARecord) (f g : FigureRule) → order f ≡ order g
+    → Breaks ignore earlier r f
     → Breaks ignore earlier r g → f ≡ g
 same_rule ignore earlier r (Undefined v) (Undefined w) e x y = (let z : Some v ≡ Some w = sym x ∙ y in cc)
 same_rule ignore earlier r Layer Layer e x y = refl
@@ -39,10 +40,12 @@ same_rule ignore earlier r Magnification Magnification e x y = refl
 same_rule ignore earlier r Angle Angle e x y = refl
 same_rule ignore earlier r Extension Extension e x y = refl
 same_rule ignore earlier r Oblique Oblique e x y = refl
-same_rule ignore earlier r (PathRule f) (PathRule g) e x y = ap (λ (i : PathFault). PathRule i) (path_once ignore earlier r f g x y)
+same_rule ignore earlier r (PathRule f) (PathRule g) e x y = ap (λ (i : PathFault). PathRule i)
+    (path_once ignore earlier r f g x y)
 same_rule ignore earlier r f g e x y = absurd (omega (arith, e))
 
-figure_once : (ignore : Ignore) (earlier : List ARecord) (r : ARecord) (f g : FigureRule) → FigureBreaches ignore earlier r f
+figure_once : (ignore : Ignore) (earlier : List ARecord) (r : ARecord) (f g : FigureRule)
+    → FigureBreaches ignore earlier r f
     → FigureBreaches ignore earlier r g → f ≡ g
 figure_once ignore earlier r f g x y =
     let below : order f < order g → ⊥ = λ l. y.first f l x.broken in
@@ -50,7 +53,8 @@ figure_once ignore earlier r f g x y =
     same_rule ignore earlier r f g (omega (arith, below, above)) x.broken y.broken
 
 -- a name draws nothing
-name_draws : (ignore : Ignore) (earlier : List ARecord) (c : AName) (f : FigureRule) → Breaks ignore earlier (CellName c) f → ⊥
+name_draws : (ignore : Ignore) (earlier : List ARecord) (c : AName) (f : FigureRule)
+    → Breaks ignore earlier (CellName c) f → ⊥
 name_draws ignore earlier c (Undefined v) x = cc
 name_draws ignore earlier c _ x = x
 
@@ -94,7 +98,8 @@ naming_once names r j k p q =
     let e = same_name b.cell_name a.cell_name (sym b.is ∙ a.is) in
     name_once names a.cell_name j k a.breached (subst (λ (c : AName). NameBreaches names c k) e b.breached)
 
-naming_alone : (ignore : Ignore) (names : List AName) (earlier : List ARecord) (r : ARecord) (k : NameRule) (f : FigureRule)
+naming_alone : (ignore : Ignore) (names : List AName) (earlier : List ARecord) (r : ARecord) (k : NameRule)
+    (f : FigureRule)
     → NamingBreaches names r k → FigureBreaches ignore earlier r f → ⊥
 naming_alone ignore names earlier r k f p q =
     let a = naming names r k p in
@@ -106,12 +111,14 @@ IsEither profile rs r k =
     ((j : NameRule) × (k ≡ Name j) × NamingBreaches (names_in rs) r j)
     ⊎ ((f : FigureRule) × (k ≡ Figure f) × FigureBreaches profile.ignore (since_cell rs) r f)
 
-either_rule : (profile : Profile) (rs : List ARecord) (r : ARecord) (k : OasisKind) → RecordBreaches profile rs r k → IsEither profile rs r k
+either_rule : (profile : Profile) (rs : List ARecord) (r : ARecord) (k : OasisKind) → RecordBreaches profile rs r k
+    → IsEither profile rs r k
 either_rule profile rs r (Name j) b = inl (j, refl, b)
 either_rule profile rs r (Figure f) b = inr (f, refl, b)
 either_rule profile rs r _ b = absurd b
 
-pub record_once : (profile : Profile) (rs : List ARecord) (r : ARecord) (j k : OasisKind) → RecordBreaches profile rs r j → RecordBreaches profile rs r k
+pub record_once : (profile : Profile) (rs : List ARecord) (r : ARecord) (j k : OasisKind)
+    → RecordBreaches profile rs r j → RecordBreaches profile rs r k
     → j ≡ k
 record_once profile rs r j k p q = elim (either_rule profile rs r j p) [
   | inl a ↦ elim (either_rule profile rs r k q) [
@@ -125,19 +132,22 @@ record_once profile rs r j k p q = elim (either_rule profile rs r j p) [
 ]
 
 -- a record that breaches no rule breaches none
-pub record_keeps : (profile : Profile) (rs : List ARecord) (r : ARecord) (k : OasisKind) → KeepsRules profile rs r → RecordBreaches profile rs r k → ⊥
+pub record_keeps : (profile : Profile) (rs : List ARecord) (r : ARecord) (k : OasisKind) → KeepsRules profile rs r
+    → RecordBreaches profile rs r k → ⊥
 record_keeps profile rs r (Name j) g b = g.0 j b
 record_keeps profile rs r (Figure j) g b = g.1 j b.broken
 record_keeps profile rs r _ g b = b
 
 -- a block by itself draws nothing
-block_draws : (ignore : Ignore) (earlier : List ARecord) (p : Packed) (f : FigureRule) → Breaks ignore earlier (Block p) f → ⊥
+block_draws : (ignore : Ignore) (earlier : List ARecord) (p : Packed) (f : FigureRule)
+    → Breaks ignore earlier (Block p) f → ⊥
 block_draws ignore earlier p (Undefined v) x = (let z : None ≡ Some v = x in cc)
 block_draws ignore earlier p (PathRule f) x = x
 block_draws ignore earlier p _ x = x
 
 -- and breaches no rule of records
-pub block_keeps : (profile : Profile) (rs : List ARecord) (p : Packed) (k : OasisKind) → RecordBreaches profile rs (Block p) k → ⊥
+pub block_keeps : (profile : Profile) (rs : List ARecord) (p : Packed) (k : OasisKind)
+    → RecordBreaches profile rs (Block p) k → ⊥
 block_keeps profile rs p (Name j) b = b
 block_keeps profile rs p (Figure f) b = block_draws profile.ignore (since_cell rs) p f b.broken
 block_keeps profile rs p _ b = b

@@ -24,7 +24,8 @@ use Rattle.oasis_stream.proofs.Blocks.{block_once}
 use Rattle.oasis_stream.proofs.Once.{record_once, block_keeps}
 
 -- a block breaches no rule of records, and a record that isn't a block none of blocks
-apart : (profile : Profile) (before : List Item) (r : ARecord) (j k : OasisKind) → RecordBreaches profile (records before) r j
+apart : (profile : Profile) (before : List Item) (r : ARecord) (j k : OasisKind)
+    → RecordBreaches profile (records before) r j
     → PackedBreaches profile before r k → ⊥
 apart profile before (Packed p) j k x y = block_keeps profile (records before) p j x
 apart profile before _ j k x y = y

@@ -47,4 +47,5 @@ RecordBreaches profile rs r k = ⊥
 -- the record breaches no rule after the records rs: neither one of names, nor one of what it draws after the records
 -- of its cell
 abbrev pub KeepsRules : Profile → List Record → Record → Type 0
-KeepsRules profile rs r = ((k : NameRule) → NamingBreaches (names_in rs) r k → ⊥) × BreachesNone profile.ignore (since_cell rs) r
+KeepsRules profile rs r = ((k : NameRule) → NamingBreaches (names_in rs) r k → ⊥)
+    × BreachesNone profile.ignore (since_cell rs) r

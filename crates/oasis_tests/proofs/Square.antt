@@ -389,9 +389,11 @@ followed ignore = (
   (
     follows (ignoring ignore) (magic ∷ []) starting refl (λ k b. b) (none_of_start ignore []) refl,
     (
-      follows (ignoring ignore) (magic ∷ item starting ∷ []) cell refl (λ k b. b) (none_of_cell ignore (starting ∷ [])) refl,
+      follows (ignoring ignore) (magic ∷ item starting ∷ []) cell refl (λ k b. b) (none_of_cell ignore
+          (starting ∷ [])) refl,
       (
-        follows (ignoring ignore) (magic ∷ item starting ∷ item cell ∷ []) drawn refl (λ k b. b) (none_of_rectangle ignore) refl,
+        follows (ignoring ignore) (magic ∷ item starting ∷ item cell ∷ []) drawn refl (λ k b. b)
+            (none_of_rectangle ignore) refl,
         (
           follows (ignoring ignore) (magic ∷ item starting ∷ item cell ∷ item drawn ∷ []) ending refl (λ k b. b)
               (none_of_end ignore (drawn ∷ [])) refl,

@@ -48,7 +48,8 @@ pub record IsResolved (earlier : List Record) (p : Path) (v : Resolved) : Type 0
 
 -- the rule that these points, half-width and reaches breach in a path
 abbrev pub BandsBreak : Bool → List Point → ℕ → ℕ → ℕ → FigureRule → Type 0
-BandsBreak ignored ps half start end (PathRule f) = IsLowestFault (asked ignored ps) (record { half = half; start = start; end = end }) f
+BandsBreak ignored ps half start end (PathRule f) = IsLowestFault (asked ignored ps)
+    (record { half = half; start = start; end = end }) f
 BandsBreak ignored ps half start end (Undefined v) = ⊥
 BandsBreak ignored ps half start end WideLayer = ⊥
 BandsBreak ignored ps half start end OutOfRange = ⊥

@@ -16,7 +16,8 @@ use Rattle.oasis_figures.specs.declared.rule.FigureRule.{FigureRule}
 
 -- for every list of records after which the variables have these values: the record draws what is returned and breaches
 -- no rule, or it breaches the rule that is returned
-pub record Takes (ignore : Ignore) (m : Modal) (r : Record) (result : Result (Option Drawn) (Cause FigureRule)) (after : Modal)
+pub record Takes (ignore : Ignore) (m : Modal) (r : Record) (result : Result (Option Drawn) (Cause FigureRule))
+    (after : Modal)
     : Type 0 where
   pub drawn : IfOk result (λ d. (earlier : List Record) → StandsFor m earlier → IsDrawn earlier r d)
   pub places : IfOk result (λ d. (earlier : List Record) → StandsFor m earlier → PlacesFit (shifts_of earlier r) d)

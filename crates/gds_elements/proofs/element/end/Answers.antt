@@ -11,4 +11,5 @@ returns-then-kind-ne-ENDEL c = λ profile piece d payload h.
     (none_there c.args.kind c.if-kind-ne-ENDEL.true) c.requires c.out_of_order.ensures
 
 pub returns : goal.returns
-returns c = λ profile piece d payload h. law_end profile piece (record_of c.args.kind d payload) c.args.drawn h c.if-kind-ne-ENDEL.false
+returns c = λ profile piece d payload h. law_end profile piece
+    (record_of c.args.kind d payload) c.args.drawn h c.if-kind-ne-ENDEL.false

@@ -67,7 +67,8 @@ returns-in_err-counts-in-Goes c = λ piece d h.
     let t = c.after.ensures.order ∙ ap (left_after left) c.in-Goes.is in
     let g = in_order piece r (left c.args.self.stage) (left c.in-Goes.stage) h.leads t in
     takes_broken c.args.profile piece r c.from_residual-in_err-counts-in-Goes.result c.in_err-counts-in-Goes.field-0.0
-    (λ k. (c.args.kind ≡ colrow) × IsCountFault c.args.profile.limits c.args.payload.now k) c.from_residual-in_err-counts-in-Goes.ensures
+    (λ k. (c.args.kind ≡ colrow) × IsCountFault c.args.profile.limits c.args.payload.now k)
+    c.from_residual-in_err-counts-in-Goes.ensures
     g
     (count_fault c.args.profile piece r h.opened) c.in_err-counts-in-Goes.ensures.refused
 
@@ -77,7 +78,8 @@ returns-in_err-reference-in-Ends c = λ piece d h.
     let t = c.after.ensures.order ∙ ap (left_after left) c.in-Ends.is in
     let last = subst (EndsBy xy c.args.kind) c.in-Ends.is c.after.ensures.last in
     let g = in_order piece r (left c.args.self.stage) (one endel) h.leads t in
-    takes_broken c.args.profile piece r c.from_residual-in_err-reference-in-Ends.result c.in_err-reference-in-Ends.field-0.0
+    takes_broken c.args.profile piece r c.from_residual-in_err-reference-in-Ends.result
+    c.in_err-reference-in-Ends.field-0.0
     (IsArrayFault (points c.args.payload.now) c.args.self.counts.columns c.args.self.counts.rows)
     c.from_residual-in_err-reference-in-Ends.ensures g
     (array_fault c.args.profile c.args.self piece r h last) c.in_err-reference-in-Ends.ensures.refused

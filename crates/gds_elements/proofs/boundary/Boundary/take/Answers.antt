@@ -50,7 +50,8 @@ returns-in_err-layer-in-Goes c = λ profile piece d h.
     let t = c.after.ensures.order ∙ ap (left_after left) c.in-Goes.is in
     let g = in_order piece r (left c.args.self.stage) (left c.in-Goes.stage) h.leads t in
     let e = c.in_err-layer-in-Goes.ensures.refused in
-    takes_one profile piece r c.from_residual.result c.in_err-layer-in-Goes.field-0.0 LayerKind c.from_residual.ensures g e.0
+    takes_one profile piece r c.from_residual.result c.in_err-layer-in-Goes.field-0.0 LayerKind c.from_residual.ensures
+    g e.0
     (e.1, inl h.opened, e.2)
 
 pub returns-in_err-ring-in-Ends : goal.returns-in_err-ring-in-Ends

@@ -30,4 +30,5 @@ returns-in-Text c = λ piece d h.
 
 pub returns-in-Drawn : goal.returns-in-Drawn
 returns-in-Drawn c =
-    λ piece d h. c.end.ensures c.args.profile piece d c.args.payload.now (subst (λ (s : State). HasRead s piece) c.in-Drawn.is h)
+    λ piece d h. c.end.ensures c.args.profile piece d c.args.payload.now
+    (subst (λ (s : State). HasRead s piece) c.in-Drawn.is h)

@@ -33,7 +33,8 @@ returns-in_ok-half-in-Goes c = λ piece d h.
     in (
       b,
       allowed profile piece r (leads_begins _ (left c.in-Goes.stage) b.leads)
-          (law_path profile piece r h.opened c.in_ok-layer-in-Goes.ensures.allowed c.in_ok-square-in-Goes.ensures.allowed
+          (law_path profile piece r h.opened c.in_ok-layer-in-Goes.ensures.allowed
+          c.in_ok-square-in-Goes.ensures.allowed
           c.in_ok-half-in-Goes.ensures.allowed
           (λ x. absurd (subst (EndsBy xy c.args.kind) c.in-Goes.is c.after.ensures.last x))),
     )
@@ -88,7 +89,8 @@ returns-in_err-layer-in-Goes c = λ piece d h.
     let t = c.after.ensures.order ∙ ap (left_after left) c.in-Goes.is in
     let g = in_order piece r (left c.args.self.stage) (left c.in-Goes.stage) h.leads t in
     let e = c.in_err-layer-in-Goes.ensures.refused in
-    takes_one profile piece r c.from_residual.result c.in_err-layer-in-Goes.field-0.0 LayerKind c.from_residual.ensures g e.0
+    takes_one profile piece r c.from_residual.result c.in_err-layer-in-Goes.field-0.0 LayerKind c.from_residual.ensures
+    g e.0
     (e.1, inr h.opened, e.2)
 
 pub returns-in_err-square-in-Goes : goal.returns-in_err-square-in-Goes

@@ -45,5 +45,6 @@ returns-in_err-check_points-in-Goes c = λ profile piece d h.
     let t = c.after.ensures.order ∙ ap (left_after left) c.in-Goes.is in
     let g = in_order piece r (left c.args.self.stage) (left c.in-Goes.stage) h.leads t in
     let e = c.in_err-check_points-in-Goes.ensures.refused in
-    takes_one profile piece r c.from_residual.result c.in_err-check_points-in-Goes.field-0.0 Points c.from_residual.ensures g
+    takes_one profile piece r c.from_residual.result c.in_err-check_points-in-Goes.field-0.0 Points
+    c.from_residual.ensures g
     e.0 (e.1, inr (inr (inr (inr h.opened, e.2))))

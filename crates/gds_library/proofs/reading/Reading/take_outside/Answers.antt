@@ -31,5 +31,6 @@ returns c = λ rs d h.
     record { version = e.version; units = e.units } in
     let next = law_holds c.args.self.now.builder c.take.new.self rs r h e.stage e.shown head in (
       none_open c.take.new.self _ (rs ++ r ∷ []) c.requires.none next,
-      law_allowed c.args.profile c.args.self.now.builder c.take.new.self rs r h next c.requires.formed.known e.stage e.allowed,
+      law_allowed c.args.profile c.args.self.now.builder c.take.new.self rs r h next c.requires.formed.known e.stage
+          e.allowed,
     )

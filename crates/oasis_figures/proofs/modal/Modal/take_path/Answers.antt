@@ -24,7 +24,8 @@ returns-in_err-vertices c =
     c.known.ensures refl in
     let refusal = c.in_err-vertices.field-0.0 in
     let refused = vertices_refused c.args.ignore m p v qs refusal read c.in_err-vertices.ensures.refused in
-    takes_refused c.args.ignore m (a_path p) c.from_residual-in_err-vertices.result refusal c.from_residual-in_err-vertices.ensures
+    takes_refused c.args.ignore m (a_path p) c.from_residual-in_err-vertices.result refusal
+    c.from_residual-in_err-vertices.ensures
     refused
 
 pub returns-in_default : goal.returns-in_default
@@ -56,7 +57,8 @@ returns-in_err-rings c =
     let refusal = c.in_err-rings.field-0.0 in
     let refused = bands_refused c.args.ignore m p v qs x y refusal read fit (sym c.reaches.ensures ∙ c.in-Some.is)
     c.in_err-rings.ensures.refused in
-    takes_refused c.args.ignore m (a_path p) c.from_residual-in_err-rings.result refusal c.from_residual-in_err-rings.ensures refused
+    takes_refused c.args.ignore m (a_path p) c.from_residual-in_err-rings.result refusal
+    c.from_residual-in_err-rings.ensures refused
 
 pub returns : goal.returns
 returns c =

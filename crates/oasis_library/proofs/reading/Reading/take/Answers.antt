@@ -15,14 +15,16 @@ returns-in-Cell-clause-kept c = λ rs h.
     c.new.ensures c.in_ok-begin.ensures c.pass-2.ensures.unit c.pass-2.ensures.validation
 
 pub returns-in-Cell-clause-none : goal.returns-in-Cell-clause-none
-returns-in-Cell-clause-none c = λ rs h. subst (KeepsRules c.args.profile rs) (sym c.in-Cell.is) (cell_keeps c.args.profile rs c.in-Cell.name)
+returns-in-Cell-clause-none c = λ rs h. subst (KeepsRules c.args.profile rs) (sym c.in-Cell.is)
+    (cell_keeps c.args.profile rs c.in-Cell.name)
 
 pub add-requires : goal.add-requires
 add-requires c =
     let w = c.requires in (
       since_cell w.0,
       c.args.next,
-      (figure_ok c.args.profile.ignore c.args.self.now.modal c.take-2.new.self c.args.next c.take-2.result c.of_figure.result
+      (figure_ok c.args.profile.ignore c.args.self.now.modal c.take-2.new.self c.args.next c.take-2.result
+          c.of_figure.result
           c.in_ok-drawn.drawn c.of_figure.ensures c.in_ok-drawn.was
           (record {
             drawn = c.take-2.ensures.drawn;
@@ -35,7 +37,8 @@ add-requires c =
 pub returns : goal.returns
 returns c =
     let holds = λ (rs : List Record) (h : Holds c.args.self.now rs).
-    figure_ok c.args.profile.ignore c.args.self.now.modal c.take-2.new.self c.args.next c.take-2.result c.of_figure.result c.in_ok-drawn.drawn
+    figure_ok c.args.profile.ignore c.args.self.now.modal c.take-2.new.self c.args.next c.take-2.result
+    c.of_figure.result c.in_ok-drawn.drawn
     c.of_figure.ensures c.in_ok-drawn.was
     (record {
       drawn = c.take-2.ensures.drawn;
