@@ -7,8 +7,7 @@ use Rattle.lvl_profile.specs.declared.ignore.Ignore.{Ignore}
 use Rattle.oasis_records.specs.declared.record.Record.{Record}
 use Rattle.oasis_records.specs.declared.record.Record.TheVariants.{Path}
 use Rattle.oasis_figures.specs.Figures.{path_points}
-use Rattle.oasis_figures.specs.Rules.{Breaks, BreachesNone, HasPathFault}
-use Rattle.oasis_figures.specs.declared.rule.FigureRule.{FigureRule}
+use Rattle.oasis_figures.specs.Rules.{BreachesNone, HasPathFault}
 use Rattle.oasis_figures.specs.declared.rule.FigureRule.TheVariants.{Path as PathRule}
 
 path_grows : (less more : Ignore) → IsSubsetOf less more → (earlier : List Record) (r : Record)

@@ -1,5 +1,5 @@
 -- A text breaches no rule that is tested after its variables.
-use Rattle.std.proofs.Common.{List, ◌<◌, arith}
+use Rattle.std.proofs.Common.{List, arith}
 use Rattle.std.specs.Prelude.{Option}
 use Rattle.lvl_profile.specs.declared.ignore.Ignore.{Ignore}
 use Rattle.oasis_values.specs.declared.repetition.Repetition.{Repetition}

@@ -1,5 +1,5 @@
 -- What is known of a path when its values are.
-use Rattle.std.specs.Prelude.{◌≡◌, ◌∷◌, ℕ, pos, List, Some, option_map}
+use Rattle.std.specs.Prelude.{Bool, ◌≡◌, ◌∷◌, ℕ, pos, List, Some, option_map}
 use Rattle.std.specs.Option.{option_or}
 use Rattle.lvl_grid.specs.Turn.{FitsPoint}
 use Rattle.lvl_grid.specs.declared.point.Point.{Point}

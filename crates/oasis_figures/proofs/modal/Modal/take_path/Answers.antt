@@ -13,6 +13,11 @@ use Rattle.oasis_figures.proofs.Figures.{list_kept, repetition_kept}
 use Rattle.oasis_figures.proofs.Taking.{takes_refused}
 use Rattle.oasis_figures.proofs.modal.Modal.take_path.Goals as goal
 
+pub returns-in_err-stroke : goal.returns-in_err-stroke
+returns-in_err-stroke c =
+    takes_refused c.args.ignore c.args.self.now (a_path c.args.path) c.from_residual.result
+    (Breach c.in_err-stroke.field-0.0) c.from_residual.ensures (c.in_err-stroke.ensures.err c.args.ignore)
+
 pub returns-in_err-vertices : goal.returns-in_err-vertices
 returns-in_err-vertices c =
     let m = c.args.self.now in

@@ -1,5 +1,6 @@
 use Rattle.std.proofs.Common.{refl, sym, map}
 use Rattle.lvl_grid.specs.Turn.{shifted}
+use Rattle.lvl_refusal.specs.declared.Cause.TheVariants.{Breach}
 use Rattle.oasis_figures.specs.Modal.{modal, polygon_set, repetition_set}
 use Rattle.oasis_figures.specs.inside.Polygons.{a_polygon}
 use Rattle.oasis_figures.proofs.Figures.{list_kept, repetition_kept}
@@ -62,3 +63,8 @@ returns c = λ ignore.
       refused = tt;
       same = tt;
     }
+
+pub returns-in_err-values : goal.returns-in_err-values
+returns-in_err-values c = λ ignore.
+    takes_refused ignore c.args.self.now (a_polygon c.args.polygon) c.from_residual.result
+    (Breach c.in_err-values.field-0.0) c.from_residual.ensures (c.in_err-values.ensures.err ignore)
