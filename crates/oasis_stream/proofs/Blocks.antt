@@ -1,6 +1,6 @@
 -- Blocks: the bytes of a block decide the records inside, and which rule is breached; if one is, no records are inside.
-use Rattle.std.proofs.Common.{◌≡◌, ℕ, ◌-◌, ◌<◌, ◌≤◌, ◌⊎◌, true, List, [], ◌∷◌, ◌++◌, length, take, drop, Result, Ok}
-use Rattle.std.proofs.Common.{Err, Some, None, refl, sym, ap, ◌∙◌, subst, inl, inr, arith, length-take, length-drop}
+use Rattle.std.proofs.Common.{◌≡◌, ℕ, ◌-◌, ◌<◌, ◌≤◌, ◌⊎◌, true, List, ◌++◌, length, take, drop, Result, Ok}
+use Rattle.std.proofs.Common.{Err, Some, None, refl, sym, ◌∙◌, subst, inl, inr, arith, length-take}
 use Rattle.std.proofs.lemmas.List.{take-append-drop}
 use Rattle.lvl_io.specs.Known.{Agree}
 use Rattle.lvl_io.specs.Spelling.{FirstBytesSay, IsBegun}
@@ -117,7 +117,7 @@ are_inside_faults profile outer count = record {
 }
 
 -- what bytes say about the next record is why the rule is breached
-abbrev Explains : List Record → Result (Result Item OasisKind) ValueFault → OasisKind → Type 0
+abbrev Explains : Profile → List Record → Result (Result Item OasisKind) ValueFault → OasisKind → Type 0
 Explains profile rs (Err f) k = k ≡ Value f
 Explains profile rs (Ok (Err j)) k = k ≡ j
 Explains profile rs (Ok (Ok (item r))) k = RecordBreaches profile rs r k

@@ -14,7 +14,7 @@ use Rattle.oasis_values.specs.declared.fault.ValueFault.{ValueFault}
 use Rattle.oasis_blocks.specs.Packed.{Packed as ABlock}
 use Rattle.oasis_records.specs.declared.record.Record.{Record as ARecord}
 use Rattle.oasis_records.specs.declared.record.Record.TheVariants.{Block as Packed}
-use Rattle.oasis_stream.specs.Items.{Item, magic, item, block, records, as_packed, IsEnded}
+use Rattle.oasis_stream.specs.Items.{Item, magic, item, block, records, as_packed}
 use Rattle.oasis_stream.specs.Next.{IsItem}
 use Rattle.oasis_stream.specs.Blocks.{HasInside}
 use Rattle.oasis_stream.specs.Front.{is_block, PackedBreaches, Breaches, MayFollow, oasis}

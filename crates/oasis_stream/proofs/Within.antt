@@ -1,10 +1,9 @@
 -- The bytes of a block are read record by record: what each call says about all of them.
-use Rattle.std.proofs.Common.{◌≡◌, ℕ, ◌+◌, ◌-◌, ◌<◌, ◌≤◌, true, false, List, [], ◌∷◌, ◌++◌, length, take, drop, Ok, Err}
-use Rattle.std.proofs.Common.{refl, sym, ap, ◌∙◌, subst, inl, inr, arith, length-append, length-drop, length-take}
+use Rattle.std.proofs.Common.{◌≡◌, ℕ, ◌+◌, ◌-◌, ◌<◌, ◌≤◌, true, false, List, [], ◌∷◌, ◌++◌, length, drop, Ok, Err}
+use Rattle.std.proofs.Common.{refl, sym, ap, ◌∙◌, subst, inl, inr, arith, length-append, length-drop}
 use Rattle.std.proofs.lemmas.List.{take_all}
 use Rattle.std.specs.Prelude.{Option, Some}
 use Rattle.std.specs.Borrow.{GName}
-use Rattle.lvl_io.specs.Spelling.{FirstBytesSay}
 use Rattle.lvl_grammar.specs.Front.{IsFront, SpellsWhole}
 use Rattle.lvl_grammar.specs.inside.ReadTo.{ReadTo}
 use Rattle.lvl_grammar.proofs.Reading.{reads_on, reads_begin}
@@ -19,7 +18,7 @@ use Rattle.oasis_values.specs.declared.input.Input.{Input}
 use Rattle.oasis_values.proofs.Reading.{front_rest}
 use Rattle.oasis_blocks.specs.declared.fault.BlockRule.TheVariants.{BlockLength}
 use Rattle.oasis_records.specs.declared.record.Record.{Record}
-use Rattle.oasis_stream.specs.Items.{Item, item}
+use Rattle.oasis_stream.specs.Items.{item}
 use Rattle.oasis_stream.specs.Next.{IsNext}
 use Rattle.oasis_stream.specs.Blocks.{inside, StopsInside, IsWrongInside, BreaksRuleInside, cause}
 use Rattle.oasis_stream.specs.Reported.{of_kind}

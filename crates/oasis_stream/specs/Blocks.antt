@@ -1,6 +1,6 @@
 -- The records inside a block (SEMI P39 OASIS 1.0, "CBLOCK record"), and what is wrong with a block that is refused (own
 -- rule: which fault is reported).
-use Rattle.std.specs.Prelude.{◌≡◌, ℕ, ◌-◌, ◌<◌, ◌≤◌, ◌⊎◌, true, List, ◌++◌, length, take, drop, Result, Ok, Err}
+use Rattle.std.specs.Prelude.{◌≡◌, ℕ, ◌-◌, ◌<◌, ◌≤◌, ◌⊎◌, true, List, ◌++◌, length, take, drop, Ok, Err}
 use Rattle.lvl_io.specs.Spelling.{FirstBytesSay, IsBegun}
 use Rattle.lvl_grammar.specs.Grammar.{Grammar}
 use Rattle.lvl_grammar.specs.Front.{IsFront, SpellsWhole}
