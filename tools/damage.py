@@ -7,7 +7,8 @@ files in the folder that it prints. If more than 1,500 rings are placed, the ver
 checked.
 
 With `--decorate` the files have records that draw nothing, and each is answered without --ignore, with some words,
-and with all.
+and with all. With `--blocks` records of OASIS are in compressed blocks, some of them damaged before they are packed,
+and each file is answered with --unpack, and now and then without.
 """
 import collections
 import glob
@@ -23,6 +24,7 @@ import gds
 import gds_reader
 import layout
 import oasis
+import oasis_blocks
 import oasis_reader
 import options
 import undrawn
@@ -38,16 +40,21 @@ class Traced(oasis_reader.Reader):
     """A reader that keeps the offset of each record."""
 
     def __init__(self, data):
-        super().__init__(data, EVERYTHING)
+        super().__init__(data, EVERYTHING, True)
         self.starts = []
 
     def judge(self, id):
-        self.starts.append(self.begun)
+        if not self.inside:
+            self.starts.append(self.begun)
         super().judge(id)
 
 
 def read(data, ignore):
     return (oasis_reader if data[:1] == b"%" else gds_reader).read(data, ignore)
+
+
+def read_unpacked(data, ignore):
+    return oasis_reader.read(data, ignore, True) if data[:1] == b"%" else gds_reader.read(data, ignore)
 
 
 def starts_of(data):
@@ -199,10 +206,28 @@ def answered(program, words):
     return done.returncode, done.stdout.decode("latin-1"), done.stderr.decode("latin-1")
 
 
-def pair_of(rng, form, decorated):
+def with_blocks(rng, data):
+    """An undamaged file with some of its records in blocks. A file with a signature would need another one."""
+    starts = starts_of(data)
+    records = [data[a:b] for a, b in zip(starts, starts[1:])]
+    damage = (lambda inside: damaged_bytes(rng, inside)) if rng.random() < 0.5 else (lambda inside: inside)
+    return b"".join(records[:2]) + oasis_blocks.parted(rng, records[2:-1], 0.7, damage) + records[-1]
+
+
+def damaged_bytes(rng, inside):
+    """Records of a block, now and then with a byte changed or cut off."""
+    if not inside or rng.random() < 0.7:
+        return inside
+    return rng.choice([changed_bytes, changed_bytes, changed_bytes, removed, inserted, cut])(rng, inside)
+
+
+def pair_of(rng, form, decorated, blocks):
     """A damaged file and the undamaged one: the options of their comparison, the files, and their tops."""
     whole = source(rng, form, frozenset(word for word in WORDS if rng.random() < 0.7) if decorated else NOTHING)
-    files = [damaged(rng, whole, DECORATED_DAMAGES if decorated else DAMAGES), whole]
+    start = with_blocks(rng, whole) if blocks else whole
+    if not blocks or rng.random() < 0.7:
+        start = damaged(rng, start, DECORATED_DAMAGES if decorated else DAMAGES)
+    files = [start, whole]
     if rng.random() < 0.3:
         files.reverse()
     tops = [rng.choice([None, None, "TOP", "TOP", "A", "X"]), rng.choice([None, "TOP"])]
@@ -226,27 +251,29 @@ def kind_of(answer):
     return words[0].rstrip(":") if len(answer.statuses) == 1 else "not judged"
 
 
-def runs_of(names, words, files, tops, text):
+def runs_of(names, words, files, tops, text, unpack):
     """The command lines, each with the answer that is right, under one text of --ignore."""
     ignore = answers.ignored(text) if text else NOTHING
-    given = ["--ignore", text] if text else []
+    given = (["--ignore", text] if text else []) + ["--unpack"] * unpack
     top = ["--top", tops[0]] if tops[0] else []
+    how = read_unpacked if unpack else read
     return [
-        (["compare", *names, *words, *given], answers.compare(read, *files, tops, ignore)),
-        (["show", names[0], *top, *given], answers.show(read, files[0], tops[0], ignore)),
-        (["digest", names[0], *top, *given], answers.digest(read, files[0], tops[0], ignore)),
+        (["compare", *names, *words, *given], answers.compare(how, *files, tops, ignore)),
+        (["show", names[0], *top, *given], answers.show(how, files[0], tops[0], ignore)),
+        (["digest", names[0], *top, *given], answers.digest(how, files[0], tops[0], ignore)),
     ]
 
 
 def judged(asked, rng, names):
     """The kinds of the answers for a pair and None; or None and a message if an answer is wrong."""
-    words, files, tops = pair_of(rng, asked.format, asked.decorate)
+    words, files, tops = pair_of(rng, asked.format, asked.decorate, asked.blocks)
+    unpack = asked.blocks and rng.random() < 0.95
     for name, data in zip(names, files):
         with open(name, "wb") as out:
             out.write(data)
     kinds = []
     for text in texts_of(rng, asked):
-        runs = runs_of(names, words, files, tops, text)
+        runs = runs_of(names, words, files, tops, text, unpack)
         for line, expected in runs:
             expected = expected._replace(hint="") if asked.plain else expected
             answer = answered(asked.program, line)
@@ -263,13 +290,17 @@ def main():
     line.add_argument("--count", metavar="N", type=int, default=1000, help="the number of files (default: 1000)")
     line.add_argument("--seed", metavar="S", type=int, default=1, help="the first seed (default: 1)")
     line.add_argument("--decorate", action="store_true", help="add records that draw nothing, and give --ignore")
+    line.add_argument("--blocks", action="store_true", help="of OASIS: put records in blocks, and give --unpack")
     options.add_older(line)
     asked = options.parsed(line)
+    if asked.blocks and asked.format != "oas":
+        line.error("--blocks goes with --format oas")
     folder = tempfile.mkdtemp(prefix="lvl-damage-")
     names = [os.path.join(folder, "a"), os.path.join(folder, "b")]
     outcomes = collections.Counter()
     for seed in range(asked.seed, asked.seed + asked.count):
-        key = "%s %d" % ("decorated " + asked.format if asked.decorate else asked.format, seed)
+        kind = "decorated " * asked.decorate + "blocks " * asked.blocks + asked.format
+        key = "%s %d" % (kind, seed)
         kinds, wrong = judged(asked, random.Random(key), names)
         if wrong:
             sys.exit("seed %d in %s: %s" % (seed, folder, wrong))

@@ -12,8 +12,7 @@ The table, from a refusal to its hint:
     oasis  24 Unsupported               7, 8, 9, 10, 28, 29                try --ignore properties
     oasis  24 Unsupported               5, 6, 19                           try --ignore texts
     oasis  24 Unsupported               11, 12, 30, 31                     try --ignore names
-    oasis  24 Unsupported               34                                 a compressed block: write the file
-                                                                           without CBLOCK compression
+    oasis  24 Unsupported               34                                 try --unpack
     cells  6 ManyTops                                                      the first file has 2 tops: A, B:
                                                                            choose one by --top-a
 
@@ -81,7 +80,7 @@ def hint(refused, option, given):
     if refused.step == "gds" and refused.number in (2, 3, 4) and refused.at == 0:
         return "lvl: neither GDSII nor OASIS: if the file is compressed (gzip), unpack it first\n"
     if fault == ("oasis", 24) and value == 34:
-        return "lvl: a compressed block: write the file without CBLOCK compression\n"
+        return "lvl: try --unpack\n"
     if fault == ("cells", 6):
         return tops(refused.tops, option)
     return ""

@@ -1,7 +1,8 @@
-"""Compressed blocks of OASIS, for the second implementation: unpacked by zlib, and read record by record."""
+"""Compressed blocks of OASIS: unpacked by zlib and read record by record, for the second implementation, and written."""
 import zlib
 
 from answers import Refused
+from assembler import unsigned
 
 CBLOCK = 34
 # The records that no block has inside.
@@ -53,3 +54,27 @@ def take(reader, packed_bytes):
     reader.refuse_if(count > reader.room, 11, "TooLong")
     reader.room -= count
     take_records(reader, unpacked(reader, packed, count))
+
+
+STRATEGIES = (zlib.Z_DEFAULT_STRATEGY, zlib.Z_FILTERED, zlib.Z_HUFFMAN_ONLY, zlib.Z_RLE, zlib.Z_FIXED)
+
+
+def written(records, level=9, strategy=zlib.Z_DEFAULT_STRATEGY):
+    """A CBLOCK of these records."""
+    packer = zlib.compressobj(level, zlib.DEFLATED, -15, 9, strategy)
+    packed = packer.compress(records) + packer.flush()
+    return unsigned(CBLOCK) + unsigned(0) + unsigned(len(records)) + unsigned(len(packed)) + packed
+
+
+def parted(rng, records, share=0.7, change=lambda records: records):
+    """The records, some runs of them in blocks of any level and strategy; `change` is done to what is inside."""
+    out, at = b"", 0
+    while at < len(records):
+        run = rng.choice([0, 1, 1, 2, 3, 8, 1000])
+        inside = b"".join(records[at:at + run])
+        at += run
+        if rng.random() < share:
+            out += written(change(inside), rng.randint(0, 9), rng.choice(STRATEGIES))
+        else:
+            out += inside
+    return out

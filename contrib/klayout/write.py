@@ -1,9 +1,9 @@
 """Writes a small hierarchy as GDSII and as OASIS by KLayout; `make klayout` runs it.
 
-    klayout -b -r contrib/klayout/write.py -rd gds=OUT.gds -rd oasis=OUT.oas
+    klayout -b -r contrib/klayout/write.py -rd gds=OUT.gds -rd oasis=OUT.oas -rd packed=PACKED.oas
 
-The options are KLayout's defaults, but no compressed blocks are written; docs/FILES.md says why. There are labels,
-names of layers and properties, which draw nothing.
+The options are KLayout's defaults, but OUT.oas has no compressed blocks. There are labels, names of layers and
+properties, which draw nothing.
 """
 
 import pya
@@ -36,10 +36,10 @@ def chip(layout):
         top.insert(pya.CellInstArray(row.cell_index(), transform))
 
 
-def save(layout, path, form):
+def save(layout, path, form, has_blocks=True):
     options = pya.SaveLayoutOptions()
     options.format = form
-    options.oasis_write_cblocks = False
+    options.oasis_write_cblocks = has_blocks
     layout.write(path, options)
 
 
@@ -47,4 +47,5 @@ layout = pya.Layout()
 layout.dbu = 0.001
 chip(layout)
 save(layout, gds, "GDS2")
-save(layout, oasis, "OASIS")
+save(layout, oasis, "OASIS", has_blocks=False)
+save(layout, packed, "OASIS")

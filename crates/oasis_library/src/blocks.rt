@@ -19,7 +19,7 @@ use oasis_stream::{OasisKind, read_inside};
 use oasis_values::{Input, ValueFault};
 use std::alloc::Global;
 
-// The same refusal, with a rule of blocks as one of the file.
+/// The same refusal, with a rule of blocks as one of the file.
 fn of_block(refusal: Cause<BlockRule>) -> Cause<OasisKind>
     ensures { result ≡ of_block refusal }
 {
@@ -29,7 +29,7 @@ fn of_block(refusal: Cause<BlockRule>) -> Cause<OasisKind>
     }
 }
 
-// The same refusal, as that of a block: one that ends within a record has too few bytes.
+/// The same refusal, as that of a block: one that ends within a record has too few bytes.
 fn in_block(refusal: Cause<OasisKind>) -> Cause<OasisKind>
     ensures { result ≡ in_block refusal }
 {
@@ -41,7 +41,7 @@ fn in_block(refusal: Cause<OasisKind>) -> Cause<OasisKind>
     }
 }
 
-// Takes all records inside a block, whose `count` bytes are the input.
+/// Takes all records inside a block, whose `count` bytes are the input.
 fn take_inside(
     alloc: Global,
     reading: &mut Reading,
@@ -70,7 +70,7 @@ fn take_inside(
     Ok(())
 }
 
-// Takes a block, unless it breaches a rule.
+/// Takes a block, unless it breaches a rule.
 fn take_block(
     alloc: Global,
     reading: &mut Reading,

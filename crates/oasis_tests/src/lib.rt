@@ -28,4 +28,6 @@ mod repeats;
 #[cfg(test)]
 mod rows;
 #[cfg(test)]
+mod unpacked;
+#[cfg(test)]
 mod values;
