@@ -136,24 +136,15 @@ fn lattice(a: Point, m: u64, b: Point, n: u64) -> Option<Offsets>
     Offsets::lattice(a, m, b, n)
 }
 
-// Two shifts as a row, which takes no memory.
-fn pair(shifts: &[Point]) -> Option<Offsets>
-    requires { StartsAtZero shifts.now }
-    ensures { IfSome result (λ offsets. offsets ≡ shifts.now) }
-{
-    match shifts {
-        [_, second] => Offsets::lattice(*second, 2, ORIGIN, 1),
-        _ => None,
-    }
-}
-
-// The shifts, of which the first is zero, as a list that all clones share.
+// The shifts, of which the first is zero: two as a row, which takes no memory, and more as a list that all clones share.
 fn listed(shifts: Vec<Point>) -> Result<Offsets, AllocError>
     requires { StartsAtZero shifts.items }
     ensures { IfOk result (λ offsets. offsets ≡ shifts.items) }
 {
-    if let Some(row) = pair(&shifts) {
-        return Ok(row);
+    if let [_, second] = shifts.as_slice() {
+        if let Some(row) = Offsets::lattice(*second, 2, ORIGIN, 1) {
+            return Ok(row);
+        }
     }
     let mut offsets = Offsets::new(shifts).unwrap();
     offsets.share()?;
