@@ -3,10 +3,11 @@ use Rattle.oasis_records.specs.declared.record.Record.{Record}
 use Rattle.oasis_figures.specs.inside.Taking.{Takes}
 use Rattle.oasis_figures.proofs.modal.Modal.take.Goals as goal
 
-taken_rectangle : (c : goal.After-take_rectangle) → Takes c.args.ignore c.args.self.now c.args.next c.take_rectangle.result c.take_rectangle.new.self
+taken_rectangle : (c : goal.After-take_rectangle)
+    → Takes c.args.ignore c.args.self.now c.args.next c.take_rectangle.result c.take_rectangle.new.self
 taken_rectangle c =
-    subst (λ (r : Record). Takes c.args.ignore c.args.self.now r c.take_rectangle.result c.take_rectangle.new.self) (sym c.in-Rectangle.is)
-    (c.take_rectangle.ensures c.args.ignore)
+    subst (λ (r : Record). Takes c.args.ignore c.args.self.now r c.take_rectangle.result c.take_rectangle.new.self)
+    (sym c.in-Rectangle.is) (c.take_rectangle.ensures c.args.ignore)
 
 pub returns-in-Rectangle-clause-drawn : goal.returns-in-Rectangle-clause-drawn
 returns-in-Rectangle-clause-drawn c = (taken_rectangle c).drawn
@@ -23,10 +24,11 @@ returns-in-Rectangle-clause-refused c = (taken_rectangle c).refused
 pub returns-in-Rectangle-clause-same : goal.returns-in-Rectangle-clause-same
 returns-in-Rectangle-clause-same c = (taken_rectangle c).same
 
-taken_polygon : (c : goal.After-take_polygon) → Takes c.args.ignore c.args.self.now c.args.next c.take_polygon.result c.take_polygon.new.self
+taken_polygon : (c : goal.After-take_polygon)
+    → Takes c.args.ignore c.args.self.now c.args.next c.take_polygon.result c.take_polygon.new.self
 taken_polygon c =
-    subst (λ (r : Record). Takes c.args.ignore c.args.self.now r c.take_polygon.result c.take_polygon.new.self) (sym c.in-Polygon.is)
-    (c.take_polygon.ensures c.args.ignore)
+    subst (λ (r : Record). Takes c.args.ignore c.args.self.now r c.take_polygon.result c.take_polygon.new.self)
+    (sym c.in-Polygon.is) (c.take_polygon.ensures c.args.ignore)
 
 pub returns-in-Polygon-clause-drawn : goal.returns-in-Polygon-clause-drawn
 returns-in-Polygon-clause-drawn c = (taken_polygon c).drawn
@@ -43,10 +45,11 @@ returns-in-Polygon-clause-refused c = (taken_polygon c).refused
 pub returns-in-Polygon-clause-same : goal.returns-in-Polygon-clause-same
 returns-in-Polygon-clause-same c = (taken_polygon c).same
 
-taken_placement : (c : goal.After-take_placement) → Takes c.args.ignore c.args.self.now c.args.next c.take_placement.result c.take_placement.new.self
+taken_placement : (c : goal.After-take_placement)
+    → Takes c.args.ignore c.args.self.now c.args.next c.take_placement.result c.take_placement.new.self
 taken_placement c =
-    subst (λ (r : Record). Takes c.args.ignore c.args.self.now r c.take_placement.result c.take_placement.new.self) (sym c.in-Placement.is)
-    (c.take_placement.ensures c.args.ignore)
+    subst (λ (r : Record). Takes c.args.ignore c.args.self.now r c.take_placement.result c.take_placement.new.self)
+    (sym c.in-Placement.is) (c.take_placement.ensures c.args.ignore)
 
 pub returns-in-Placement-clause-drawn : goal.returns-in-Placement-clause-drawn
 returns-in-Placement-clause-drawn c = (taken_placement c).drawn
@@ -63,10 +66,11 @@ returns-in-Placement-clause-refused c = (taken_placement c).refused
 pub returns-in-Placement-clause-same : goal.returns-in-Placement-clause-same
 returns-in-Placement-clause-same c = (taken_placement c).same
 
-taken_text : (c : goal.After-take_text) → Takes c.args.ignore c.args.self.now c.args.next c.take_text.result c.take_text.new.self
+taken_text : (c : goal.After-take_text)
+    → Takes c.args.ignore c.args.self.now c.args.next c.take_text.result c.take_text.new.self
 taken_text c =
-    subst (λ (r : Record). Takes c.args.ignore c.args.self.now r c.take_text.result c.take_text.new.self) (sym c.in-Text.is)
-    (c.take_text.ensures c.args.ignore)
+    subst (λ (r : Record). Takes c.args.ignore c.args.self.now r c.take_text.result c.take_text.new.self)
+    (sym c.in-Text.is) (c.take_text.ensures c.args.ignore)
 
 pub returns-in-Text-clause-drawn : goal.returns-in-Text-clause-drawn
 returns-in-Text-clause-drawn c = (taken_text c).drawn
@@ -83,10 +87,11 @@ returns-in-Text-clause-refused c = (taken_text c).refused
 pub returns-in-Text-clause-same : goal.returns-in-Text-clause-same
 returns-in-Text-clause-same c = (taken_text c).same
 
-taken_absolute : (c : goal.After-take_mode) → Takes c.args.ignore c.args.self.now c.args.next c.take_mode.result c.take_mode.new.self
+taken_absolute : (c : goal.After-take_mode)
+    → Takes c.args.ignore c.args.self.now c.args.next c.take_mode.result c.take_mode.new.self
 taken_absolute c =
-    subst (λ (r : Record). Takes c.args.ignore c.args.self.now r c.take_mode.result c.take_mode.new.self) (sym c.in-XyAbsolute.is)
-    (c.take_mode.ensures c.args.ignore)
+    subst (λ (r : Record). Takes c.args.ignore c.args.self.now r c.take_mode.result c.take_mode.new.self)
+    (sym c.in-XyAbsolute.is) (c.take_mode.ensures c.args.ignore)
 
 pub returns-in-XyAbsolute-clause-drawn : goal.returns-in-XyAbsolute-clause-drawn
 returns-in-XyAbsolute-clause-drawn c = (taken_absolute c).drawn
@@ -100,10 +105,13 @@ returns-in-XyAbsolute-clause-refused c = (taken_absolute c).refused
 pub returns-in-XyAbsolute-clause-same : goal.returns-in-XyAbsolute-clause-same
 returns-in-XyAbsolute-clause-same c = (taken_absolute c).same
 
-taken_relative : (c : goal.After-take_mode-in-XyRelative) → Takes c.args.ignore c.args.self.now c.args.next c.take_mode-in-XyRelative.result c.take_mode-in-XyRelative.new.self
+taken_relative : (c : goal.After-take_mode-in-XyRelative)
+    → Takes c.args.ignore c.args.self.now c.args.next c.take_mode-in-XyRelative.result
+    c.take_mode-in-XyRelative.new.self
 taken_relative c =
-    subst (λ (r : Record). Takes c.args.ignore c.args.self.now r c.take_mode-in-XyRelative.result c.take_mode-in-XyRelative.new.self) (sym c.in-XyRelative.is)
-    (c.take_mode-in-XyRelative.ensures c.args.ignore)
+    subst (λ (r : Record). Takes c.args.ignore c.args.self.now r c.take_mode-in-XyRelative.result
+    c.take_mode-in-XyRelative.new.self)
+    (sym c.in-XyRelative.is) (c.take_mode-in-XyRelative.ensures c.args.ignore)
 
 pub returns-in-XyRelative-clause-drawn : goal.returns-in-XyRelative-clause-drawn
 returns-in-XyRelative-clause-drawn c = (taken_relative c).drawn
