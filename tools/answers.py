@@ -85,6 +85,14 @@ def in_range(*numbers):
     return all(LEAST <= number <= MOST for number in numbers)
 
 
+def points_asked(points, ignore):
+    """The points of a path of which its rules are asked: without each that equals the one before, if these are
+    ignored."""
+    if "points" not in ignore:
+        return points
+    return points[:1] + [point for before, point in zip(points, points[1:]) if point != before]
+
+
 def path_fault(points, half, start, end):
     """The number and name of the rule that a path breaches, or None."""
     steps = [(bx - ax, by - ay) for (ax, ay), (bx, by) in zip(points, points[1:])]

@@ -26,11 +26,14 @@ def path(layer, shape, points):
     return element(0x09, short(0x0D, layer[0]), short(0x0E, layer[1]), kind, width, xy(points))
 
 
-def shape_records(rng, shape):
+def shape_records(rng, shape, ignore):
     out = []
     for dx, dy in shape.shifts:
         points = [(x + dx, y + dy) for x, y in shape.points]
-        out.append(path(shape.layer, shape, points) if shape.kind == "path" else ring(rng, shape.layer, points))
+        if shape.kind == "path":
+            out.append(path(shape.layer, shape, undrawn.repeated(rng, points, ignore)))
+        else:
+            out.append(ring(rng, shape.layer, points))
     rng.shuffle(out)
     return out
 
@@ -70,7 +73,7 @@ def reference_records(rng, reference):
 def written(rng, cells, ignore=NOTHING, units=bytes(16)):
     out = [stream_head(units=units)]
     for cell in cells:
-        elements = [e for s in cell.shapes for e in shape_records(rng, s)]
+        elements = [e for s in cell.shapes for e in shape_records(rng, s, ignore)]
         elements += [e for r in cell.references for e in reference_records(rng, r)]
         rng.shuffle(elements)
         out.append(structure(cell.name, *elements))

@@ -1,7 +1,8 @@
 """A second implementation of the GDSII rules: reads bytes as a library, or refuses them with an offset."""
 import struct
 
-from answers import NOTHING, Cell, Lattice, Library, ONCE, Reference, Refused, Shape, band_rings, oblique, path_fault
+from answers import NOTHING, Cell, Lattice, Library, ONCE, Reference, Refused, Shape
+from answers import band_rings, oblique, path_fault, points_asked
 
 HEADER, BGNLIB, LIBNAME, UNITS, ENDLIB, BGNSTR, STRNAME, ENDSTR = range(8)
 BOUNDARY, PATH, SREF, AREF, TEXT, LAYER, DATATYPE, WIDTH, XY, ENDEL, SNAME, COLROW = range(0x08, 0x14)
@@ -97,7 +98,7 @@ def name_of(payload):
 
 class Reader:
     def __init__(self, data, ignore):
-        self.data, self.at, self.table = data, 0, table_of(ignore)
+        self.data, self.at, self.ignore, self.table = data, 0, ignore, table_of(ignore)
         self.order, self.openers = LIBRARY, IN_LIBRARY
         self.cells, self.element, self.values, self.head = [], None, {}, ["", b""]
 
@@ -198,6 +199,7 @@ class Reader:
             self.refuse_if(oblique(points[:-1]), 25, "Oblique")
         elif self.element == PATH:
             self.refuse_if(WIDTH not in self.values, 22, "Width")
+            points = points_asked(points, self.ignore)
             fault = path_fault(points, *self.ends())
             self.refuse_if(fault, 21, "Path", *(fault or ()))
         elif self.element == AREF:

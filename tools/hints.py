@@ -24,13 +24,14 @@ The table, from a refusal to its hint:
            8 TooManyRings
 
 Each begins with `lvl: `. The one on tops has the first eight names in file order, and then `..` if there are more; it
-names --top-a or --top-b, by the side, or of show and digest `the file` and --top. If other words were given, a hint to --ignore has them too, in the order properties, texts, names, padding, since the
-option can be given only once, and goes on `, or --ignore all`. If the word itself was given, there is no hint.
+names --top-a or --top-b, by the side, or of show and digest `the file` and --top. If other words were given, a hint
+to --ignore has them too, in the order properties, texts, names, padding, points, since the option can be given only
+once, and goes on `, or --ignore all`. If the word itself was given, there is no hint.
 """
 
 import re
 
-WORDS = ("properties", "texts", "names", "padding")
+WORDS = ("properties", "texts", "names", "padding", "points")
 # By step and number, the word that lets in each value of the fault; None is any.
 MENDED = {
     ("gds", 11): {

@@ -224,8 +224,9 @@ class Body:
             (first, one), (last, two) = self.extension(shape.ends[0], half), self.extension(shape.ends[1], half)
             self.modal["ends"] = shape.ends
             bits, wide = bits | 0x80, wide + unsigned(first << 2 | last) + one + two
-        listed = point_list(self.rng, shape.points, False)
-        bits, points = self.field("path", steps_of(shape.points), bits, 0x20, listed)
+        points = undrawn.repeated(self.rng, shape.points, self.ignore)
+        listed = point_list(self.rng, points, False)
+        bits, points = self.field("path", steps_of(points), bits, 0x20, listed)
         bits, said = self.end_of(shape, bits, said + wide + points, shape.points[0])
         self.out += b"\x16" + bytes([bits]) + said
 

@@ -2,7 +2,7 @@
 import oasis_blocks
 import oasis_ignored
 from answers import NOTHING, ONCE, Cell, Library, Reference, Refused, Shape
-from answers import band_rings, in_range, oblique, path_fault
+from answers import band_rings, in_range, oblique, path_fault, points_asked
 from oasis_values import A_STRING, B_STRING, N_STRING, Values, moved
 
 MAGIC = b"%SEMI-OASIS\r\n"
@@ -233,6 +233,7 @@ class Reader(Values):
         half, start, end, points = values
         points = self.placed(at, points)
         self.refuse_if(min(start, end) < 0, 32, "Extension")
+        points = points_asked(points, self.ignore)
         fault = path_fault(points, half, start, end)
         self.refuse_if(fault, 33, "Path", *(fault or ()))
         self.cells[-1][1].append(Shape(layer, band_rings(points, half, start, end), shifts))

@@ -18,6 +18,13 @@ def characters(rng, least=0, codes=range(0x21, 0x7F)):
     return bytes(rng.choice(codes) for _ in range(max(least, length)))
 
 
+def repeated(rng, points, ignore):
+    """The points of a path, some of them several times in a row if these are ignored."""
+    if "points" not in ignore:
+        return points
+    return [point for point in points for _ in range(rng.choice([1, 1, 1, 1, 2, 3]))]
+
+
 def some_of(rng, ignore, makers):
     """Some of the records, in their order; each maker has a word, and makes one that is in `ignore`."""
     return b"".join(make() for word, make in makers if word in ignore and rng.random() < 0.4)

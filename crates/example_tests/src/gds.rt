@@ -5,7 +5,7 @@ use gds_library::read_gds;
 use gds_records::fake::{SQUARE, Stream};
 use gds_records::{Records, record_type};
 use lvl_io::fake::Pieces;
-use lvl_profile::Limits;
+use lvl_profile::Profile;
 use std::test::Fail;
 
 #[test]
@@ -24,7 +24,7 @@ fn records(rt: HostRuntime) -> Result<(), Fail> {
 fn elements(rt: HostRuntime) -> Result<(), Fail> {
     let alloc = rt.alloc();
     let element = Element::open(alloc, record_type::BOUNDARY).ok_or("no element")?;
-    let step = element.take(alloc, Limits::STANDARD, record_type::LAYER, b"\x00\x01")?;
+    let step = element.take(alloc, Profile::STANDARD, record_type::LAYER, b"\x00\x01")?;
     assert!(rt; matches!(step, Step::Open(_)));
     assert!(rt; Element::open(alloc, record_type::LAYER).is_none());
     Ok(())

@@ -3,7 +3,7 @@
 use lvl_inflate::Inflate;
 use lvl_io::fake::Pieces;
 use lvl_io::{Counted, Read};
-use lvl_profile::Profile;
+use lvl_profile::{Ignore, Profile};
 use lvl_units::GridStep;
 use oasis_blocks::read_packed;
 use oasis_figures::{Drawn, Modal};
@@ -62,7 +62,7 @@ fn figures(rt: HostRuntime) -> Result<(), Fail> {
     let alloc = rt.alloc();
     let record = rectangle(alloc)?;
     let mut modal = Modal::new();
-    let drawn = modal.take(alloc, record)?;
+    let drawn = modal.take(alloc, Ignore::NOTHING, record)?;
     assert!(rt; matches!(drawn, Some(Drawn::Ring(_, _))));
     Ok(())
 }

@@ -3,6 +3,7 @@ use Rattle.std.proofs.Common.{◌≡◌, ◌≢◌, ℕ, ◌<◌, ◌≤◌, ◌
 use Rattle.std.proofs.Common.{subst, arith}
 use Rattle.std.proofs.lemmas.Int.{ints}
 use Rattle.lvl_grid.specs.Winding.{IsStraight}
+use Rattle.lvl_path.specs.Repeats.{asked}
 use Rattle.lvl_path.specs.Runs.{IsPath}
 use Rattle.gds_elements.specs.Types.{boundary, path, sref, aref, text, width, xy, endel, colrow, pathtype}
 use Rattle.lvl_grammar.specs.Order.{Begins}
@@ -24,7 +25,7 @@ use Rattle.gds_elements.specs.declared.fault.ElementRule.TheVariants.{Angle, Col
 use Rattle.gds_elements.specs.declared.fault.ElementRule.TheVariants.{PathType, Oblique, Repetition}
 use Rattle.gds_elements.proofs.Fields.{kinds-snoc}
 use Rattle.gds_elements.proofs.Words.{begun_known}
-use Rattle.lvl_profile.specs.declared.limits.Limits.{Limits}
+use Rattle.lvl_profile.specs.declared.profile.Profile.{Profile}
 
 -- a list of records has one first type
 pub one_opener : (piece : List Rec) (k j : ℕ) → opener piece ≡ Some k → opener piece ≡ Some j → k ≡ j
@@ -93,113 +94,116 @@ text_counted : (piece : List Rec) (n : ℕ) → opener piece ≡ Some text → n
 text_counted piece n o h = counted piece text n o (grind (arith, h))
 
 -- a record in order whose values breach no rule breaches none
-pub allowed : (limits : Limits) (piece : List Rec) (r : Rec) → InOrder piece r → ((k : ElementRule) → ValueBreaches limits piece r k → ⊥)
-    → BreachesNone limits piece r
-allowed limits piece r g n (MisplacedRecord (Unexpected j)) x = x.2 g
-allowed limits piece r g n (MisplacedRecord (Unsupported j)) x =
+pub allowed : (profile : Profile) (piece : List Rec) (r : Rec) → InOrder piece r → ((k : ElementRule)
+    → ValueBreaches profile piece r k → ⊥)
+    → BreachesNone profile piece r
+allowed profile piece r g n (MisplacedRecord (Unexpected j)) x = x.2 g
+allowed profile piece r g n (MisplacedRecord (Unsupported j)) x =
     x.2 (subst IsKnown x.0 (begun_known (kinds piece) r.kind (subst (Begins an_element) (kinds-snoc piece r) g)))
-allowed limits piece r g n (Rule k) x = n k x.1
+allowed profile piece r g n (Rule k) x = n k x.1
 
-pub law_boundary : (limits : Limits) (piece : List Rec) (r : Rec) → opener piece ≡ Some boundary
+pub law_boundary : (profile : Profile) (piece : List Rec) (r : Rec) → opener piece ≡ Some boundary
     → (IsLayerNumber r.kind → pos 0 ≤ℤ short r.payload)
     → (r.kind ≡ xy → (4 ≤ length (points r.payload)) × IsClosed (points r.payload)
     × All IsStraight (steps (points r.payload)))
-    → (k : ElementRule) → ValueBreaches limits piece r k → ⊥
-law_boundary limits piece r o l p Layer x = (let z = l x.0 in omega (arith, ints, z, x.2))
-law_boundary limits piece r o l p Points x = boundary_counted piece _ o (p x.0).0 x.1
-law_boundary limits piece r o l p NotClosed x = x.3 (p x.0).1
-law_boundary limits piece r o l p Strans x = shape_refers piece boundary o (λ e. omega arith) (λ e. omega arith) x.1
-law_boundary limits piece r o l p Magnification x = shape_refers piece boundary o (λ e. omega arith) (λ e. omega arith) x.1
-law_boundary limits piece r o l p Angle x = shape_refers piece boundary o (λ e. omega arith) (λ e. omega arith) x.1
-law_boundary limits piece r o l p ColRow x = (let z = one_opener piece boundary aref o x.1 in omega (arith, z))
-law_boundary limits piece r o l p ArrayStep x = (let z = one_opener piece boundary aref o x.1 in omega (arith, z))
-law_boundary limits piece r o l p Name x = shape_refers piece boundary o (λ e. omega arith) (λ e. omega arith) x.1
-law_boundary limits piece r o l p (Path f) x = (let z = one_opener piece boundary path o x.1 in omega (arith, z))
-law_boundary limits piece r o l p Width x = (let z = one_opener piece boundary path o x.0 in omega (arith, z))
-law_boundary limits piece r o l p PathType x = (let z = one_opener piece boundary path o x.1 in omega (arith, z))
-law_boundary limits piece r o l p Oblique x = x.4 (p x.0).2
-law_boundary limits piece r o l p Repetition x = (let z = one_opener piece boundary aref o x.1 in omega (arith, z))
+    → (k : ElementRule) → ValueBreaches profile piece r k → ⊥
+law_boundary profile piece r o l p Layer x = (let z = l x.0 in omega (arith, ints, z, x.2))
+law_boundary profile piece r o l p Points x = boundary_counted piece _ o (p x.0).0 x.1
+law_boundary profile piece r o l p NotClosed x = x.3 (p x.0).1
+law_boundary profile piece r o l p Strans x = shape_refers piece boundary o (λ e. omega arith) (λ e. omega arith) x.1
+law_boundary profile piece r o l p Magnification x = shape_refers piece boundary o (λ e. omega arith)
+    (λ e. omega arith) x.1
+law_boundary profile piece r o l p Angle x = shape_refers piece boundary o (λ e. omega arith) (λ e. omega arith) x.1
+law_boundary profile piece r o l p ColRow x = (let z = one_opener piece boundary aref o x.1 in omega (arith, z))
+law_boundary profile piece r o l p ArrayStep x = (let z = one_opener piece boundary aref o x.1 in omega (arith, z))
+law_boundary profile piece r o l p Name x = shape_refers piece boundary o (λ e. omega arith) (λ e. omega arith) x.1
+law_boundary profile piece r o l p (Path f) x = (let z = one_opener piece boundary path o x.1 in omega (arith, z))
+law_boundary profile piece r o l p Width x = (let z = one_opener piece boundary path o x.0 in omega (arith, z))
+law_boundary profile piece r o l p PathType x = (let z = one_opener piece boundary path o x.1 in omega (arith, z))
+law_boundary profile piece r o l p Oblique x = x.4 (p x.0).2
+law_boundary profile piece r o l p Repetition x = (let z = one_opener piece boundary aref o x.1 in omega (arith, z))
 
-pub law_path : (limits : Limits) (piece : List Rec) (r : Rec) → opener piece ≡ Some path
+pub law_path : (profile : Profile) (piece : List Rec) (r : Rec) → opener piece ≡ Some path
     → (IsLayerNumber r.kind → pos 0 ≤ℤ short r.payload)
     → (r.kind ≡ pathtype → short r.payload ≢ pos 0 → short r.payload ≡ pos 2)
     → (r.kind ≡ width → IsWidth (long r.payload))
-    → (r.kind ≡ xy → (2 ≤ length (points r.payload)) × (last_of width piece ≢ None) × IsPath (points r.payload)
+    → (r.kind ≡ xy → (2 ≤ length (points r.payload)) × (last_of width piece ≢ None)
+    × IsPath (asked profile.ignore.points (points r.payload))
     (record { half = half_of piece; start = end_of piece; end = end_of piece }))
-    → (k : ElementRule) → ValueBreaches limits piece r k → ⊥
-law_path limits piece r o l t w p Layer x = (let z = l x.0 in omega (arith, ints, z, x.2))
-law_path limits piece r o l t w p Points x = path_counted piece _ o (p x.0).0 x.1
-law_path limits piece r o l t w p NotClosed x = (let z = one_opener piece path boundary o x.1 in omega (arith, z))
-law_path limits piece r o l t w p Strans x = shape_refers piece path o (λ e. omega arith) (λ e. omega arith) x.1
-law_path limits piece r o l t w p Magnification x = shape_refers piece path o (λ e. omega arith) (λ e. omega arith) x.1
-law_path limits piece r o l t w p Angle x = shape_refers piece path o (λ e. omega arith) (λ e. omega arith) x.1
-law_path limits piece r o l t w p ColRow x = (let z = one_opener piece path aref o x.1 in omega (arith, z))
-law_path limits piece r o l t w p ArrayStep x = (let z = one_opener piece path aref o x.1 in omega (arith, z))
-law_path limits piece r o l t w p Name x = shape_refers piece path o (λ e. omega arith) (λ e. omega arith) x.1
-law_path limits piece r o l t w p (Path f) x = (p x.0).2 f x.4.breached
-law_path limits piece r o l t w p Width x = elim x.1 [ inl y ↦ y.1 (w y.0) | inr y ↦ (p y.0).1 y.2 ]
-law_path limits piece r o l t w p PathType x = x.3 (t x.0 x.2)
-law_path limits piece r o l t w p Oblique x = (let z = one_opener piece path boundary o x.1 in omega (arith, z))
-law_path limits piece r o l t w p Repetition x = (let z = one_opener piece path aref o x.1 in omega (arith, z))
+    → (k : ElementRule) → ValueBreaches profile piece r k → ⊥
+law_path profile piece r o l t w p Layer x = (let z = l x.0 in omega (arith, ints, z, x.2))
+law_path profile piece r o l t w p Points x = path_counted piece _ o (p x.0).0 x.1
+law_path profile piece r o l t w p NotClosed x = (let z = one_opener piece path boundary o x.1 in omega (arith, z))
+law_path profile piece r o l t w p Strans x = shape_refers piece path o (λ e. omega arith) (λ e. omega arith) x.1
+law_path profile piece r o l t w p Magnification x = shape_refers piece path o (λ e. omega arith) (λ e. omega arith) x.1
+law_path profile piece r o l t w p Angle x = shape_refers piece path o (λ e. omega arith) (λ e. omega arith) x.1
+law_path profile piece r o l t w p ColRow x = (let z = one_opener piece path aref o x.1 in omega (arith, z))
+law_path profile piece r o l t w p ArrayStep x = (let z = one_opener piece path aref o x.1 in omega (arith, z))
+law_path profile piece r o l t w p Name x = shape_refers piece path o (λ e. omega arith) (λ e. omega arith) x.1
+law_path profile piece r o l t w p (Path f) x = (p x.0).2 f x.4.breached
+law_path profile piece r o l t w p Width x = elim x.1 [ inl y ↦ y.1 (w y.0) | inr y ↦ (p y.0).1 y.2 ]
+law_path profile piece r o l t w p PathType x = x.3 (t x.0 x.2)
+law_path profile piece r o l t w p Oblique x = (let z = one_opener piece path boundary o x.1 in omega (arith, z))
+law_path profile piece r o l t w p Repetition x = (let z = one_opener piece path aref o x.1 in omega (arith, z))
 
-pub law_sref : (limits : Limits) (piece : List Rec) (r : Rec) → opener piece ≡ Some sref
+pub law_sref : (profile : Profile) (piece : List Rec) (r : Rec) → opener piece ≡ Some sref
     → IsPlacingAllowed r.kind r.payload → (r.kind ≡ xy → length (points r.payload) ≡ 1) → (k : ElementRule)
-    → ValueBreaches limits piece r k → ⊥
-law_sref limits piece r o a p Layer x = reference_draws piece sref o (λ e. omega arith) (λ e. omega arith) x.1
-law_sref limits piece r o a p Points x = sref_counted piece _ o (p x.0) x.1
-law_sref limits piece r o a p NotClosed x = (let z = one_opener piece sref boundary o x.1 in omega (arith, z))
-law_sref limits piece r o a p Strans x = x.3 (a.strans x.0 x.2)
-law_sref limits piece r o a p Magnification x = x.2 (a.mag x.0)
-law_sref limits piece r o a p Angle x = x.2 (turn r.payload) (a.angle x.0)
-law_sref limits piece r o a p ColRow x = (let z = one_opener piece sref aref o x.1 in omega (arith, z))
-law_sref limits piece r o a p ArrayStep x = (let z = one_opener piece sref aref o x.1 in omega (arith, z))
-law_sref limits piece r o a p Name x = x.2 (a.name x.0)
-law_sref limits piece r o a p (Path f) x = (let z = one_opener piece sref path o x.1 in omega (arith, z))
-law_sref limits piece r o a p Width x = (let z = one_opener piece sref path o x.0 in omega (arith, z))
-law_sref limits piece r o a p PathType x = (let z = one_opener piece sref path o x.1 in omega (arith, z))
-law_sref limits piece r o a p Oblique x = (let z = one_opener piece sref boundary o x.1 in omega (arith, z))
-law_sref limits piece r o a p Repetition x = (let z = one_opener piece sref aref o x.1 in omega (arith, z))
+    → ValueBreaches profile piece r k → ⊥
+law_sref profile piece r o a p Layer x = reference_draws piece sref o (λ e. omega arith) (λ e. omega arith) x.1
+law_sref profile piece r o a p Points x = sref_counted piece _ o (p x.0) x.1
+law_sref profile piece r o a p NotClosed x = (let z = one_opener piece sref boundary o x.1 in omega (arith, z))
+law_sref profile piece r o a p Strans x = x.3 (a.strans x.0 x.2)
+law_sref profile piece r o a p Magnification x = x.2 (a.mag x.0)
+law_sref profile piece r o a p Angle x = x.2 (turn r.payload) (a.angle x.0)
+law_sref profile piece r o a p ColRow x = (let z = one_opener piece sref aref o x.1 in omega (arith, z))
+law_sref profile piece r o a p ArrayStep x = (let z = one_opener piece sref aref o x.1 in omega (arith, z))
+law_sref profile piece r o a p Name x = x.2 (a.name x.0)
+law_sref profile piece r o a p (Path f) x = (let z = one_opener piece sref path o x.1 in omega (arith, z))
+law_sref profile piece r o a p Width x = (let z = one_opener piece sref path o x.0 in omega (arith, z))
+law_sref profile piece r o a p PathType x = (let z = one_opener piece sref path o x.1 in omega (arith, z))
+law_sref profile piece r o a p Oblique x = (let z = one_opener piece sref boundary o x.1 in omega (arith, z))
+law_sref profile piece r o a p Repetition x = (let z = one_opener piece sref aref o x.1 in omega (arith, z))
 
-pub law_aref : (limits : Limits) (piece : List Rec) (r : Rec) → opener piece ≡ Some aref
-    → IsPlacingAllowed r.kind r.payload → (r.kind ≡ colrow → IsCounted limits r.payload)
+pub law_aref : (profile : Profile) (piece : List Rec) (r : Rec) → opener piece ≡ Some aref
+    → IsPlacingAllowed r.kind r.payload → (r.kind ≡ colrow → IsCounted profile.limits r.payload)
     → (r.kind ≡ xy → (length (points r.payload) ≡ 3) × HasSteps (points r.payload) (columns_in (last_of colrow piece))
     (rows_in (last_of colrow piece)))
-    → (k : ElementRule) → ValueBreaches limits piece r k → ⊥
-law_aref limits piece r o a c p Layer x = reference_draws piece aref o (λ e. omega arith) (λ e. omega arith) x.1
-law_aref limits piece r o a c p Points x = aref_counted piece _ o (p x.0).0 x.1
-law_aref limits piece r o a c p NotClosed x = (let z = one_opener piece aref boundary o x.1 in omega (arith, z))
-law_aref limits piece r o a c p Strans x = x.3 (a.strans x.0 x.2)
-law_aref limits piece r o a c p Magnification x = x.2 (a.mag x.0)
-law_aref limits piece r o a c p Angle x = x.2 (turn r.payload) (a.angle x.0)
-law_aref limits piece r o a c p ColRow x =
+    → (k : ElementRule) → ValueBreaches profile piece r k → ⊥
+law_aref profile piece r o a c p Layer x = reference_draws piece aref o (λ e. omega arith) (λ e. omega arith) x.1
+law_aref profile piece r o a c p Points x = aref_counted piece _ o (p x.0).0 x.1
+law_aref profile piece r o a c p NotClosed x = (let z = one_opener piece aref boundary o x.1 in omega (arith, z))
+law_aref profile piece r o a c p Strans x = x.3 (a.strans x.0 x.2)
+law_aref profile piece r o a c p Magnification x = x.2 (a.mag x.0)
+law_aref profile piece r o a c p Angle x = x.2 (turn r.payload) (a.angle x.0)
+law_aref profile piece r o a c p ColRow x =
     (let z = c x.0 in elim x.2 [
       | inl y ↦ omega (arith, ints, y, z.some_columns)
       | inr y ↦ omega (arith, ints, y, z.some_rows)
     ])
-law_aref limits piece r o a c p ArrayStep x = x.3 (p x.0).1
-law_aref limits piece r o a c p Name x = x.2 (a.name x.0)
-law_aref limits piece r o a c p (Path f) x = (let z = one_opener piece aref path o x.1 in omega (arith, z))
-law_aref limits piece r o a c p Width x = (let z = one_opener piece aref path o x.0 in omega (arith, z))
-law_aref limits piece r o a c p PathType x = (let z = one_opener piece aref path o x.1 in omega (arith, z))
-law_aref limits piece r o a c p Oblique x = (let z = one_opener piece aref boundary o x.1 in omega (arith, z))
-law_aref limits piece r o a c p Repetition x = (let z = c x.0 in omega (arith, z.few, x.4))
+law_aref profile piece r o a c p ArrayStep x = x.3 (p x.0).1
+law_aref profile piece r o a c p Name x = x.2 (a.name x.0)
+law_aref profile piece r o a c p (Path f) x = (let z = one_opener piece aref path o x.1 in omega (arith, z))
+law_aref profile piece r o a c p Width x = (let z = one_opener piece aref path o x.0 in omega (arith, z))
+law_aref profile piece r o a c p PathType x = (let z = one_opener piece aref path o x.1 in omega (arith, z))
+law_aref profile piece r o a c p Oblique x = (let z = one_opener piece aref boundary o x.1 in omega (arith, z))
+law_aref profile piece r o a c p Repetition x = (let z = c x.0 in omega (arith, z.few, x.4))
 
-pub law_text : (limits : Limits) (piece : List Rec) (r : Rec) → opener piece ≡ Some text
-    → (r.kind ≡ xy → length (points r.payload) ≡ 1) → (k : ElementRule) → ValueBreaches limits piece r k → ⊥
-law_text limits piece r o p Layer x = reference_draws piece text o (λ e. omega arith) (λ e. omega arith) x.1
-law_text limits piece r o p Points x = text_counted piece _ o (p x.0) x.1
-law_text limits piece r o p NotClosed x = (let z = one_opener piece text boundary o x.1 in omega (arith, z))
-law_text limits piece r o p Strans x = shape_refers piece text o (λ e. omega arith) (λ e. omega arith) x.1
-law_text limits piece r o p Magnification x = shape_refers piece text o (λ e. omega arith) (λ e. omega arith) x.1
-law_text limits piece r o p Angle x = shape_refers piece text o (λ e. omega arith) (λ e. omega arith) x.1
-law_text limits piece r o p ColRow x = (let z = one_opener piece text aref o x.1 in omega (arith, z))
-law_text limits piece r o p ArrayStep x = (let z = one_opener piece text aref o x.1 in omega (arith, z))
-law_text limits piece r o p Name x = shape_refers piece text o (λ e. omega arith) (λ e. omega arith) x.1
-law_text limits piece r o p (Path f) x = (let z = one_opener piece text path o x.1 in omega (arith, z))
-law_text limits piece r o p Width x = (let z = one_opener piece text path o x.0 in omega (arith, z))
-law_text limits piece r o p PathType x = (let z = one_opener piece text path o x.1 in omega (arith, z))
-law_text limits piece r o p Oblique x = (let z = one_opener piece text boundary o x.1 in omega (arith, z))
-law_text limits piece r o p Repetition x = (let z = one_opener piece text aref o x.1 in omega (arith, z))
+pub law_text : (profile : Profile) (piece : List Rec) (r : Rec) → opener piece ≡ Some text
+    → (r.kind ≡ xy → length (points r.payload) ≡ 1) → (k : ElementRule) → ValueBreaches profile piece r k → ⊥
+law_text profile piece r o p Layer x = reference_draws piece text o (λ e. omega arith) (λ e. omega arith) x.1
+law_text profile piece r o p Points x = text_counted piece _ o (p x.0) x.1
+law_text profile piece r o p NotClosed x = (let z = one_opener piece text boundary o x.1 in omega (arith, z))
+law_text profile piece r o p Strans x = shape_refers piece text o (λ e. omega arith) (λ e. omega arith) x.1
+law_text profile piece r o p Magnification x = shape_refers piece text o (λ e. omega arith) (λ e. omega arith) x.1
+law_text profile piece r o p Angle x = shape_refers piece text o (λ e. omega arith) (λ e. omega arith) x.1
+law_text profile piece r o p ColRow x = (let z = one_opener piece text aref o x.1 in omega (arith, z))
+law_text profile piece r o p ArrayStep x = (let z = one_opener piece text aref o x.1 in omega (arith, z))
+law_text profile piece r o p Name x = shape_refers piece text o (λ e. omega arith) (λ e. omega arith) x.1
+law_text profile piece r o p (Path f) x = (let z = one_opener piece text path o x.1 in omega (arith, z))
+law_text profile piece r o p Width x = (let z = one_opener piece text path o x.0 in omega (arith, z))
+law_text profile piece r o p PathType x = (let z = one_opener piece text path o x.1 in omega (arith, z))
+law_text profile piece r o p Oblique x = (let z = one_opener piece text boundary o x.1 in omega (arith, z))
+law_text profile piece r o p Repetition x = (let z = one_opener piece text aref o x.1 in omega (arith, z))
 
 -- an XY breaches no rule of placing
 pub placing_at_points : (k : ℕ) (p : List ℕ) → k ≡ xy → IsPlacingAllowed k p
@@ -211,31 +215,33 @@ placing_at_points k p x = record {
 }
 
 -- ENDEL breaches no rule
-pub law_endel : (limits : Limits) (piece : List Rec) (r : Rec) → r.kind ≡ endel → (k : ElementRule) → ValueBreaches limits piece r k → ⊥
-law_endel limits piece r e Layer x = elim x.0 [ inl y ↦ omega (arith, y, e) | inr y ↦ omega (arith, y, e) ]
-law_endel limits piece r e Width x = elim x.1 [ inl y ↦ omega (arith, y.0, e) | inr y ↦ omega (arith, y.0, e) ]
-law_endel limits piece r e other x = omega (arith, x.0, e)
+pub law_endel : (profile : Profile) (piece : List Rec) (r : Rec) → r.kind ≡ endel → (k : ElementRule)
+    → ValueBreaches profile piece r k → ⊥
+law_endel profile piece r e Layer x = elim x.0 [ inl y ↦ omega (arith, y, e) | inr y ↦ omega (arith, y, e) ]
+law_endel profile piece r e Width x = elim x.1 [ inl y ↦ omega (arith, y.0, e) | inr y ↦ omega (arith, y.0, e) ]
+law_endel profile piece r e other x = omega (arith, x.0, e)
 
 -- a fault of the points of a boundary is a breach
-pub ring_fault : (limits : Limits) (piece : List Rec) (r : Rec) → opener piece ≡ Some boundary → r.kind ≡ xy → (k : ElementRule)
-    → IsRingFault (points r.payload) k → ValueBreaches limits piece r k
-ring_fault limits piece r o x Points b = (x, inl (o, b))
-ring_fault limits piece r o x NotClosed b = (x, o, b.0, b.1)
-ring_fault limits piece r o x Oblique b = (x, o, b.0, b.1, b.2)
-ring_fault limits piece r o x other b = absurd b
+pub ring_fault : (profile : Profile) (piece : List Rec) (r : Rec) → opener piece ≡ Some boundary → r.kind ≡ xy
+    → (k : ElementRule)
+    → IsRingFault (points r.payload) k → ValueBreaches profile piece r k
+ring_fault profile piece r o x Points b = (x, inl (o, b))
+ring_fault profile piece r o x NotClosed b = (x, o, b.0, b.1)
+ring_fault profile piece r o x Oblique b = (x, o, b.0, b.1, b.2)
+ring_fault profile piece r o x other b = absurd b
 
 -- so is a fault of the placing
-pub placing_fault : (limits : Limits) (piece : List Rec) (r : Rec) → RefersToCell piece → (k : ElementRule)
-    → IsPlacingFault r.kind r.payload k → ValueBreaches limits piece r k
-placing_fault limits piece r o Strans b = (b.0, o, b.1, b.2)
-placing_fault limits piece r o Magnification b = (b.0, o, b.1)
-placing_fault limits piece r o Angle b = (b.0, o, b.1)
-placing_fault limits piece r o Name b = (b.0, o, b.1)
-placing_fault limits piece r o other b = absurd b
+pub placing_fault : (profile : Profile) (piece : List Rec) (r : Rec) → RefersToCell piece → (k : ElementRule)
+    → IsPlacingFault r.kind r.payload k → ValueBreaches profile piece r k
+placing_fault profile piece r o Strans b = (b.0, o, b.1, b.2)
+placing_fault profile piece r o Magnification b = (b.0, o, b.1)
+placing_fault profile piece r o Angle b = (b.0, o, b.1)
+placing_fault profile piece r o Name b = (b.0, o, b.1)
+placing_fault profile piece r o other b = absurd b
 
 -- and one of the columns and rows
-pub count_fault : (limits : Limits) (piece : List Rec) (r : Rec) → opener piece ≡ Some aref → (k : ElementRule)
-    → (r.kind ≡ colrow) × IsCountFault limits r.payload k → ValueBreaches limits piece r k
-count_fault limits piece r o ColRow b = (b.0, o, b.1)
-count_fault limits piece r o Repetition b = (b.0, o, b.1.0, b.1.1, b.1.2)
-count_fault limits piece r o other b = absurd b.1
+pub count_fault : (profile : Profile) (piece : List Rec) (r : Rec) → opener piece ≡ Some aref → (k : ElementRule)
+    → (r.kind ≡ colrow) × IsCountFault profile.limits r.payload k → ValueBreaches profile piece r k
+count_fault profile piece r o ColRow b = (b.0, o, b.1)
+count_fault profile piece r o Repetition b = (b.0, o, b.1.0, b.1.1, b.1.2)
+count_fault profile piece r o other b = absurd b.1

@@ -20,7 +20,7 @@ use Rattle.gds_elements.proofs.Fields.{opener-snoc, last_read, last_there, field
 use Rattle.gds_elements.proofs.Leads.{leads_more}
 use Rattle.gds_elements.proofs.Shapes.{kind_test}
 use Rattle.gds_elements.proofs.Placings.{placed_more, reference_is}
-use Rattle.lvl_profile.specs.declared.limits.Limits.{Limits}
+use Rattle.lvl_profile.specs.declared.profile.Profile.{Profile}
 
 pub aref_goes : (s s' : Aref) (piece : List Rec) (r : Rec) → IsArefRead s piece
     → after_first (left s.stage) r.kind ≡ left s'.stage ∷ []
@@ -87,14 +87,15 @@ steps_of s piece ps h k = (
 )
 
 -- a fault of the points of an array is a breach
-pub array_fault : (limits : Limits) (s : Aref) (piece : List Rec) (r : Rec) → IsArefRead s piece → r.kind ≡ xy → (k : ElementRule)
-    → IsArrayFault (points r.payload) s.counts.columns s.counts.rows k → ValueBreaches limits piece r k
-array_fault limits s piece r h x PointsFault b = (x, inr (inr (inl (h.opened, b))))
-array_fault limits s piece r h x ArrayStep b = (
+pub array_fault : (profile : Profile) (s : Aref) (piece : List Rec) (r : Rec) → IsArefRead s piece → r.kind ≡ xy
+    → (k : ElementRule)
+    → IsArrayFault (points r.payload) s.counts.columns s.counts.rows k → ValueBreaches profile piece r k
+array_fault profile s piece r h x PointsFault b = (x, inr (inr (inl (h.opened, b))))
+array_fault profile s piece r h x ArrayStep b = (
   x,
   h.opened,
   b.0,
   λ z. b.1 (subst (λ m. HasSteps (points r.payload) m s.counts.rows) (sym h.columns)
       (subst (λ n. HasSteps (points r.payload) (columns_in (last_of colrow piece)) n) (sym h.rows) z)),
 )
-array_fault limits s piece r h x other b = absurd b
+array_fault profile s piece r h x other b = absurd b

@@ -18,7 +18,7 @@ use Rattle.lvl_grammar.specs.inside.After.{after_first}
 use Rattle.lvl_grammar.proofs.Orders.{type_same}
 use Rattle.lvl_grammar.proofs.Leads.{leads_begin, leads_on, leads_nowhere, leads_begins as begins_by}
 use Rattle.gds_elements.proofs.Fields.{kinds-snoc}
-use Rattle.lvl_profile.specs.declared.limits.Limits.{Limits}
+use Rattle.lvl_profile.specs.declared.profile.Profile.{Profile}
 
 -- the types before what is left begin an element
 pub leads_begins : (w : List ℕ) (a : Order) → LeadsTo an_element w a → Begins an_element w
@@ -50,14 +50,14 @@ pub misplaced_carried : (a b : Type 0) (r : Rec) (m : Misplaced) → (b → a) �
 misplaced_carried a b r (Unexpected j) f x = (x.0, x.1, λ g. x.2 (f g))
 misplaced_carried a b r (Unsupported j) f x = x
 
-pub law_misplaced : (limits : Limits) (piece : List Rec) (r : Rec) (a : Order) (e : Cause ElementFault)
+pub law_misplaced : (profile : Profile) (piece : List Rec) (r : Rec) (a : Order) (e : Cause ElementFault)
     → LeadsTo an_element (kinds piece) a → after_first a r.kind ≡ [] → r.kind < 60 → IsMisplaced r.kind e
-    → Says e (ElementBreaches limits piece r)
-law_misplaced limits piece r a (Breach (MisplacedRecord m)) h t l x =
+    → Says e (ElementBreaches profile piece r)
+law_misplaced profile piece r a (Breach (MisplacedRecord m)) h t l x =
     misplaced_as (InOrder piece r) r m (λ g. leads_nowhere an_element (kinds piece) a r.kind h t
     (subst (Begins an_element) (kinds-snoc piece r) g)) l x
-law_misplaced limits piece r a (Breach (Rule k)) h t l x = absurd x
-law_misplaced limits piece r a OutOfMemory h t l x = absurd x
+law_misplaced profile piece r a (Breach (Rule k)) h t l x = absurd x
+law_misplaced profile piece r a OutOfMemory h t l x = absurd x
 
 -- the meaning of a refusal, weakened
 pub says_carried : {F : Type 0} (e : Cause F) (P : F → Type 0) (Q : F → Type 0) → ((k : F) → P k → Q k) → Says e P

@@ -6,6 +6,7 @@ use Rattle.std.specs.Ordering.{int_eq}
 use Rattle.std.specs.declared.alloc.Global.{Global}
 use Rattle.std.specs.declared.vec.Vec.{Vec}
 use Rattle.lvl_grid.specs.declared.point.Point.{Point}
+use Rattle.lvl_path.specs.Repeats.{asked, without_repeats}
 use Rattle.lvl_path.specs.Runs.{path_rings, IsLowestFault}
 use Rattle.lvl_cells.specs.Cells.{Rings}
 use Rattle.gds_elements.specs.Types.{path, layer, datatype, pathtype, width, xy, endel}
@@ -26,7 +27,7 @@ use Rattle.lvl_grammar.specs.inside.After.{after_first}
 use Rattle.gds_elements.proofs.Fields.{field_read, field_here, field_there, last_read, opener-snoc}
 use Rattle.gds_elements.proofs.Leads.{leads_more}
 use Rattle.gds_elements.proofs.Shapes.{layer_more, layer_kept, shape_same, kind_test}
-use Rattle.lvl_profile.specs.declared.limits.Limits.{Limits}
+use Rattle.lvl_profile.specs.declared.profile.Profile.{Profile}
 
 pub path_goes : (p p' : Path) (piece : List Rec) (r : Rec) → IsPathRead p piece
     → after_first (left p.stage) r.kind ≡ left p'.stage ∷ []
@@ -84,7 +85,7 @@ end_kept piece r x =
     ∙ ap (end_reach (field pathtype piece)) (half_kept piece r x)
 
 abbrev rings_at : List Point → ℕ → ℕ → Rings
-rings_at ps h e = path_rings ps (record { half = h; start = e; end = e })
+rings_at ps h e = path_rings (without_repeats ps) (record { half = h; start = e; end = e })
 
 pub path_ends : (p : Path) (piece : List Rec) (r : Rec) (h : ℕ) (rings : Vec (List Point) Global)
     → IsPathRead p piece → after_first (left p.stage) r.kind ≡ one endel ∷ [] → r.kind ≡ xy → p.half ≡ Some h
@@ -113,15 +114,17 @@ path_ends p piece r h rings i a x w e =
     }
 
 -- a fault of the points of a path is a breach
-pub bands_fault : (limits : Limits) (p : Path) (piece : List Rec) (r : Rec) → IsPathRead p piece → r.kind ≡ xy → (k : ElementRule)
-    → IsBandsFault (points r.payload) p.half p.square k → ValueBreaches limits piece r k
-bands_fault limits p piece r h x PointsFault b = (x, inr (inl (h.opened, b)))
-bands_fault limits p piece r h x WidthFault b = (h.opened, inr (x, b.0, none_half (last_of width piece) (sym h.half ∙ b.1)))
-bands_fault limits p piece r h x (PathFault f) (n, half, e, low) =
-    let ps = points r.payload in
+pub bands_fault : (profile : Profile) (p : Path) (piece : List Rec) (r : Rec) → IsPathRead p piece → r.kind ≡ xy
+    → (k : ElementRule)
+    → IsBandsFault profile.ignore.points (points r.payload) p.half p.square k → ValueBreaches profile piece r k
+bands_fault profile p piece r h x PointsFault b = (x, inr (inl (h.opened, b)))
+bands_fault profile p piece r h x WidthFault b =
+    (h.opened, inr (x, b.0, none_half (last_of width piece) (sym h.half ∙ b.1)))
+bands_fault profile p piece r h x (PathFault f) (n, half, e, low) =
+    let ps = asked profile.ignore.points (points r.payload) in
     let low' = subst (λ (i : ℕ). IsLowestFault ps (record { half = half; start = i; end = i }) f)
     (reach_is p piece half h e) low in
     let low'' = subst (λ (i : ℕ). IsLowestFault ps (record { half = i; start = end_of piece; end = end_of piece }) f)
     (half_is p piece half h e) low' in
     (x, h.opened, n, width_read p piece h (λ z. (let y : Some half ≡ None = sym e ∙ z in cc)), low'')
-bands_fault limits p piece r h x other b = absurd b
+bands_fault profile p piece r h x other b = absurd b

@@ -25,34 +25,41 @@ use Rattle.gds_elements.proofs.Fields.{last_there, opener-snoc, kinds-snoc}
 use Rattle.gds_elements.proofs.Leads.{says_carried}
 use Rattle.gds_elements.proofs.OneRule.{one_rule}
 use Rattle.gds_elements.proofs.Allowed.{law_endel, allowed}
-use Rattle.lvl_profile.specs.declared.limits.Limits.{Limits}
+use Rattle.lvl_profile.specs.declared.profile.Profile.{Profile}
 
 -- a refusal that is passed on
-pub takes_refused : (limits : Limits) (piece : List Rec) (r : Rec) (res : Result State (Cause ElementFault)) (e : Cause ElementFault)
-    → IsErr res × IsErrAnd res (λ x. x ≡ e) → Says e (ElementBreaches limits piece r) → Takes limits piece r res
-takes_refused limits piece r (Ok s) e h b = absurd h.1
-takes_refused limits piece r (Err x) e h b = subst (λ (i : Cause ElementFault). Says i (ElementBreaches limits piece r)) (sym h.1) b
+pub takes_refused : (profile : Profile) (piece : List Rec) (r : Rec) (res : Result State (Cause ElementFault))
+    (e : Cause ElementFault)
+    → IsErr res × IsErrAnd res (λ x. x ≡ e) → Says e (ElementBreaches profile piece r) → Takes profile piece r res
+takes_refused profile piece r (Ok s) e h b = absurd h.1
+takes_refused profile piece r (Err x) e h b = subst (λ (i : Cause ElementFault). Says i
+    (ElementBreaches profile piece r)) (sym h.1) b
 
-broken_breaches : (limits : Limits) (piece : List Rec) (r : Rec) (P : ElementRule → Type 0) → InOrder piece r
-    → ((k : ElementRule) → P k → ValueBreaches limits piece r k) → (f : ElementFault) → Broken P f → ElementBreaches limits piece r f
-broken_breaches limits piece r P g h (MisplacedRecord m) x = absurd x
-broken_breaches limits piece r P g h (Rule k) x = (g, h k x)
+broken_breaches : (profile : Profile) (piece : List Rec) (r : Rec) (P : ElementRule → Type 0) → InOrder piece r
+    → ((k : ElementRule) → P k → ValueBreaches profile piece r k) → (f : ElementFault) → Broken P f
+    → ElementBreaches profile piece r f
+broken_breaches profile piece r P g h (MisplacedRecord m) x = absurd x
+broken_breaches profile piece r P g h (Rule k) x = (g, h k x)
 
 -- a refusal by a value that breaches a rule
-pub takes_broken : (limits : Limits) (piece : List Rec) (r : Rec) (res : Result State (Cause ElementFault)) (e : Cause ElementFault)
+pub takes_broken : (profile : Profile) (piece : List Rec) (r : Rec) (res : Result State (Cause ElementFault))
+    (e : Cause ElementFault)
     (P : ElementRule → Type 0)
     → IsErr res × IsErrAnd res (λ x. x ≡ e) → InOrder piece r
-    → ((k : ElementRule) → P k → ValueBreaches limits piece r k) → Says e (Broken P) → Takes limits piece r res
-takes_broken limits piece r res e P h g f s =
-    takes_refused limits piece r res e h (says_carried e (Broken P) (ElementBreaches limits piece r) (broken_breaches limits piece r P g f)
+    → ((k : ElementRule) → P k → ValueBreaches profile piece r k) → Says e (Broken P) → Takes profile piece r res
+takes_broken profile piece r res e P h g f s =
+    takes_refused profile piece r res e h (says_carried e (Broken P) (ElementBreaches profile piece r)
+    (broken_breaches profile piece r P g f)
     s)
 
-pub takes_one : (limits : Limits) (piece : List Rec) (r : Rec) (res : Result State (Cause ElementFault)) (e : Cause ElementFault)
+pub takes_one : (profile : Profile) (piece : List Rec) (r : Rec) (res : Result State (Cause ElementFault))
+    (e : Cause ElementFault)
     (k : ElementRule)
     → IsErr res × IsErrAnd res (λ x. x ≡ e) → InOrder piece r
-    → e ≡ breach k → ValueBreaches limits piece r k → Takes limits piece r res
-takes_one limits piece r res e k h g f b =
-    takes_refused limits piece r res e h (subst (λ (i : Cause ElementFault). Says i (ElementBreaches limits piece r)) (sym f)
+    → e ≡ breach k → ValueBreaches profile piece r k → Takes profile piece r res
+takes_one profile piece r res e k h g f b =
+    takes_refused profile piece r res e h (subst (λ (i : Cause ElementFault). Says i (ElementBreaches profile piece r))
+    (sym f)
     (g, b))
 
 -- ENDEL changes nothing of what was drawn
@@ -82,9 +89,9 @@ endel_references k piece r e =
       same_kinds piece r colrow e refl,
     ) refl
 
-pub law_end : (limits : Limits) (piece : List Rec) (r : Rec) (d : Drawn) → IsAtEnd d piece → r.kind ≡ endel
-    → IsStep (Whole d) (piece ++ r ∷ []) × BreachesNone limits piece r
-law_end limits piece r d h e =
+pub law_end : (profile : Profile) (piece : List Rec) (r : Rec) (d : Drawn) → IsAtEnd d piece → r.kind ≡ endel
+    → IsStep (Whole d) (piece ++ r ∷ []) × BreachesNone profile piece r
+law_end profile piece r d h e =
     let new = piece ++ r ∷ [] in
     let k = h.opened.0 in
     let o : opener new ≡ Some k = opener-snoc piece r k h.opened.1 in
@@ -102,34 +109,40 @@ law_end limits piece r d h e =
               ∙ sym (endel_references k piece r e) ∙ sym (ap (λ q. references_by q new) o);
         },
       ),
-      allowed limits piece r begun (law_endel limits piece r e),
+      allowed profile piece r begun (law_endel profile piece r e),
     )
 
 -- a step of a state is one of the element
-pub takes_steps : (limits : Limits) (piece : List Rec) (r : Rec) (k : ℕ) (p : List ℕ) (res : Result Step (Cause ElementFault))
-    → r.kind ≡ k → r.payload ≡ p → ((d : ℕ) → Steps limits piece (record_of k d p) res) → Steps limits piece r res
-takes_steps limits piece r k p res e f h =
+pub takes_steps : (profile : Profile) (piece : List Rec) (r : Rec) (k : ℕ) (p : List ℕ) (res : Result Step
+    (Cause ElementFault))
+    → r.kind ≡ k → r.payload ≡ p → ((d : ℕ) → Steps profile piece (record_of k d p) res) → Steps profile piece r res
+takes_steps profile piece r k p res e f h =
     let g : record_of k r.data_type p ≡ r = ap (λ i. record_of i r.data_type p) (sym e)
     ∙ ap (λ q. record_of r.kind r.data_type q) (sym f) in
-    subst (λ (i : Rec). Steps limits piece i res) g (h r.data_type)
+    subst (λ (i : Rec). Steps profile piece i res) g (h r.data_type)
 
-pub steps_going : (limits : Limits) (piece : List Rec) (r : Rec) (res : Result Step (Cause ElementFault)) → Steps limits piece r res
+pub steps_going : (profile : Profile) (piece : List Rec) (r : Rec) (res : Result Step (Cause ElementFault))
+    → Steps profile piece r res
     → IfOk res (λ s. IsStep s (piece ++ r ∷ []))
-steps_going limits piece r (Ok s) h = h.0
-steps_going limits piece r (Err e) h = tt
+steps_going profile piece r (Ok s) h = h.0
+steps_going profile piece r (Err e) h = tt
 
-pub steps_allowed : (limits : Limits) (piece : List Rec) (r : Rec) (res : Result Step (Cause ElementFault)) → Steps limits piece r res
-    → OnOk res (BreachesNone limits piece r)
-steps_allowed limits piece r (Ok s) h = h.1
-steps_allowed limits piece r (Err e) h = tt
+pub steps_allowed : (profile : Profile) (piece : List Rec) (r : Rec) (res : Result Step (Cause ElementFault))
+    → Steps profile piece r res
+    → OnOk res (BreachesNone profile piece r)
+steps_allowed profile piece r (Ok s) h = h.1
+steps_allowed profile piece r (Err e) h = tt
 
-pub steps_refused : (limits : Limits) (piece : List Rec) (r : Rec) (res : Result Step (Cause ElementFault)) → Steps limits piece r res
-    → IfErr res (λ e. Says e (ElementBreaches limits piece r))
-steps_refused limits piece r (Ok s) h = tt
-steps_refused limits piece r (Err e) h = h
+pub steps_refused : (profile : Profile) (piece : List Rec) (r : Rec) (res : Result Step (Cause ElementFault))
+    → Steps profile piece r res
+    → IfErr res (λ e. Says e (ElementBreaches profile piece r))
+steps_refused profile piece r (Ok s) h = tt
+steps_refused profile piece r (Err e) h = h
 
-pub steps_alone : (limits : Limits) (piece : List Rec) (r : Rec) (res : Result Step (Cause ElementFault)) → Steps limits piece r res
-    → IfErr res (λ e. Says e (BreachesOnly limits piece r))
-steps_alone limits piece r (Ok s) h = tt
-steps_alone limits piece r (Err e) h =
-    says_carried e (ElementBreaches limits piece r) (BreachesOnly limits piece r) (λ k x j y. one_rule limits piece r j k y x) h
+pub steps_alone : (profile : Profile) (piece : List Rec) (r : Rec) (res : Result Step (Cause ElementFault))
+    → Steps profile piece r res
+    → IfErr res (λ e. Says e (BreachesOnly profile piece r))
+steps_alone profile piece r (Ok s) h = tt
+steps_alone profile piece r (Err e) h =
+    says_carried e (ElementBreaches profile piece r) (BreachesOnly profile piece r)
+    (λ k x j y. one_rule profile piece r j k y x) h

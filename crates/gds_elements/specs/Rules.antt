@@ -8,6 +8,7 @@ use Rattle.gds_records.specs.Table.{table, form_among}
 use Rattle.lvl_grid.specs.Winding.{IsStraight, path_edges, last_or}
 use Rattle.lvl_grid.specs.declared.point.Point.{Point}
 use Rattle.lvl_grid.specs.declared.map.Turn.{Turn}
+use Rattle.lvl_path.specs.Repeats.{asked}
 use Rattle.lvl_path.specs.Runs.{IsLowestFault}
 use Rattle.lvl_names.specs.Names.{IsName}
 use Rattle.gds_elements.specs.Types.{boundary, path, sref, aref, text, layer, datatype, width, xy, sname, colrow}
@@ -25,7 +26,7 @@ use Rattle.gds_elements.specs.declared.fault.ElementRule.{ElementRule}
 use Rattle.gds_elements.specs.declared.fault.ElementRule.TheVariants.{Layer, Points, NotClosed, Strans, Magnification}
 use Rattle.gds_elements.specs.declared.fault.ElementRule.TheVariants.{Angle, ColRow, ArrayStep, Name, Path, Width}
 use Rattle.gds_elements.specs.declared.fault.ElementRule.TheVariants.{PathType, Oblique, Repetition}
-use Rattle.lvl_profile.specs.declared.limits.Limits.{Limits}
+use Rattle.lvl_profile.specs.declared.profile.Profile.{Profile}
 
 -- the type is one of those that are always read
 abbrev pub IsKnown : ℕ → Type 0
@@ -70,38 +71,39 @@ IsMiscounted piece n =
     ⊎ (((opener piece ≡ Some sref) ⊎ (opener piece ≡ Some text)) × (n ≢ 1))
 
 -- the record r breaches the rule by its payload, if `piece` are the records of its element so far
-abbrev pub ValueBreaches : Limits → List Rec → Rec → ElementRule → Type 0
-ValueBreaches limits piece r Layer =
+abbrev pub ValueBreaches : Profile → List Rec → Rec → ElementRule → Type 0
+ValueBreaches profile piece r Layer =
     ((r.kind ≡ layer) ⊎ (r.kind ≡ datatype)) × DrawsShape piece × (short r.payload <ℤ pos 0)
-ValueBreaches limits piece r Points = (r.kind ≡ xy) × IsMiscounted piece (length (points r.payload))
-ValueBreaches limits piece r NotClosed =
+ValueBreaches profile piece r Points = (r.kind ≡ xy) × IsMiscounted piece (length (points r.payload))
+ValueBreaches profile piece r NotClosed =
     (r.kind ≡ xy) × (opener piece ≡ Some boundary) × (4 ≤ length (points r.payload)) × ¬ IsClosed (points r.payload)
-ValueBreaches limits piece r Strans =
+ValueBreaches profile piece r Strans =
     (r.kind ≡ strans) × RefersToCell piece × (bits r.payload ≢ 0) × (bits r.payload ≢ 0x8000)
-ValueBreaches limits piece r Magnification =
+ValueBreaches profile piece r Magnification =
     (r.kind ≡ mag) × RefersToCell piece × (r.payload ≢ one_real)
-ValueBreaches limits piece r Angle = (r.kind ≡ angle) × RefersToCell piece × ((t : Turn) → r.payload ≢ degrees t)
-ValueBreaches limits piece r ColRow =
+ValueBreaches profile piece r Angle = (r.kind ≡ angle) × RefersToCell piece × ((t : Turn) → r.payload ≢ degrees t)
+ValueBreaches profile piece r ColRow =
     (r.kind ≡ colrow) × (opener piece ≡ Some aref) × ((columns r.payload <ℤ pos 1) ⊎ (rows r.payload <ℤ pos 1))
-ValueBreaches limits piece r ArrayStep =
+ValueBreaches profile piece r ArrayStep =
     (r.kind ≡ xy) × (opener piece ≡ Some aref) × (length (points r.payload) ≡ 3)
     × ¬ HasSteps (points r.payload) (columns_in (last_of colrow piece)) (rows_in (last_of colrow piece))
-ValueBreaches limits piece r Name = (r.kind ≡ sname) × RefersToCell piece × ¬ IsName (name r.payload)
-ValueBreaches limits piece r (Path f) =
+ValueBreaches profile piece r Name = (r.kind ≡ sname) × RefersToCell piece × ¬ IsName (name r.payload)
+ValueBreaches profile piece r (Path f) =
     (r.kind ≡ xy) × (opener piece ≡ Some path) × (2 ≤ length (points r.payload)) × (last_of width piece ≢ None)
-    × IsLowestFault (points r.payload) (record { half = half_of piece; start = end_of piece; end = end_of piece }) f
-ValueBreaches limits piece r Width =
+    × IsLowestFault (asked profile.ignore.points (points r.payload))
+    (record { half = half_of piece; start = end_of piece; end = end_of piece }) f
+ValueBreaches profile piece r Width =
     (opener piece ≡ Some path)
     × (((r.kind ≡ width) × ¬ IsWidth (long r.payload)) ⊎ ((r.kind ≡ xy) × (2 ≤ length (points r.payload))
     × (last_of width piece ≡ None)))
-ValueBreaches limits piece r PathType =
+ValueBreaches profile piece r PathType =
     (r.kind ≡ pathtype) × (opener piece ≡ Some path) × (short r.payload ≢ pos 0) × (short r.payload ≢ pos 2)
-ValueBreaches limits piece r Oblique =
+ValueBreaches profile piece r Oblique =
     (r.kind ≡ xy) × (opener piece ≡ Some boundary) × (4 ≤ length (points r.payload)) × IsClosed (points r.payload)
     × ¬ All IsStraight (steps (points r.payload))
-ValueBreaches limits piece r Repetition =
+ValueBreaches profile piece r Repetition =
     (r.kind ≡ colrow) × (opener piece ≡ Some aref) × (pos 1 ≤ℤ columns r.payload) × (pos 1 ≤ℤ rows r.payload)
-    × (limits.array < magnitude (columns r.payload) * magnitude (rows r.payload))
+    × (profile.limits.array < magnitude (columns r.payload) * magnitude (rows r.payload))
 
 -- the record may come next in the element
 abbrev pub InOrder : List Rec → Rec → Type 0
@@ -113,14 +115,14 @@ IsMisplacedAs ordered r (Unexpected k) = (r.kind ≡ k) × IsKnown k × ¬ order
 IsMisplacedAs ordered r (Unsupported k) = (r.kind ≡ k) × (k < 60) × ¬ IsKnown k
 
 -- the record may not come next, or its payload breaches a rule
-abbrev pub ElementBreaches : Limits → List Rec → Rec → ElementFault → Type 0
-ElementBreaches limits piece r (MisplacedRecord m) = IsMisplacedAs (InOrder piece r) r m
-ElementBreaches limits piece r (Rule k) = InOrder piece r × ValueBreaches limits piece r k
+abbrev pub ElementBreaches : Profile → List Rec → Rec → ElementFault → Type 0
+ElementBreaches profile piece r (MisplacedRecord m) = IsMisplacedAs (InOrder piece r) r m
+ElementBreaches profile piece r (Rule k) = InOrder piece r × ValueBreaches profile piece r k
 
 -- it breaches no other rule
-abbrev pub BreachesOnly : Limits → List Rec → Rec → ElementFault → Type 0
-BreachesOnly limits piece r f = (g : ElementFault) → ElementBreaches limits piece r g → g ≡ f
+abbrev pub BreachesOnly : Profile → List Rec → Rec → ElementFault → Type 0
+BreachesOnly profile piece r f = (g : ElementFault) → ElementBreaches profile piece r g → g ≡ f
 
 -- it breaches no rule
-abbrev pub BreachesNone : Limits → List Rec → Rec → Type 0
-BreachesNone limits piece r = (f : ElementFault) → ElementBreaches limits piece r f → ⊥
+abbrev pub BreachesNone : Profile → List Rec → Rec → Type 0
+BreachesNone profile piece r = (f : ElementFault) → ElementBreaches profile piece r f → ⊥

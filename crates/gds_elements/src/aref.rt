@@ -27,7 +27,7 @@ use gds_records::record_type;
 use lvl_cells::Reference;
 use lvl_grid::Point;
 use lvl_names::{Name, Offsets};
-use lvl_profile::Limits;
+use lvl_profile::Profile;
 use lvl_refusal::Cause;
 use std::alloc::Global;
 
@@ -96,13 +96,13 @@ impl Aref {
     pub(crate) fn take(
         self,
         alloc: Global,
-        limits: Limits,
+        profile: Profile,
         kind: u8,
         payload: &[u8],
     ) -> Result<State, Cause<ElementFault>>
         requires { IsFormed kind payload.now }
         ensures { (piece : List Rec) (d : ℕ) → IsArefRead self piece
-            → Takes limits piece (record_of kind d payload.now) result }
+            → Takes profile piece (record_of kind d payload.now) result }
     {
         let Aref {
             stage,
@@ -112,7 +112,7 @@ impl Aref {
         match stage.after(kind) {
             Next::Goes(stage) => {
                 let placing = placing.read(alloc, kind, payload)?;
-                let counts = read_counts(counts, limits, kind, payload)?;
+                let counts = read_counts(counts, profile.limits, kind, payload)?;
                 Ok(State::Aref(Aref {
                     stage,
                     placing,

@@ -9,7 +9,7 @@ ghost use Rattle.lvl_grammar.specs.inside.After.{after_first};
 ghost use Rattle.gds_elements.specs.inside.Left.{left_after, EndsBy};
 ghost use Rattle.gds_elements.specs.inside.Formed.{IsFormed};
 ghost use Rattle.gds_elements.specs.inside.Boundary.{left, IsBoundary, IsRingFault};
-ghost use Rattle.lvl_profile.specs.declared.limits.Limits.{Limits as PlainLimits};
+ghost use Rattle.lvl_profile.specs.declared.profile.Profile.{Profile as PlainProfile};
 ghost use Rattle.gds_elements.specs.inside.Reading.{Takes, record_of};
 ghost use Rattle.lvl_refusal.specs.Refused.{Says};
 ghost use Rattle.gds_elements.specs.inside.Misplaced.{Broken};
@@ -87,8 +87,8 @@ impl Boundary {
         payload: &[u8],
     ) -> Result<State, Cause<ElementFault>>
         requires { IsFormed kind payload.now }
-        ensures { (limits : PlainLimits) (piece : List Rec) (d : ℕ) → IsBoundary self piece
-            → Takes limits piece (record_of kind d payload.now) result }
+        ensures { (profile : PlainProfile) (piece : List Rec) (d : ℕ) → IsBoundary self piece
+            → Takes profile piece (record_of kind d payload.now) result }
     {
         match self.stage.after(kind) {
             Next::Goes(stage) => {

@@ -4,7 +4,7 @@ ghost use Rattle.std.specs.Prelude.{false};
 ghost use Rattle.gds_elements.specs.Order.{opens};
 ghost use Rattle.gds_elements.specs.Rec.{Rec, an_end};
 ghost use Rattle.gds_elements.specs.Rules.{InOrder, ElementBreaches, BreachesOnly, BreachesNone};
-ghost use Rattle.lvl_profile.specs.declared.limits.Limits.{Limits as PlainLimits};
+ghost use Rattle.lvl_profile.specs.declared.profile.Profile.{Profile as PlainProfile};
 ghost use Rattle.gds_elements.specs.inside.Formed.{IsFormed};
 ghost use Rattle.gds_elements.specs.inside.Reading.{IsReading, IsStep, HasRead, IsAtEnd, Takes, Steps, record_of};
 ghost use Rattle.lvl_refusal.specs.Refused.{Says};
@@ -20,7 +20,7 @@ use gds_records::record_type;
 use lvl_cells::Reference;
 use lvl_grid::Ring;
 use lvl_names::Layer;
-use lvl_profile::Limits;
+use lvl_profile::Profile;
 use lvl_refusal::Cause;
 use std::alloc::Global;
 
@@ -107,11 +107,11 @@ impl Element {
     /// that is out of order is refused before its payload is looked at. Then the rules of its type are
     /// tested in the order of that list, except that `Oblique` comes after `NotClosed` and `Width`
     /// before `Path`, and the first that it breaches is reported. An array may have at most
-    /// `limits.array` places.
+    /// `profile.limits.array` places.
     pub fn take(
         self,
         alloc: Global,
-        limits: Limits,
+        profile: Profile,
         kind: u8,
         payload: &[u8],
     ) -> Result<Step, Cause<ElementFault>>
@@ -119,13 +119,13 @@ impl Element {
         ensures going { (piece : List Rec) (r : Rec) → IsReading self piece → r.kind ≡ kind → r.payload ≡ payload.now
             → IfOk result (λ step. IsStep step (piece ++ r ∷ [])) }
         ensures allowed { (piece : List Rec) (r : Rec) → IsReading self piece → r.kind ≡ kind → r.payload ≡ payload.now
-            → OnOk result (BreachesNone limits piece r) }
+            → OnOk result (BreachesNone profile piece r) }
         ensures refused { (piece : List Rec) (r : Rec) → IsReading self piece → r.kind ≡ kind → r.payload ≡ payload.now
-            → IfErr result (λ e. Says e (ElementBreaches limits piece r)) }
+            → IfErr result (λ e. Says e (ElementBreaches profile piece r)) }
         ensures alone { (piece : List Rec) (r : Rec) → IsReading self piece → r.kind ≡ kind → r.payload ≡ payload.now
-            → IfErr result (λ e. Says e (BreachesOnly limits piece r)) }
+            → IfErr result (λ e. Says e (BreachesOnly profile piece r)) }
     {
-        self.state.take(alloc, limits, kind, payload)
+        self.state.take(alloc, profile, kind, payload)
     }
 }
 
@@ -133,19 +133,19 @@ impl State {
     fn take(
         self,
         alloc: Global,
-        limits: Limits,
+        profile: Profile,
         kind: u8,
         payload: &[u8],
     ) -> Result<Step, Cause<ElementFault>>
         requires { IsFormed kind payload.now }
         ensures { (piece : List Rec) (d : ℕ) → HasRead self piece
-            → Steps limits piece (record_of kind d payload.now) result }
+            → Steps profile piece (record_of kind d payload.now) result }
     {
         match self {
             State::Boundary(boundary) => going(boundary.take(alloc, kind, payload)),
-            State::Path(path) => going(path.take(alloc, kind, payload)),
+            State::Path(path) => going(path.take(alloc, profile, kind, payload)),
             State::Sref(reference) => going(reference.take(alloc, kind, payload)),
-            State::Aref(array) => going(array.take(alloc, limits, kind, payload)),
+            State::Aref(array) => going(array.take(alloc, profile, kind, payload)),
             State::Text(text) => going(text.take(kind, payload)),
             State::Drawn(drawn) => end(drawn, kind),
         }
@@ -154,8 +154,8 @@ impl State {
 
 /// The result of a record that doesn't end the element.
 fn going(read: Result<State, Cause<ElementFault>>) -> Result<Step, Cause<ElementFault>>
-    ensures { (limits : PlainLimits) (piece : List Rec) (r : Rec) → Takes limits piece r read
-        → Steps limits piece r result }
+    ensures { (profile : PlainProfile) (piece : List Rec) (r : Rec) → Takes profile piece r read
+        → Steps profile piece r result }
 {
     match read {
         Ok(state) => Ok(Step::Open(Element { state })),
@@ -166,8 +166,8 @@ fn going(read: Result<State, Cause<ElementFault>>) -> Result<Step, Cause<Element
 /// The result of ENDEL; any other record is out of order.
 fn end(drawn: Drawn, kind: u8) -> Result<Step, Cause<ElementFault>>
     requires { kind < 60 }
-    ensures { (limits : PlainLimits) (piece : List Rec) (d : ℕ) (payload : List ℕ) → IsAtEnd drawn piece
-        → Steps limits piece (record_of kind d payload) result }
+    ensures { (profile : PlainProfile) (piece : List Rec) (d : ℕ) (payload : List ℕ) → IsAtEnd drawn piece
+        → Steps profile piece (record_of kind d payload) result }
 {
     if kind != record_type::ENDEL {
         return Err(out_of_order(kind));

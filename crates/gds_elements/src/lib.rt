@@ -13,10 +13,10 @@
 //! ```
 //! use gds_elements::{Element, Step};
 //! use gds_records::record_type;
-//! use lvl_profile::Limits;
+//! use lvl_profile::Profile;
 //!
 //! let element = Element::open(alloc, record_type::BOUNDARY).ok_or("no element")?;
-//! let step = element.take(alloc, Limits::STANDARD, record_type::LAYER, b"\x00\x01")?;
+//! let step = element.take(alloc, Profile::STANDARD, record_type::LAYER, b"\x00\x01")?;
 //! assert!(rt; matches!(step, Step::Open(_)));
 //! assert!(rt; Element::open(alloc, record_type::LAYER).is_none());
 //! ```

@@ -2,6 +2,7 @@
 ghost use Rattle.std.specs.Prelude.{◌≡◌, [], ◌∷◌, ◌≢◌, ◌==◌, ◌≤◌, ◌<◌, List, ℕ, Some, None, false, pos, IfOk, IfErr};
 ghost use Rattle.std.specs.Prelude.{OnOk, length, if◌then◌else◌};
 ghost use Rattle.std.specs.Ordering.{int_eq};
+ghost use Rattle.lvl_path.specs.Repeats.{asked, without_repeats};
 ghost use Rattle.lvl_path.specs.Runs.{path_rings, IsPath};
 ghost use Rattle.gds_elements.specs.Types.{path, width, pathtype, xy};
 ghost use Rattle.gds_elements.specs.Values.{short, long, points};
@@ -12,7 +13,6 @@ ghost use Rattle.lvl_grammar.specs.inside.After.{after_first};
 ghost use Rattle.gds_elements.specs.inside.Left.{left_after, EndsBy};
 ghost use Rattle.gds_elements.specs.inside.Formed.{IsFormed};
 ghost use Rattle.gds_elements.specs.inside.Path.{left, IsPathRead, IsBandsFault, reach_at};
-ghost use Rattle.lvl_profile.specs.declared.limits.Limits.{Limits as PlainLimits};
 ghost use Rattle.gds_elements.specs.inside.Reading.{Takes, record_of};
 ghost use Rattle.lvl_refusal.specs.Refused.{Says};
 ghost use Rattle.gds_elements.specs.inside.Misplaced.{Broken, breach};
@@ -25,7 +25,8 @@ use crate::values::{long, points, short};
 use gds_records::record_type;
 use lvl_grid::Ring;
 use lvl_names::Layer;
-use lvl_path::bands;
+use lvl_path::bands_by;
+use lvl_profile::Profile;
 use lvl_refusal::Cause;
 use std::alloc::Global;
 
@@ -100,12 +101,13 @@ impl Path {
     pub(crate) fn take(
         self,
         alloc: Global,
+        profile: Profile,
         kind: u8,
         payload: &[u8],
     ) -> Result<State, Cause<ElementFault>>
         requires { IsFormed kind payload.now }
-        ensures { (limits : PlainLimits) (piece : List Rec) (d : ℕ) → IsPathRead self piece
-            → Takes limits piece (record_of kind d payload.now) result }
+        ensures { (piece : List Rec) (d : ℕ) → IsPathRead self piece
+            → Takes profile piece (record_of kind d payload.now) result }
     {
         match self.stage.after(kind) {
             Next::Goes(stage) => {
@@ -120,7 +122,8 @@ impl Path {
                 }))
             }
             Next::Ends => {
-                let rings = bands_of(alloc, self.half, self.square, payload)?;
+                let ignored = profile.ignore.points;
+                let rings = bands_of(alloc, ignored, self.half, self.square, payload)?;
                 Ok(State::Drawn(Drawn::Rings(self.layer, rings)))
             }
             Next::Nowhere => Err(out_of_order(kind)),
@@ -168,21 +171,24 @@ fn read_half(old: Option<u64>, kind: u8, payload: &[u8]) -> Result<Option<u64>, 
     Ok(Some(u64::from(width / 2)))
 }
 
-/// The rings of the bands of a path, unless its points and width breach a rule.
+/// The rings of the bands of a path, unless its points and width breach a rule. `ignored` says whether points
+/// that equal the one before are.
 fn bands_of(
     alloc: Global,
+    ignored: bool,
     half: Option<u64>,
     square: bool,
     payload: &[u8],
 ) -> Result<Vec<Ring>, Cause<ElementFault>>
     ensures value { (h : ℕ) → half ≡ Some h → IfOk result (λ v.
-        v.items ≡ path_rings (points payload.now)
+        v.items ≡ path_rings (without_repeats (points payload.now))
         (record { half = h; start = reach_at square h; end = reach_at square h })) }
     ensures allowed { (h : ℕ) → half ≡ Some h → OnOk result
-        (IsPath (points payload.now) (record { half = h; start = reach_at square h; end = reach_at square h })) }
+        (IsPath (asked ignored (points payload.now))
+        (record { half = h; start = reach_at square h; end = reach_at square h })) }
     ensures enough { OnOk result (2 ≤ length (points payload.now)) }
     ensures width { OnOk result (half ≢ None) }
-    ensures refused { IfErr result (λ e. Says e (Broken (IsBandsFault (points payload.now) half square))) }
+    ensures refused { IfErr result (λ e. Says e (Broken (IsBandsFault ignored (points payload.now) half square))) }
 {
     let points = points(alloc, payload)?;
     if points.len() < FEWEST_POINTS {
@@ -192,7 +198,7 @@ fn bands_of(
         return Err(breach(ElementRule::Width));
     };
     let reach = end_reach(square, half);
-    match bands(alloc, &points, half, reach, reach) {
+    match bands_by(alloc, points, half, reach, reach, ignored) {
         Ok(rings) => Ok(rings),
         Err(Cause::Breach(fault)) => Err(breach(ElementRule::Path(fault))),
         Err(Cause::OutOfMemory) => Err(Cause::OutOfMemory),

@@ -8,7 +8,7 @@ ghost use Rattle.lvl_grammar.specs.inside.After.{after_first};
 ghost use Rattle.gds_elements.specs.inside.Left.{left_after, EndsBy};
 ghost use Rattle.gds_elements.specs.inside.Formed.{IsFormed};
 ghost use Rattle.gds_elements.specs.inside.Text.{left, IsTextRead};
-ghost use Rattle.lvl_profile.specs.declared.limits.Limits.{Limits as PlainLimits};
+ghost use Rattle.lvl_profile.specs.declared.profile.Profile.{Profile as PlainProfile};
 ghost use Rattle.gds_elements.specs.inside.Reading.{Takes, record_of};
 ghost use Rattle.gds_elements.specs.inside.Misplaced.{breach};
 
@@ -124,8 +124,8 @@ impl Text {
     /// The state after the next record, unless the record breaches a rule.
     pub(crate) fn take(self, kind: u8, payload: &[u8]) -> Result<State, Cause<ElementFault>>
         requires { IsFormed kind payload.now }
-        ensures { (limits : PlainLimits) (piece : List Rec) (d : ℕ) → IsTextRead self piece
-            → Takes limits piece (record_of kind d payload.now) result }
+        ensures { (profile : PlainProfile) (piece : List Rec) (d : ℕ) → IsTextRead self piece
+            → Takes profile piece (record_of kind d payload.now) result }
     {
         match self.stage.after(kind) {
             Next::Goes(stage) => {

@@ -4,10 +4,8 @@ use Rattle.std.proofs.Common.{None, refl, sym, ap, ◌∙◌, subst, arith, leng
 use Rattle.std.proofs.lemmas.List.{append-nil}
 use Rattle.std.specs.Prelude.{Option, is_some, ◌&&◌}
 use Rattle.lvl_profile.specs.Ignored.{IsSubsetOf}
-use Rattle.lvl_profile.specs.Limits.{AreWithin}
 use Rattle.lvl_profile.specs.Profiles.{IsWider}
 use Rattle.lvl_profile.specs.declared.ignore.Ignore.{Ignore}
-use Rattle.lvl_profile.specs.declared.limits.Limits.{Limits}
 use Rattle.lvl_profile.specs.declared.profile.Profile.{Profile}
 use Rattle.lvl_grammar.specs.Front.{SpellsAll, FollowAll}
 use Rattle.lvl_grammar.proofs.Orders.{by_test}
@@ -17,7 +15,10 @@ use Rattle.gds_records.specs.declared.form.Form.{Form}
 use Rattle.gds_elements.specs.Rec.{Rec, an_end, is_opener}
 use Rattle.gds_elements.specs.Rules.{IsKnown, ValueBreaches}
 use Rattle.gds_elements.specs.declared.fault.ElementRule.{ElementRule}
-use Rattle.gds_elements.specs.declared.fault.ElementRule.TheVariants.{Repetition}
+use Rattle.gds_elements.specs.declared.fault.ElementRule.TheVariants.{Repetition, Path}
+use Rattle.gds_elements.specs.Meaning.{half_of, end_of}
+use Rattle.gds_elements.specs.Values.{points}
+use Rattle.lvl_path.proofs.Repeating.{fault_grows}
 use Rattle.gds_library.specs.Types.{reflibs, fonts, generations, attrtable, elflags, propattr, propvalue, plex}
 use Rattle.gds_library.specs.Types.{strclass, format, libdirsize, srfname, libsecur}
 use Rattle.gds_library.specs.Rec.{Spells, last_piece}
@@ -199,18 +200,22 @@ same_form less more w r bytes s t = elim s [
         go None h = form_right table (ignored_rows less.ignore) k h ∙ e ∙ sym (grown_form less.ignore more.ignore w.ignore k f e)
             ∙ sym (form_right table (ignored_rows more.ignore) k h)
 
--- what breaches a rule within wider limits breaches it within narrower ones
-value_back : (less more : Limits) → AreWithin less more → (piece : List Rec) (r : Rec) (k : ElementRule)
-    → ValueBreaches more piece r k → ValueBreaches less piece r k
-value_back less more w piece r Repetition x = (x.0, x.1, x.2, x.3, omega (arith, x.4, w.array))
-value_back less more w piece r other x = x
+-- a record that breaches no rule of its element breaches none under a wider profile
+value_grows : (less more : Profile) → IsWider less more → (piece : List Rec) (r : Rec)
+    → ((k : ElementRule) → ValueBreaches less piece r k → ⊥) → (k : ElementRule) → ValueBreaches more piece r k → ⊥
+value_grows less more w piece r h Repetition x = h Repetition (x.0, x.1, x.2, x.3, omega (arith, x.4, w.limits.array))
+value_grows less more w piece r h (Path f) x =
+    fault_grows less.ignore.points more.ignore.points w.ignore.points (points r.payload)
+    (record { half = half_of piece; start = end_of piece; end = end_of piece })
+    (λ g b. h (Path g) (x.0, x.1, x.2, x.3, b)) f x.4
+value_grows less more w piece r h other x = h other x
 
-rules_grow : (less more : Limits) → AreWithin less more → (before : List Rec) (r : Rec) → KeepsRules less before r
+rules_grow : (less more : Profile) → IsWider less more → (before : List Rec) (r : Rec) → KeepsRules less before r
     → KeepsRules more before r
 rules_grow less more w before r h = record {
-  element = λ k x. h.element k (value_back less more w (last_piece is_opener before) r k x);
+  element = value_grows less more w (last_piece is_opener before) r h.element;
   name = h.name;
-  cells = λ e. omega (arith, h.cells e, w.cells);
+  cells = λ e. omega (arith, h.cells e, w.limits.cells);
 }
 
 -- if the same records aren't ignored, the same may follow
@@ -226,8 +231,8 @@ follows_grows less more w before r same s f = elim f.0 [
     ];
   })
   | inr e ↦ follows_essential more before r (same_passed less more w r s ∙ e.unpassed) e.complete
-      (subst (λ l. MayFollow more.limits l r) (sym same)
-      (e.ordered, rules_grow less.limits more.limits w.limits (essential less before) r (f.1 e.unpassed)))
+      (subst (λ l. MayFollow more l r) (sym same)
+      (e.ordered, rules_grow less more w (essential less before) r (f.1 e.unpassed)))
 ]
 
 -- one more record is ignored in both cases, or in neither

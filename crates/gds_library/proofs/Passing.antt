@@ -22,7 +22,6 @@ use Rattle.gds_library.specs.declared.fault.GdsKind.TheVariants.{Record, Misplac
 use Rattle.gds_library.specs.declared.fault.GdsKind.TheVariants.{TooManyCells}
 use Rattle.gds_library.proofs.Spellings.{a_fill}
 use Rattle.gds_library.proofs.Known.{ordered_known}
-use Rattle.lvl_profile.specs.declared.limits.Limits.{Limits}
 
 -- one more ignored record doesn't change the others
 pub essential_passed : (profile : Profile) (rs : List Rec) (r : Rec) → is_passed profile r ≡ true
@@ -109,7 +108,7 @@ unpassed_ordered profile before r e g = elim g [ inl p ↦ (let z : true ≡ fal
 
 -- a rule that a record breaches after the records that aren't ignored
 pub breach_by : (profile : Profile) (before : List Rec) (r : Rec) (k : GdsKind) → is_passed profile r ≡ false
-    → (AwaitsValue before → ⊥) → Breaches profile.limits (essential profile before) r k → BreachesBy profile before r k
+    → (AwaitsValue before → ⊥) → Breaches profile (essential profile before) r k → BreachesBy profile before r k
 breach_by profile before r (Misplaced (Unexpected j)) e c b = (
   b.0,
   inr (subst IsKnown (sym b.0) b.1),
@@ -123,7 +122,7 @@ breach_by profile before r (Misplaced (Unsupported j)) e c b = (
 breach_by profile before r other e c b = (e, c, b)
 
 breach_back : (profile : Profile) (before : List Rec) (r : Rec) (k : GdsKind) → is_passed profile r ≡ false
-    → (AwaitsValue before → ⊥) → BreachesBy profile before r k → Breaches profile.limits (essential profile before) r k
+    → (AwaitsValue before → ⊥) → BreachesBy profile before r k → Breaches profile (essential profile before) r k
 breach_back profile before r (Misplaced (Unexpected j)) e c b = (
   b.0,
   subst IsKnown b.0 (unpassed_known profile r e b.1),
@@ -138,7 +137,7 @@ breach_back profile before r other e c b = b.2
 
 -- a record that isn't ignored may follow if it may do so after the others that aren't ignored
 pub follows_essential : (profile : Profile) (before : List Rec) (r : Rec) → is_passed profile r ≡ false
-    → (AwaitsValue before → ⊥) → MayFollow profile.limits (essential profile before) r → MayFollowBy profile before r
+    → (AwaitsValue before → ⊥) → MayFollow profile (essential profile before) r → MayFollowBy profile before r
 follows_essential profile before r e c f = (
   inr (record { unpassed = e; complete = c; ordered = f.0 }),
   λ _. f.1,
@@ -147,7 +146,7 @@ follows_essential profile before r e c f = (
 -- and is refused by the same rule
 refuses_essential : (profile : Profile) (before : List Rec) (r : Rec) (k : GdsKind) → is_passed profile r ≡ false
     → (AwaitsValue before → ⊥)
-    → Breaches profile.limits (essential profile before) r k × BreachesOnly profile.limits (essential profile before) r k
+    → Breaches profile (essential profile before) r k × BreachesOnly profile (essential profile before) r k
     → BreachesBy profile before r k × BreachesOnlyBy profile before r k
 refuses_essential profile before r k e c b = (
   breach_by profile before r k e c b.0,
@@ -156,7 +155,8 @@ refuses_essential profile before r k e c b = (
 
 pub says_essential : (profile : Profile) (before : List Rec) (r : Rec) (x : Cause GdsKind) → is_passed profile r ≡ false
     → (AwaitsValue before → ⊥)
-    → Says x (λ k. Breaches profile.limits (essential profile before) r k × BreachesOnly profile.limits (essential profile before) r k)
+    → Says x (λ k. Breaches profile (essential profile before) r k
+    × BreachesOnly profile (essential profile before) r k)
     → Says x (λ k. BreachesBy profile before r k × BreachesOnlyBy profile before r k)
 says_essential profile before r (Breach k) e c b = refuses_essential profile before r k e c b
 says_essential profile before r OutOfMemory e c b = tt
@@ -200,8 +200,8 @@ refuses_waiting profile before r m e w x l = (
 )
 
 -- a PROPATTR that isn't ignored is never in order
-pub never_waits : (limits : Limits) (es : List Rec) (r : Rec) → MayFollow limits es r → r.kind ≡ propattr → ⊥
-never_waits limits es r f e =
+pub never_waits : (profile : Profile) (es : List Rec) (r : Rec) → MayFollow profile es r → r.kind ≡ propattr → ⊥
+never_waits profile es r f e =
     (let z : false ≡ true = subst IsKnown e (ordered_known es r f.0 (omega (arith, e))) in cc)
 
 -- a record that may come next is one that is read or ignored

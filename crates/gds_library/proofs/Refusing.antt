@@ -33,7 +33,7 @@ use Rattle.gds_library.specs.declared.stage.LibraryStage.TheVariants.{Structures
 use Rattle.gds_library.specs.declared.builder.Builder.{Builder}
 use Rattle.gds_library.proofs.Places.{OpensNothing, leads_on, leads_nowhere, leads_begins}
 use Rattle.gds_library.proofs.Outside.{outside_after, known_after}
-use Rattle.lvl_profile.specs.declared.limits.Limits.{Limits}
+use Rattle.lvl_profile.specs.declared.profile.Profile.{Profile}
 
 length-map : {A B : Type 0} (f : A → B) (xs : List A) → length (map f xs) ≡ length xs
 length-map f [] = refl
@@ -73,14 +73,15 @@ nowhere b rs r h o e g =
     leads_nowhere (kinds rs) b.stage r.kind h.leads o e (subst (Begins a_library) (kinds-snoc rs r) g)
 
 -- a fault by the table is a breach after the records that lead there
-pub law_fault : (limits : Limits) (b : Builder) (rs : List Rec) (r : Rec) (f : GdsKind) → Holds b rs → OpensNothing b.stage r.kind
-    → r.kind < 60 → IsFault limits b.stage (length b.cells.cells) r.kind r.payload f → Breaches limits rs r f
-law_fault limits b rs r (Record f) h o l x = absurd x
-law_fault limits b rs r (Misplaced m) h o l x = misplaced_as (InOrder rs r) r m (nowhere b rs r h o x.1) l x.0
-law_fault limits b rs r (Element k) h o l x = absurd x
-law_fault limits b rs r Name h o l x = (stands b rs r h x.1, x.0, x.2)
-law_fault limits b rs r AfterEnd h o l x = absurd x
-law_fault limits b rs r TooManyCells h o l x =
+pub law_fault : (profile : Profile) (b : Builder) (rs : List Rec) (r : Rec) (f : GdsKind) → Holds b rs
+    → OpensNothing b.stage r.kind
+    → r.kind < 60 → IsFault profile.limits b.stage (length b.cells.cells) r.kind r.payload f → Breaches profile rs r f
+law_fault profile b rs r (Record f) h o l x = absurd x
+law_fault profile b rs r (Misplaced m) h o l x = misplaced_as (InOrder rs r) r m (nowhere b rs r h o x.1) l x.0
+law_fault profile b rs r (Element k) h o l x = absurd x
+law_fault profile b rs r Name h o l x = (stands b rs r h x.1, x.0, x.2)
+law_fault profile b rs r AfterEnd h o l x = absurd x
+law_fault profile b rs r TooManyCells h o l x =
     (stands b rs r h x.1, x.0, omega (arith, x.2, shown_many b.stage b, ap (λ ds. length ds) h.shown, kept_many rs))
 
 pub is_not : (k j : ℕ) → k == j ≡ false → k ≡ j → ⊥
@@ -97,59 +98,70 @@ order_known : (b : Builder) (rs : List Rec) (r : Rec) → Holds b rs → OpensNo
 order_known b rs r h o l g = known_at b rs r (after b.stage r.kind) h o l g refl
 
 -- a record breaches no rule of an element if none tests its type
-pub no_rule : (limits : Limits) (piece : List Rec) (r : Rec) (k : ElementRule) → is_value r.kind ≡ false → ValueBreaches limits piece r k → ⊥
-no_rule limits piece r k v x = (let z : true ≡ false = sym (value_breaches limits piece r k x) ∙ v in cc)
+pub no_rule : (profile : Profile) (piece : List Rec) (r : Rec) (k : ElementRule) → is_value r.kind ≡ false
+    → ValueBreaches profile piece r k → ⊥
+no_rule profile piece r k v x = (let z : true ≡ false = sym (value_breaches profile piece r k x) ∙ v in cc)
 
 -- a record that may not come next breaches no other rule
-misplaced_only : (limits : Limits) (rs : List Rec) (r : Rec) (m : Misplacement) → (InOrder rs r → ⊥) → IsMisplacedAs (InOrder rs r) r m
-    → BreachesOnly limits rs r (Misplaced m)
-misplaced_only limits rs r m n x (Record f) y = absurd y
-misplaced_only limits rs r m n x (Misplaced j) y =
+misplaced_only : (profile : Profile) (rs : List Rec) (r : Rec) (m : Misplacement) → (InOrder rs r → ⊥)
+    → IsMisplacedAs (InOrder rs r) r m
+    → BreachesOnly profile rs r (Misplaced m)
+misplaced_only profile rs r m n x (Record f) y = absurd y
+misplaced_only profile rs r m n x (Misplaced j) y =
     ap (λ (i : Misplacement). Misplaced i) (one_misplaced (InOrder rs r) r j m y x)
-misplaced_only limits rs r m n x (Element k) y = absurd (n y.0)
-misplaced_only limits rs r m n x Name y = absurd (n y.0)
-misplaced_only limits rs r m n x AfterEnd y = absurd y
-misplaced_only limits rs r m n x TooManyCells y = absurd (n y.0)
+misplaced_only profile rs r m n x (Element k) y = absurd (n y.0)
+misplaced_only profile rs r m n x Name y = absurd (n y.0)
+misplaced_only profile rs r m n x AfterEnd y = absurd y
+misplaced_only profile rs r m n x TooManyCells y = absurd (n y.0)
 
 -- one that may come next, and whose value no rule of an element tests, can only breach Name and TooManyCells
-one_value : (limits : Limits) (rs : List Rec) (r : Rec) → is_value r.kind ≡ false → InOrder rs r → IsKnown r.kind → (k : GdsKind)
-    → Breaches limits rs r k → ((k ≡ Name) × (r.kind ≡ strname)) ⊎ ((k ≡ TooManyCells) × (r.kind ≡ bgnstr))
-one_value limits rs r v g i (Record f) x = absurd x
-one_value limits rs r v g i (Misplaced m) x = absurd (not_misplaced (InOrder rs r) r m g i x)
-one_value limits rs r v g i (Element k) x = absurd (no_rule limits _ r k v x.1)
-one_value limits rs r v g i Name x = inl (refl, x.1)
-one_value limits rs r v g i AfterEnd x = absurd x
-one_value limits rs r v g i TooManyCells x = inr (refl, x.1)
+one_value : (profile : Profile) (rs : List Rec) (r : Rec) → is_value r.kind ≡ false → InOrder rs r → IsKnown r.kind
+    → (k : GdsKind)
+    → Breaches profile rs r k → ((k ≡ Name) × (r.kind ≡ strname)) ⊎ ((k ≡ TooManyCells) × (r.kind ≡ bgnstr))
+one_value profile rs r v g i (Record f) x = absurd x
+one_value profile rs r v g i (Misplaced m) x = absurd (not_misplaced (InOrder rs r) r m g i x)
+one_value profile rs r v g i (Element k) x = absurd (no_rule profile _ r k v x.1)
+one_value profile rs r v g i Name x = inl (refl, x.1)
+one_value profile rs r v g i AfterEnd x = absurd x
+one_value profile rs r v g i TooManyCells x = inr (refl, x.1)
 
-value_at : (limits : Limits) (b : Builder) (rs : List Rec) (r : Rec) (t : Option LibraryStage) → Holds b rs → OpensNothing b.stage r.kind
+value_at : (profile : Profile) (b : Builder) (rs : List Rec) (r : Rec) (t : Option LibraryStage) → Holds b rs
+    → OpensNothing b.stage r.kind
     → r.kind < 60 → after b.stage r.kind ≡ t → t ≢ None
-    → (k : GdsKind) → Breaches limits rs r k → ((k ≡ Name) × (r.kind ≡ strname)) ⊎ ((k ≡ TooManyCells) × (r.kind ≡ bgnstr))
-value_at limits b rs r None h o l e n = absurd (n refl)
-value_at limits b rs r (Some q) h o l e n =
+    → (k : GdsKind) → Breaches profile rs r k → ((k ≡ Name) × (r.kind ≡ strname)) ⊎ ((k ≡ TooManyCells)
+    × (r.kind ≡ bgnstr))
+value_at profile b rs r None h o l e n = absurd (n refl)
+value_at profile b rs r (Some q) h o l e n =
     let g = stands_at b rs r (Some q) h e n in
-    one_value limits rs r (outside_after b.stage q r.kind e).value g (order_known b rs r h o l g)
+    one_value profile rs r (outside_after b.stage q r.kind e).value g (order_known b rs r h o l g)
 
-value_only : (limits : Limits) (b : Builder) (rs : List Rec) (r : Rec) → Holds b rs → OpensNothing b.stage r.kind → r.kind < 60
+value_only : (profile : Profile) (b : Builder) (rs : List Rec) (r : Rec) → Holds b rs → OpensNothing b.stage r.kind
+    → r.kind < 60
     → after b.stage r.kind ≢ None
-    → (k : GdsKind) → Breaches limits rs r k → ((k ≡ Name) × (r.kind ≡ strname)) ⊎ ((k ≡ TooManyCells) × (r.kind ≡ bgnstr))
-value_only limits b rs r h o l n = value_at limits b rs r (after b.stage r.kind) h o l refl n
+    → (k : GdsKind) → Breaches profile rs r k → ((k ≡ Name) × (r.kind ≡ strname)) ⊎ ((k ≡ TooManyCells)
+    × (r.kind ≡ bgnstr))
+value_only profile b rs r h o l n = value_at profile b rs r (after b.stage r.kind) h o l refl n
 
 -- a fault by the table is the only breach
-law_only : (limits : Limits) (b : Builder) (rs : List Rec) (r : Rec) (f : GdsKind) → Holds b rs → OpensNothing b.stage r.kind
-    → r.kind < 60 → IsFault limits b.stage (length b.cells.cells) r.kind r.payload f → BreachesOnly limits rs r f
-law_only limits b rs r (Record f) h o l x = absurd x
-law_only limits b rs r (Misplaced m) h o l x =
-    (let n = nowhere b rs r h o x.1 in misplaced_only limits rs r m n (misplaced_as (InOrder rs r) r m n l x.0))
-law_only limits b rs r (Element k) h o l x = absurd x
-law_only limits b rs r Name h o l x =
-    λ i y. elim (value_only limits b rs r h o l x.1 i y) [ inl z ↦ z.0 | inr z ↦ absurd (omega (arith, x.0, z.1)) ]
-law_only limits b rs r AfterEnd h o l x = absurd x
-law_only limits b rs r TooManyCells h o l x =
-    λ i y. elim (value_only limits b rs r h o l x.1 i y) [ inl z ↦ absurd (omega (arith, x.0, z.1)) | inr z ↦ z.0 ]
+law_only : (profile : Profile) (b : Builder) (rs : List Rec) (r : Rec) (f : GdsKind) → Holds b rs
+    → OpensNothing b.stage r.kind
+    → r.kind < 60 → IsFault profile.limits b.stage (length b.cells.cells) r.kind r.payload f
+    → BreachesOnly profile rs r f
+law_only profile b rs r (Record f) h o l x = absurd x
+law_only profile b rs r (Misplaced m) h o l x =
+    (let n = nowhere b rs r h o x.1 in misplaced_only profile rs r m n (misplaced_as (InOrder rs r) r m n l x.0))
+law_only profile b rs r (Element k) h o l x = absurd x
+law_only profile b rs r Name h o l x =
+    λ i y. elim (value_only profile b rs r h o l x.1 i y) [ inl z ↦ z.0 | inr z ↦ absurd (omega (arith, x.0, z.1)) ]
+law_only profile b rs r AfterEnd h o l x = absurd x
+law_only profile b rs r TooManyCells h o l x =
+    λ i y. elim (value_only profile b rs r h o l x.1 i y) [ inl z ↦ absurd (omega (arith, x.0, z.1)) | inr z ↦ z.0 ]
 
-pub says_fault : (limits : Limits) (b : Builder) (rs : List Rec) (r : Rec) (e : Cause GdsKind) → Holds b rs
-    → OpensNothing b.stage r.kind → r.kind < 60 → Says e (IsFault limits b.stage (length b.cells.cells) r.kind r.payload)
-    → Says e (λ k. Breaches limits rs r k × BreachesOnly limits rs r k)
-says_fault limits b rs r e h o l x =
-    says_carried e (IsFault limits b.stage (length b.cells.cells) r.kind r.payload) (λ k. Breaches limits rs r k
-    × BreachesOnly limits rs r k) (λ f y. (law_fault limits b rs r f h o l y, law_only limits b rs r f h o l y)) x
+pub says_fault : (profile : Profile) (b : Builder) (rs : List Rec) (r : Rec) (e : Cause GdsKind) → Holds b rs
+    → OpensNothing b.stage r.kind → r.kind < 60
+    → Says e (IsFault profile.limits b.stage (length b.cells.cells) r.kind r.payload)
+    → Says e (λ k. Breaches profile rs r k × BreachesOnly profile rs r k)
+says_fault profile b rs r e h o l x =
+    says_carried e (IsFault profile.limits b.stage (length b.cells.cells) r.kind r.payload)
+    (λ k. Breaches profile rs r k
+    × BreachesOnly profile rs r k) (λ f y. (law_fault profile b rs r f h o l y, law_only profile b rs r f h o l y)) x

@@ -63,7 +63,7 @@ takes_passed profile x y rs r h e p m same l = (
 -- another record was read
 pub takes_essential : (profile : Profile) (y : WithIgnored) (rs : List Rec) (r : Rec) → is_passed profile r ≡ false
     → (AwaitsValue rs → ⊥)
-    → HasRead y.reading (essential profile rs ++ r ∷ []) × MayFollow profile.limits (essential profile rs) r
+    → HasRead y.reading (essential profile rs ++ r ∷ []) × MayFollow profile (essential profile rs) r
     → y.last ≡ Some r.kind → HasReadBy profile y (rs ++ r ∷ []) × MayFollowBy profile rs r
 takes_essential profile y rs r e c t l = (
   record {
@@ -72,7 +72,7 @@ takes_essential profile y rs r e c t l = (
     waits = λ w.
         let i : Some r.kind ≡ Some propattr = sym (last_type-snoc rs r) ∙ w in
         let k : r.kind ≡ propattr = cc in
-        absurd (never_waits profile.limits (essential profile rs) r t.1 k);
+        absurd (never_waits profile (essential profile rs) r t.1 k);
   },
   follows_essential profile rs r e c t.1,
 )
@@ -82,7 +82,7 @@ pub takes_none : {A : Type 0} (profile : Profile) (rs : List Rec) (r : Rec) (x :
     (res : Result A (Cause GdsKind))
     (e : Cause GdsKind) → IsErr res × IsErrAnd res (λ f. f ≡ e) → is_passed profile r ≡ false
     → (AwaitsValue rs → ⊥)
-    → Says e (λ k. Breaches profile.limits (essential profile rs) r k × BreachesOnly profile.limits (essential profile rs) r k)
+    → Says e (λ k. Breaches profile (essential profile rs) r k × BreachesOnly profile (essential profile rs) r k)
     → TakesBy profile rs r x res
 takes_none profile rs r x (Ok v) e h n c b = absurd h.1
 takes_none profile rs r x (Err f) e h n c b =

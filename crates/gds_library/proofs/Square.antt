@@ -11,7 +11,6 @@ use Rattle.lvl_path.specs.Figure.{rings}
 use Rattle.lvl_grammar.specs.Front.{SpellsAll, FollowAll}
 use Rattle.lvl_grammar.specs.Order.{IsWord, Begins}
 use Rattle.lvl_names.specs.Names.{IsName}
-use Rattle.lvl_profile.specs.Limits.{standard}
 use Rattle.lvl_profile.specs.Profiles.{strict}
 use Rattle.gds_records.specs.Table.{form_of}
 use Rattle.gds_records.specs.Spelled.{IsOfForm}
@@ -35,7 +34,7 @@ use Rattle.gds_library.proofs.Readable.{law_only}
 use Rattle.gds_library.proofs.Refusing.{is_not}
 use Rattle.gds_library.proofs.Steps.{may_follow, may_follow_inside}
 use Rattle.gds_library.proofs.Vectors.{rec, accepted}
-use Rattle.lvl_profile.specs.declared.limits.Limits.{Limits}
+use Rattle.lvl_profile.specs.declared.profile.Profile.{Profile}
 
 -- twelve numbers of two bytes, all of them 0
 abbrev dates : List ℕ
@@ -162,24 +161,24 @@ word : IsWord a_library (kinds square)
 word = elim (accepted (a_library ∷ []) (kinds square) refl) [ inl x ↦ x | inr y ↦ absurd y ]
 
 -- a record whose value no rule of an element tests, and which neither begins nor names a structure
-plain : (limits : Limits) (n : ℕ) (before : List Rec) (r : Rec) → is_value r.kind ≡ false → r.kind == strname ≡ false
+plain : (profile : Profile) (n : ℕ) (before : List Rec) (r : Rec) → is_value r.kind ≡ false → r.kind == strname ≡ false
     → r.kind == bgnstr ≡ false → IsWord a_library (kinds (before ++ r ∷ []) ++ kinds (drop n square))
-    → MayFollow limits before r
-plain limits n before r v s b w =
-    may_follow limits before r v (kinds (drop n square), w) (λ e. absurd (is_not r.kind strname s e))
+    → MayFollow profile before r
+plain profile n before r v s b w =
+    may_follow profile before r v (kinds (drop n square), w) (λ e. absurd (is_not r.kind strname s e))
     (λ e. absurd (is_not r.kind bgnstr b e))
 
 -- a record of the boundary
-inside : (limits : Limits) (n : ℕ) (before piece : List Rec) (r : Rec) → last_piece is_opener before ≡ piece
+inside : (profile : Profile) (n : ℕ) (before piece : List Rec) (r : Rec) → last_piece is_opener before ≡ piece
     → opener piece ≡ Some boundary
     → r.kind == strname ≡ false → r.kind == bgnstr ≡ false
-    → Begins an_element (kinds (piece ++ r ∷ [])) → ((k : ElementRule) → ValueBreaches limits piece r k → ⊥)
-    → IsWord a_library (kinds (before ++ r ∷ []) ++ kinds (drop n square)) → MayFollow limits before r
-inside limits n before piece r e o s b g v w =
-    may_follow_inside limits before piece r e (allowed limits piece r g v) g (kinds (drop n square), w) s b
+    → Begins an_element (kinds (piece ++ r ∷ [])) → ((k : ElementRule) → ValueBreaches profile piece r k → ⊥)
+    → IsWord a_library (kinds (before ++ r ∷ []) ++ kinds (drop n square)) → MayFollow profile before r
+inside profile n before piece r e o s b g v w =
+    may_follow_inside profile before piece r e (allowed profile piece r g v) g (kinds (drop n square), w) s b
 
 -- if nothing is ignored, what may follow is what may follow among the essential records
-follows : (before : List Rec) (r : Rec) → MayFollow standard (essential strict before) r → (AwaitsValue before → ⊥)
+follows : (before : List Rec) (r : Rec) → MayFollow strict (essential strict before) r → (AwaitsValue before → ⊥)
     → MayFollowBy strict before r
 follows before r f w = follows_essential strict before r refl w f
 
@@ -213,37 +212,38 @@ straight =
     (All-cons IsStraight (at 10 10, at 0 10) ((at 0 10, at 0 0) ∷ []) (inr refl)
     (All-cons IsStraight (at 0 10, at 0 0) [] (inl refl) (All-nil IsStraight))))
 
-layer_follows : MayFollow standard (take 7 square) (rec 0x0D 2 (0 ∷ 1 ∷ []))
+layer_follows : MayFollow strict (take 7 square) (rec 0x0D 2 (0 ∷ 1 ∷ []))
 layer_follows =
     let r = rec 0x0D 2 (0 ∷ 1 ∷ []) in
-    inside standard 8 (take 7 square) (rec 0x08 0 [] ∷ []) r refl refl refl refl (0x0E ∷ 0x10 ∷ 0x11 ∷ [], element)
-    (law_boundary standard (rec 0x08 0 [] ∷ []) r refl (λ _. omega (arith, ints)) (λ e. absurd (is_not 0x0D xy refl e))) word
+    inside strict 8 (take 7 square) (rec 0x08 0 [] ∷ []) r refl refl refl refl (0x0E ∷ 0x10 ∷ 0x11 ∷ [], element)
+    (law_boundary strict (rec 0x08 0 [] ∷ []) r refl (λ _. omega (arith, ints)) (λ e. absurd
+    (is_not 0x0D xy refl e))) word
 
-datatype_follows : MayFollow standard (take 8 square) (rec 0x0E 2 (0 ∷ 0 ∷ []))
+datatype_follows : MayFollow strict (take 8 square) (rec 0x0E 2 (0 ∷ 0 ∷ []))
 datatype_follows =
     let piece = rec 0x08 0 [] ∷ rec 0x0D 2 (0 ∷ 1 ∷ []) ∷ [] in
     let r = rec 0x0E 2 (0 ∷ 0 ∷ []) in
-    inside standard 9 (take 8 square) piece r refl refl refl refl (0x10 ∷ 0x11 ∷ [], element)
-    (law_boundary standard piece r refl (λ _. omega (arith, ints)) (λ e. absurd (is_not 0x0E xy refl e))) word
+    inside strict 9 (take 8 square) piece r refl refl refl refl (0x10 ∷ 0x11 ∷ [], element)
+    (law_boundary strict piece r refl (λ _. omega (arith, ints)) (λ e. absurd (is_not 0x0E xy refl e))) word
 
-points_follow : MayFollow standard (take 9 square) (rec 0x10 3 corners)
+points_follow : MayFollow strict (take 9 square) (rec 0x10 3 corners)
 points_follow =
     let piece = rec 0x08 0 [] ∷ rec 0x0D 2 (0 ∷ 1 ∷ []) ∷ rec 0x0E 2 (0 ∷ 0 ∷ []) ∷ [] in
     let r = rec 0x10 3 corners in
-    inside standard 10 (take 9 square) piece r refl refl refl refl (0x11 ∷ [], element)
-    (law_boundary standard piece r refl
+    inside strict 10 (take 9 square) piece r refl refl refl refl (0x11 ∷ [], element)
+    (law_boundary strict piece r refl
     (λ h. absurd (elim h [ inl e ↦ is_not 0x10 layer refl e | inr e ↦ is_not 0x10 datatype refl e ]))
     (λ _. (leb-true 4 5 refl, refl, straight))) word
 
 ends_follow : FollowAll (gds strict) (take 10 square) (drop 10 square)
 ends_follow = (
-  follows (take 10 square) (rec 0x11 0 []) (plain standard 11 (take 10 square) (rec 0x11 0 []) refl refl refl word)
+  follows (take 10 square) (rec 0x11 0 []) (plain strict 11 (take 10 square) (rec 0x11 0 []) refl refl refl word)
       (λ w. cc),
   (
-    follows (take 11 square) (rec 0x07 0 []) (plain standard 12 (take 11 square) (rec 0x07 0 []) refl refl refl word)
+    follows (take 11 square) (rec 0x07 0 []) (plain strict 12 (take 11 square) (rec 0x07 0 []) refl refl refl word)
         (λ w. cc),
     (
-      follows (take 12 square) (rec 0x04 0 []) (plain standard 13 (take 12 square) (rec 0x04 0 []) refl refl refl word)
+      follows (take 12 square) (rec 0x04 0 []) (plain strict 13 (take 12 square) (rec 0x04 0 []) refl refl refl word)
           (λ w. cc),
       tt,
     ),
@@ -252,7 +252,8 @@ ends_follow = (
 
 element_follows : FollowAll (gds strict) (take 6 square) (drop 6 square)
 element_follows = (
-  follows (take 6 square) (rec 0x08 0 []) (plain standard 7 (take 6 square) (rec 0x08 0 []) refl refl refl word) (λ w. cc),
+  follows (take 6 square) (rec 0x08 0 []) (plain strict 7 (take 6 square) (rec 0x08 0 []) refl refl refl word)
+      (λ w. cc),
   (
     follows (take 7 square) (rec 0x0D 2 (0 ∷ 1 ∷ [])) layer_follows (λ w. cc),
     (
@@ -262,28 +263,28 @@ element_follows = (
   ),
 )
 
-structure_follows : MayFollow standard (take 4 square) (rec 0x05 2 dates)
+structure_follows : MayFollow strict (take 4 square) (rec 0x05 2 dates)
 structure_follows =
-    may_follow standard (take 4 square) (rec 0x05 2 dates) refl (kinds (drop 5 square), word)
-    (λ e. absurd (is_not 0x05 strname refl e)) (λ _. ltb-true 0 standard.cells refl)
+    may_follow strict (take 4 square) (rec 0x05 2 dates) refl (kinds (drop 5 square), word)
+    (λ e. absurd (is_not 0x05 strname refl e)) (λ _. ltb-true 0 strict.limits.cells refl)
 
-name_follows : MayFollow standard (take 5 square) (rec 0x06 6 (0x54 ∷ 0x4F ∷ 0x50 ∷ 0 ∷ []))
+name_follows : MayFollow strict (take 5 square) (rec 0x06 6 (0x54 ∷ 0x4F ∷ 0x50 ∷ 0 ∷ []))
 name_follows =
-    may_follow standard (take 5 square) (rec 0x06 6 (0x54 ∷ 0x4F ∷ 0x50 ∷ 0 ∷ [])) refl (kinds (drop 6 square), word)
+    may_follow strict (take 5 square) (rec 0x06 6 (0x54 ∷ 0x4F ∷ 0x50 ∷ 0 ∷ [])) refl (kinds (drop 6 square), word)
     (λ _. top_name) (λ e. absurd (is_not 0x06 bgnstr refl e))
 
 followed : FollowAll (gds strict) [] square
 followed = (
   follows (take 0 square) (rec 0x00 2 (2 ∷ 0x58 ∷ []))
-      (plain standard 1 (take 0 square) (rec 0x00 2 (2 ∷ 0x58 ∷ [])) refl refl refl word) (λ w. cc),
+      (plain strict 1 (take 0 square) (rec 0x00 2 (2 ∷ 0x58 ∷ [])) refl refl refl word) (λ w. cc),
   (
-    follows (take 1 square) (rec 0x01 2 dates) (plain standard 2 (take 1 square) (rec 0x01 2 dates) refl refl refl word)
+    follows (take 1 square) (rec 0x01 2 dates) (plain strict 2 (take 1 square) (rec 0x01 2 dates) refl refl refl word)
         (λ w. cc),
     (
       follows (take 2 square) (rec 0x02 6 (0x4C ∷ 0x42 ∷ []))
-          (plain standard 3 (take 2 square) (rec 0x02 6 (0x4C ∷ 0x42 ∷ [])) refl refl refl word) (λ w. cc),
+          (plain strict 3 (take 2 square) (rec 0x02 6 (0x4C ∷ 0x42 ∷ [])) refl refl refl word) (λ w. cc),
       (
-        follows (take 3 square) (rec 0x03 5 ones) (plain standard 4 (take 3 square) (rec 0x03 5 ones) refl refl refl word)
+        follows (take 3 square) (rec 0x03 5 ones) (plain strict 4 (take 3 square) (rec 0x03 5 ones) refl refl refl word)
             (λ w. cc),
         (
           follows (take 4 square) (rec 0x05 2 dates) structure_follows (λ w. cc),
@@ -317,7 +318,7 @@ square_spells : SpellsLibrary strict file (top ∷ []) heading
 square_spells = record {
   records = square;
   whole = record {
-    front = record { spelled = spelled; followed = followed; within = leb-true 168 standard.file refl };
+    front = record { spelled = spelled; followed = followed; within = leb-true 168 strict.limits.file refl };
     whole = word;
   };
   cells_are = refl;

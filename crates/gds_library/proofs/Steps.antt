@@ -54,21 +54,23 @@ use Rattle.gds_library.proofs.Drawn.{drawings-snoc, drawings_element}
 use Rattle.gds_library.proofs.Grown.{same_place, none_some}
 use Rattle.gds_library.proofs.Spellings.{a_fill, map-append}
 use Rattle.gds_library.proofs.Refusing.{kept_many, cells_shown, is_not, no_rule}
-use Rattle.lvl_profile.specs.declared.limits.Limits.{Limits}
+use Rattle.lvl_profile.specs.declared.profile.Profile.{Profile}
 
 -- a record whose value no rule of an element tests may follow if the order, its name and the number of cells allow it
-pub may_follow : (limits : Limits) (rs : List Rec) (r : Rec) → is_value r.kind ≡ false → InOrder rs r
+pub may_follow : (profile : Profile) (rs : List Rec) (r : Rec) → is_value r.kind ≡ false → InOrder rs r
     → (r.kind ≡ strname → IsName (name r.payload))
-    → (r.kind ≡ bgnstr → length (pieces (is_type bgnstr) rs) < limits.cells) → MayFollow limits rs r
-may_follow limits rs r v g m c = (g, record { element = λ k x. no_rule limits _ r k v x; name = m; cells = c })
+    → (r.kind ≡ bgnstr → length (pieces (is_type bgnstr) rs) < profile.limits.cells) → MayFollow profile rs r
+may_follow profile rs r v g m c = (g, record { element = λ k x. no_rule profile _ r k v x; name = m; cells = c })
 
 -- a record of an element may follow if it breaches no rule of the element
-pub may_follow_inside : (limits : Limits) (rs piece : List Rec) (r : Rec) → last_piece is_opener rs ≡ piece → KeepsElement limits piece r
-    → InOrderInElement piece r → InOrder rs r → r.kind == strname ≡ false → r.kind == bgnstr ≡ false → MayFollow limits rs r
-may_follow_inside limits rs piece r e n o g s b = (
+pub may_follow_inside : (profile : Profile) (rs piece : List Rec) (r : Rec) → last_piece is_opener rs ≡ piece
+    → KeepsElement profile piece r
+    → InOrderInElement piece r → InOrder rs r → r.kind == strname ≡ false → r.kind == bgnstr ≡ false
+    → MayFollow profile rs r
+may_follow_inside profile rs piece r e n o g s b = (
   g,
   record {
-    element = λ k x. n (Rule k) (o, subst (λ p. BreachesInElement limits p r k) e x);
+    element = λ k x. n (Rule k) (o, subst (λ p. BreachesInElement profile p r k) e x);
     name = λ h. absurd (is_not r.kind strname s h);
     cells = λ h. absurd (is_not r.kind bgnstr b h);
   },
@@ -89,13 +91,16 @@ order_element before piece r h o g =
     g))
 
 -- a record that breaches a rule of the open element breaches a rule of the library
-breach_inside : (limits : Limits) (before piece : List Rec) (r : Rec) (f : ElementFault)
+breach_inside : (profile : Profile) (before piece : List Rec) (r : Rec) (f : ElementFault)
     → LeadsTo a_library (kinds before) (left Elements) → IsOpen (kinds piece) → IsPiece piece
-    → ElementBreaches limits piece r f → Breaches limits (before ++ piece) r (lifted f)
-breach_inside limits before piece r (MisplacedInElement m) h o p x =
+    → ElementBreaches profile piece r f → Breaches profile (before ++ piece) r (lifted f)
+breach_inside profile before piece r (MisplacedInElement m) h o p x =
     misplaced_carried (InOrderInElement piece r) (InOrder (before ++ piece) r) r m (order_element before piece r h o) x
-breach_inside limits before piece r (Rule k) h o p x =
-    (order_inside before piece r h x.0, subst (λ l. BreachesInElement limits l r k) (sym (last_opened before piece p)) x.1)
+breach_inside profile before piece r (Rule k) h o p x = (
+  order_inside before piece r h x.0,
+  subst (λ l. BreachesInElement profile l r k) (sym
+      (last_opened before piece p)) x.1,
+)
 
 last_one : (P : Rec → Type 0) (xs : List Rec) (r : Rec) → AllByRecursion P (xs ++ r ∷ []) → P r
 last_one P [] r h = h.0
@@ -119,67 +124,73 @@ never_inside before piece r j h o p g a b e =
     is_not r.kind j (last_lacks piece r j more a b) e
 
 -- and conversely
-breach_back : (limits : Limits) (before piece : List Rec) (r : Rec) (k : GdsKind) → LeadsTo a_library (kinds before) (left Elements)
-    → IsOpen (kinds piece) → IsPiece piece → Breaches limits (before ++ piece) r k
-    → (f : ElementFault) × (k ≡ lifted f) × ElementBreaches limits piece r f
-breach_back limits before piece r (Record f) h o p x = absurd x
-breach_back limits before piece r (Misplaced m) h o p x = (
+breach_back : (profile : Profile) (before piece : List Rec) (r : Rec) (k : GdsKind)
+    → LeadsTo a_library (kinds before) (left Elements)
+    → IsOpen (kinds piece) → IsPiece piece → Breaches profile (before ++ piece) r k
+    → (f : ElementFault) × (k ≡ lifted f) × ElementBreaches profile piece r f
+breach_back profile before piece r (Record f) h o p x = absurd x
+breach_back profile before piece r (Misplaced m) h o p x = (
   MisplacedInElement m,
   refl,
   misplaced_carried (InOrder (before ++ piece) r) (InOrderInElement piece r) r m
       (order_inside before piece r h) x,
 )
-breach_back limits before piece r (Element k) h o p x = (
+breach_back profile before piece r (Element k) h o p x = (
   Rule k,
   refl,
   (
     order_element before piece r h o x.0,
-    subst (λ l. BreachesInElement limits l r k)
+    subst (λ l. BreachesInElement profile l r k)
         (last_opened before piece p) x.1,
   ),
 )
-breach_back limits before piece r Name h o p x = absurd (never_inside before piece r strname h o p x.0 refl refl x.1)
-breach_back limits before piece r AfterEnd h o p x = absurd x
-breach_back limits before piece r TooManyCells h o p x = absurd (never_inside before piece r bgnstr h o p x.0 refl refl x.1)
+breach_back profile before piece r Name h o p x = absurd (never_inside before piece r strname h o p x.0 refl refl x.1)
+breach_back profile before piece r AfterEnd h o p x = absurd x
+breach_back profile before piece r TooManyCells h o p x = absurd
+    (never_inside before piece r bgnstr h o p x.0 refl refl x.1)
 
-breaches_both : (limits : Limits) (b : Builder) (e : OpenElement) (rs : List Rec) (r : Rec) (f : ElementFault) (i : IsInside b e rs)
-    → ElementBreaches limits i.piece r f → OnlyInElement limits i.piece r f → Breaches limits rs r (lifted f) × BreachesOnly limits rs r (lifted f)
-breaches_both limits b e rs r f i x only =
+breaches_both : (profile : Profile) (b : Builder) (e : OpenElement) (rs : List Rec) (r : Rec) (f : ElementFault)
+    (i : IsInside b e rs)
+    → ElementBreaches profile i.piece r f → OnlyInElement profile i.piece r f → Breaches profile rs r (lifted f)
+    × BreachesOnly profile rs r (lifted f)
+breaches_both profile b e rs r f i x only =
     let h = subst (λ p. LeadsTo a_library (kinds i.before) (left p)) i.at i.holds.leads in
     let o = reading_open e i.piece i.reading in
     let p = reading_piece e i.piece i.reading in (
-      subst (λ l. Breaches limits l r (lifted f)) (sym i.parts) (breach_inside limits i.before i.piece r f h o p x),
+      subst (λ l. Breaches profile l r (lifted f)) (sym i.parts) (breach_inside profile i.before i.piece r f h o p x),
       λ j y.
-          let z = breach_back limits i.before i.piece r j h o p (subst (λ l. Breaches limits l r j) i.parts y) in
+          let z = breach_back profile i.before i.piece r j h o p (subst (λ l. Breaches profile l r j) i.parts y) in
           z.1 ∙ ap lifted (only z.0 z.2),
     )
 
-says_lifted : (limits : Limits) (b : Builder) (e : OpenElement) (rs : List Rec) (r : Rec) (f : Cause ElementFault) (i : IsInside b e rs)
-    → Says f (ElementBreaches limits i.piece r) → Says f (OnlyInElement limits i.piece r)
-    → Says (lifted_refusal f) (λ k. Breaches limits rs r k × BreachesOnly limits rs r k)
-says_lifted limits b e rs r (Breach k) i x only = breaches_both limits b e rs r k i x only
-says_lifted limits b e rs r OutOfMemory i x only = tt
+says_lifted : (profile : Profile) (b : Builder) (e : OpenElement) (rs : List Rec) (r : Rec) (f : Cause ElementFault)
+    (i : IsInside b e rs)
+    → Says f (ElementBreaches profile i.piece r) → Says f (OnlyInElement profile i.piece r)
+    → Says (lifted_refusal f) (λ k. Breaches profile rs r k × BreachesOnly profile rs r k)
+says_lifted profile b e rs r (Breach k) i x only = breaches_both profile b e rs r k i x only
+says_lifted profile b e rs r OutOfMemory i x only = tt
 
 -- a record that its element refuses is refused in the library
-pub says_inside : (limits : Limits) (b : Builder) (e : OpenElement) (rs : List Rec) (r : Rec) (f : Cause ElementFault)
+pub says_inside : (profile : Profile) (b : Builder) (e : OpenElement) (rs : List Rec) (r : Rec) (f : Cause ElementFault)
     (g : Cause GdsKind) (i : IsInside b e rs)
-    → g ≡ lifted_refusal f → Says f (ElementBreaches limits i.piece r) → Says f (OnlyInElement limits i.piece r)
-    → Says g (λ k. Breaches limits rs r k × BreachesOnly limits rs r k)
-says_inside limits b e rs r f g i h x only =
-    subst (λ (j : Cause GdsKind). Says j (λ k. Breaches limits rs r k × BreachesOnly limits rs r k)) (sym h)
-    (says_lifted limits b e rs r f i x only)
+    → g ≡ lifted_refusal f → Says f (ElementBreaches profile i.piece r) → Says f (OnlyInElement profile i.piece r)
+    → Says g (λ k. Breaches profile rs r k × BreachesOnly profile rs r k)
+says_inside profile b e rs r f g i h x only =
+    subst (λ (j : Cause GdsKind). Says j (λ k. Breaches profile rs r k × BreachesOnly profile rs r k)) (sym h)
+    (says_lifted profile b e rs r f i x only)
 
 -- a builder has read the records, if no element is open
 pub none_open : (b : Builder) (e : Option OpenElement) (rs : List Rec) → e ≡ None → Holds b rs → HoldsWith e b rs
 none_open b e rs none h = subst (λ (o : Option OpenElement). HoldsWith o b rs) (sym none) h
 
 -- a refusal that is passed on
-pub takes_refused : (limits : Limits) {A : Type 0} (rs : List Rec) (r : Rec) (x : Reading) (res : Result A (Cause GdsKind))
+pub takes_refused : (profile : Profile) {A : Type 0} (rs : List Rec) (r : Rec) (x : Reading) (res : Result A
+    (Cause GdsKind))
     (e : Cause GdsKind) → IsErr res × IsErrAnd res (λ f. f ≡ e)
-    → Says e (λ k. Breaches limits rs r k × BreachesOnly limits rs r k) → Takes limits rs r x res
-takes_refused limits rs r x (Ok v) e h b = absurd h.1
-takes_refused limits rs r x (Err f) e h b =
-    subst (λ (i : Cause GdsKind). Says i (λ k. Breaches limits rs r k × BreachesOnly limits rs r k)) (sym h.1) b
+    → Says e (λ k. Breaches profile rs r k × BreachesOnly profile rs r k) → Takes profile rs r x res
+takes_refused profile rs r x (Ok v) e h b = absurd h.1
+takes_refused profile rs r x (Err f) e h b =
+    subst (λ (i : Cause GdsKind). Says i (λ k. Breaches profile rs r k × BreachesOnly profile rs r k)) (sym h.1) b
 
 -- if UNITS comes before the place after another record, it comes before that record
 units_before : (p q : LibraryStage) (k : ℕ) → after p k ≡ Some q → k == units ≡ false → has_units q ≡ true
@@ -219,18 +230,22 @@ law_holds b b' rs r h e s k =
     }
 
 -- and breaches no rule
-pub law_allowed : (limits : Limits) (b b' : Builder) (rs : List Rec) (r : Rec) → Holds b rs → Holds b' (rs ++ r ∷ []) → r.kind < 60
-    → after b.stage r.kind ≡ Some b'.stage → IsAllowed limits (length b.cells.cells) r.kind r.payload → MayFollow limits rs r
-law_allowed limits b b' rs r h h' l e a =
-    may_follow limits rs r (outside_after b.stage b'.stage r.kind e).value (leads_begins (kinds (rs ++ r ∷ [])) b'.stage
+pub law_allowed : (profile : Profile) (b b' : Builder) (rs : List Rec) (r : Rec) → Holds b rs → Holds b' (rs ++ r ∷ [])
+    → r.kind < 60
+    → after b.stage r.kind ≡ Some b'.stage → IsAllowed profile.limits (length b.cells.cells) r.kind r.payload
+    → MayFollow profile rs r
+law_allowed profile b b' rs r h h' l e a =
+    may_follow profile rs r (outside_after b.stage b'.stage r.kind e).value (leads_begins (kinds
+    (rs ++ r ∷ [])) b'.stage
     h'.leads) a.name
     (λ k. (let n = cells_shown b.stage b'.stage b (subst (λ i. after b.stage i ≡ Some b'.stage) k e) in
     omega (arith, a.cells k, n, ap (λ ds. length ds) h.shown, kept_many rs)))
 
 -- a zero byte after ENDLIB breaches no rule
-pub law_fill : (limits : Limits) (rs : List Rec) → Begins a_library (kinds (rs ++ a_fill ∷ [])) → MayFollow limits rs a_fill
-law_fill limits rs g =
-    may_follow limits rs a_fill (outside_after Fill Fill fill refl).value g (λ e. absurd (omega (arith, e)))
+pub law_fill : (profile : Profile) (rs : List Rec) → Begins a_library (kinds (rs ++ a_fill ∷ []))
+    → MayFollow profile rs a_fill
+law_fill profile rs g =
+    may_follow profile rs a_fill (outside_after Fill Fill fill refl).value g (λ e. absurd (omega (arith, e)))
     (λ e. absurd (omega (arith, e)))
 
 -- a builder after the records of one more complete element
@@ -264,9 +279,10 @@ inside_begins b e rs i =
     i.holds.leads) (reading_begins e i.piece i.reading))
 
 -- one more record of an open element, which stays open
-pub law_inside : (limits : Limits) (b : Builder) (e e' : OpenElement) (rs : List Rec) (r : Rec) (i : IsInside b e rs)
-    → IsReading e' (i.piece ++ r ∷ []) → KeepsElement limits i.piece r → IsInside b e' (rs ++ r ∷ []) × MayFollow limits rs r
-law_inside limits b e e' rs r i re n =
+pub law_inside : (profile : Profile) (b : Builder) (e e' : OpenElement) (rs : List Rec) (r : Rec) (i : IsInside b e rs)
+    → IsReading e' (i.piece ++ r ∷ []) → KeepsElement profile i.piece r → IsInside b e' (rs ++ r ∷ [])
+    × MayFollow profile rs r
+law_inside profile b e e' rs r i re n =
     let next : IsInside b e' (rs ++ r ∷ []) = record {
       before = i.before;
       piece = i.piece ++ r ∷ [];
@@ -279,18 +295,19 @@ law_inside limits b e e' rs r i re n =
     let last : last_piece is_opener rs ≡ i.piece = ap (last_piece is_opener) i.parts ∙ last_opened i.before i.piece
     (reading_piece e i.piece i.reading) in (
       next,
-      may_follow_inside limits rs i.piece r last n (reading_begins e' (i.piece ++ r ∷ []) re)
+      may_follow_inside profile rs i.piece r last n (reading_begins e' (i.piece ++ r ∷ []) re)
           (inside_begins b e' (rs ++ r ∷ []) next) (last_lacks i.piece r strname pc refl refl)
           (last_lacks i.piece r bgnstr pc refl refl),
     )
 
 -- the ENDEL of an open element
-pub law_whole : (limits : Limits) (b b' : Builder) (e : OpenElement) (rs : List Rec) (r : Rec) (d : Drawn) (i : IsInside b e rs)
-    → IsWord an_element (kinds (i.piece ++ r ∷ [])) × IsDrawn d (i.piece ++ r ∷ []) → KeepsElement limits i.piece r
+pub law_whole : (profile : Profile) (b b' : Builder) (e : OpenElement) (rs : List Rec) (r : Rec) (d : Drawn)
+    (i : IsInside b e rs)
+    → IsWord an_element (kinds (i.piece ++ r ∷ [])) × IsDrawn d (i.piece ++ r ∷ []) → KeepsElement profile i.piece r
     → b'.stage ≡ b.stage → b'.version ≡ b.version → b'.units ≡ b.units
     → shown b' ≡ on_last (with_drawn (shapes_in d) (references_in d)) (shown b)
-    → Holds b' (rs ++ r ∷ []) × MayFollow limits rs r
-law_whole limits b b' e rs r d i w n p v u s =
+    → Holds b' (rs ++ r ∷ []) × MayFollow profile rs r
+law_whole profile b b' e rs r d i w n p v u s =
     let parts : rs ++ r ∷ [] ≡ i.before ++ (i.piece ++ r ∷ []) = ap (λ l. l ++ r ∷ []) i.parts ∙ append_assoc i.before
     i.piece (r ∷ []) in
     let next : Holds b' (rs ++ r ∷ []) = subst (Holds b') (sym parts) (law_element b b' i.before (i.piece ++ r ∷ []) d
@@ -299,16 +316,17 @@ law_whole limits b b' e rs r d i w n p v u s =
     let last : last_piece is_opener rs ≡ i.piece = ap (last_piece is_opener) i.parts ∙ last_opened i.before i.piece
     (reading_piece e i.piece i.reading) in (
       next,
-      may_follow_inside limits rs i.piece r last n
+      may_follow_inside profile rs i.piece r last n
           ([], subst (IsWord an_element) (sym (append-nil (kinds (i.piece ++ r ∷ [])))) w.0)
           (leads_begins (kinds (rs ++ r ∷ [])) b'.stage next.leads) (last_lacks i.piece r strname pc refl refl)
           (last_lacks i.piece r bgnstr pc refl refl),
     )
 
 -- the record that opens an element
-pub law_opens : (limits : Limits) (b : Builder) (e : OpenElement) (rs : List Rec) (r : Rec) → Holds b rs → b.stage ≡ Elements
-    → IsReading e (r ∷ []) → IsInside b e (rs ++ r ∷ []) × MayFollow limits rs r
-law_opens limits b e rs r h at re =
+pub law_opens : (profile : Profile) (b : Builder) (e : OpenElement) (rs : List Rec) (r : Rec) → Holds b rs
+    → b.stage ≡ Elements
+    → IsReading e (r ∷ []) → IsInside b e (rs ++ r ∷ []) × MayFollow profile rs r
+law_opens profile b e rs r h at re =
     let next : IsInside b e (rs ++ r ∷ []) = record {
       before = rs;
       piece = r ∷ [];
@@ -319,7 +337,7 @@ law_opens limits b e rs r h at re =
     } in
     let o = opener_is r.kind (begins_open r.kind [] (reading_begins e (r ∷ []) re)) in (
       next,
-      may_follow limits rs r o.value (inside_begins b e (rs ++ r ∷ []) next)
+      may_follow profile rs r o.value (inside_begins b e (rs ++ r ∷ []) next)
           (λ z. absurd (is_not r.kind strname o.strname z)) (λ z. absurd (is_not r.kind bgnstr o.bgnstr z)),
     )
 

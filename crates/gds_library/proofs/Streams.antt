@@ -339,7 +339,7 @@ reads_zero profile xs at b was rest to e here limit =
     reads_on (gds profile) xs at (HoldsBy profile b) (HoldsBy profile b) was to a_fill (0 ∷ []) rest here
     (inr (refl, refl))
     (follows_essential profile to.records a_fill (fill_unpassed profile) to.holds.complete
-    (law_fill profile.limits es (leads_begins (kinds (es ++ a_fill ∷ [])) b.stage more.leads)))
+    (law_fill profile es (leads_begins (kinds (es ++ a_fill ∷ [])) b.stage more.leads)))
     (omega (arith, limit)) (record {
       essential = subst (Holds b) (sym (essential_kept profile to.records a_fill (fill_unpassed profile))) more;
       complete = λ w. fill_waits to.records w;

@@ -86,7 +86,7 @@ IsMisplacedBy profile before r (Unsupported k) = (r.kind ≡ k) × (k < 60) × �
 abbrev pub BreachesBy : Profile → List Rec → Rec → GdsKind → Type 0
 BreachesBy profile before r (Misplaced m) = IsMisplacedBy profile before r m
 BreachesBy profile before r k =
-    (is_passed profile r ≡ false) × ¬ AwaitsValue before × Breaches profile.limits (essential profile before) r k
+    (is_passed profile r ≡ false) × ¬ AwaitsValue before × Breaches profile (essential profile before) r k
 
 -- it breaches no other rule
 abbrev pub BreachesOnlyBy : Profile → List Rec → Rec → GdsKind → Type 0
@@ -95,7 +95,7 @@ BreachesOnlyBy profile before r k = (j : GdsKind) → BreachesBy profile before 
 -- the record may follow the others: it may come next, and breaches no rule unless it is ignored
 abbrev pub MayFollowBy : Profile → List Rec → Rec → Type 0
 MayFollowBy profile before r =
-    InOrderBy profile before r × (is_passed profile r ≡ false → KeepsRules profile.limits (essential profile before) r)
+    InOrderBy profile before r × (is_passed profile r ≡ false → KeepsRules profile (essential profile before) r)
 
 -- the records are a whole library, apart from those that are ignored
 abbrev pub IsWholeBy : Profile → List Rec → Type 0

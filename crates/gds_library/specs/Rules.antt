@@ -13,7 +13,7 @@ use Rattle.gds_library.specs.Rec.{pieces, last_piece}
 use Rattle.gds_library.specs.declared.fault.GdsKind.{GdsKind}
 use Rattle.gds_library.specs.declared.fault.GdsKind.TheVariants.{Record, Misplaced, Element, Name, AfterEnd}
 use Rattle.gds_library.specs.declared.fault.GdsKind.TheVariants.{TooManyCells}
-use Rattle.lvl_profile.specs.declared.limits.Limits.{Limits}
+use Rattle.lvl_profile.specs.declared.profile.Profile.{Profile}
 
 -- the records are a whole library
 abbrev pub IsWhole : List Rec → Type 0
@@ -25,26 +25,26 @@ InOrder before r = Begins a_library (kinds (before ++ r ∷ []))
 
 -- the record breaches the rule: it may not come next; or its payload breaches the rule, after the records of its
 -- element (Element), by itself (Name), or after the structures before it (TooManyCells)
-abbrev pub Breaches : Limits → List Rec → Rec → GdsKind → Type 0
-Breaches limits before r (Record f) = ⊥
-Breaches limits before r (Misplaced m) = IsMisplacedAs (InOrder before r) r m
-Breaches limits before r (Element k) = InOrder before r × ValueBreaches limits (last_piece is_opener before) r k
-Breaches limits before r Name = InOrder before r × (r.kind ≡ strname) × ¬ IsName (name r.payload)
-Breaches limits before r AfterEnd = ⊥
-Breaches limits before r TooManyCells =
-    InOrder before r × (r.kind ≡ bgnstr) × (limits.cells ≤ length (pieces (is_type bgnstr) before))
+abbrev pub Breaches : Profile → List Rec → Rec → GdsKind → Type 0
+Breaches profile before r (Record f) = ⊥
+Breaches profile before r (Misplaced m) = IsMisplacedAs (InOrder before r) r m
+Breaches profile before r (Element k) = InOrder before r × ValueBreaches profile (last_piece is_opener before) r k
+Breaches profile before r Name = InOrder before r × (r.kind ≡ strname) × ¬ IsName (name r.payload)
+Breaches profile before r AfterEnd = ⊥
+Breaches profile before r TooManyCells =
+    InOrder before r × (r.kind ≡ bgnstr) × (profile.limits.cells ≤ length (pieces (is_type bgnstr) before))
 
 -- it breaches no other rule
-abbrev pub BreachesOnly : Limits → List Rec → Rec → GdsKind → Type 0
-BreachesOnly limits before r k = (j : GdsKind) → Breaches limits before r j → j ≡ k
+abbrev pub BreachesOnly : Profile → List Rec → Rec → GdsKind → Type 0
+BreachesOnly profile before r k = (j : GdsKind) → Breaches profile before r j → j ≡ k
 
 -- the record breaches no rule by its payload: after the records of its element, by its name, or after the structures
 -- before it
-pub record KeepsRules (limits : Limits) (before : List Rec) (r : Rec) : Type 0 where
-  pub element : (k : ElementRule) → ValueBreaches limits (last_piece is_opener before) r k → ⊥
+pub record KeepsRules (profile : Profile) (before : List Rec) (r : Rec) : Type 0 where
+  pub element : (k : ElementRule) → ValueBreaches profile (last_piece is_opener before) r k → ⊥
   pub name : r.kind ≡ strname → IsName (name r.payload)
-  pub cells : r.kind ≡ bgnstr → length (pieces (is_type bgnstr) before) < limits.cells
+  pub cells : r.kind ≡ bgnstr → length (pieces (is_type bgnstr) before) < profile.limits.cells
 
 -- the record may follow the others: it may come next, and breaches no rule
-abbrev pub MayFollow : Limits → List Rec → Rec → Type 0
-MayFollow limits before r = InOrder before r × KeepsRules limits before r
+abbrev pub MayFollow : Profile → List Rec → Rec → Type 0
+MayFollow profile before r = InOrder before r × KeepsRules profile before r

@@ -116,8 +116,7 @@ impl WithIgnored {
         if self.awaits_value() {
             return Err(Cause::Breach(GdsKind::Misplaced(misplaced(kind))));
         }
-        self.reading
-            .take(alloc, self.profile.limits, kind, payload)?;
+        self.reading.take(alloc, self.profile, kind, payload)?;
         self.last = Some(kind);
         Ok(())
     }

@@ -12,7 +12,7 @@ use crate::fault::GdsKind;
 use crate::head::GdsHead;
 use gds_elements::{Element, ElementFault, Step};
 use lvl_cells::Library;
-use lvl_profile::Limits;
+use lvl_profile::Profile;
 use lvl_refusal::Cause;
 use std::alloc::Global;
 
@@ -66,18 +66,18 @@ impl Reading {
     pub(crate) fn take(
         &mut self,
         alloc: Global,
-        limits: Limits,
+        profile: Profile,
         kind: u8,
         payload: &[u8],
     ) -> Result<(), Cause<GdsKind>>
         requires formed { IsFormed kind payload.now }
         requires in_element { IsFormedInElement kind payload.now }
         ensures { (rs : List Rec) (d : ℕ) → HasRead self.old rs
-            → Takes limits rs (record_of kind d payload.now) self.new result }
+            → Takes profile rs (record_of kind d payload.now) self.new result }
     {
         match self.element.take() {
-            Some(element) => self.take_inside(element, alloc, limits, kind, payload),
-            None => self.take_outside(alloc, limits, kind, payload),
+            Some(element) => self.take_inside(element, alloc, profile, kind, payload),
+            None => self.take_outside(alloc, profile, kind, payload),
         }
     }
 
@@ -86,16 +86,16 @@ impl Reading {
         &mut self,
         element: Element,
         alloc: Global,
-        limits: Limits,
+        profile: Profile,
         kind: u8,
         payload: &[u8],
     ) -> Result<(), Cause<GdsKind>>
         requires open { self.old.element ≡ None }
         requires in_element { IsFormedInElement kind payload.now }
         ensures { (rs : List Rec) (d : ℕ) → IsInside self.old.builder element rs
-            → Takes limits rs (record_of kind d payload.now) self.new result }
+            → Takes profile rs (record_of kind d payload.now) self.new result }
     {
-        match element.take(alloc, limits, kind, payload) {
+        match element.take(alloc, profile, kind, payload) {
             Ok(Step::Open(element)) => {
                 self.element = Some(element);
                 Ok(())
@@ -112,14 +112,14 @@ impl Reading {
     fn take_outside(
         &mut self,
         alloc: Global,
-        limits: Limits,
+        profile: Profile,
         kind: u8,
         payload: &[u8],
     ) -> Result<(), Cause<GdsKind>>
         requires none { self.old.element ≡ None }
         requires formed { IsFormed kind payload.now }
         ensures { (rs : List Rec) (d : ℕ) → Holds self.old.builder rs
-            → Takes limits rs (record_of kind d payload.now) self.new result }
+            → Takes profile rs (record_of kind d payload.now) self.new result }
     {
         if self.builder.may_open() {
             if let Some(element) = Element::open(alloc, kind) {
@@ -127,7 +127,7 @@ impl Reading {
                 return Ok(());
             }
         }
-        self.builder.take(alloc, limits, kind, payload)?;
+        self.builder.take(alloc, profile.limits, kind, payload)?;
         Ok(())
     }
 }

@@ -11,7 +11,7 @@ use gds_records::record_type as ty;
 use lvl_cells::Reference;
 use lvl_grid::{Point, Ring};
 use lvl_names::Layer;
-use lvl_profile::Limits;
+use lvl_profile::Profile;
 use lvl_refusal::Cause;
 use std::alloc::{AllocError, Global};
 use std::process::Abort;
@@ -105,7 +105,7 @@ fn take(
     let kind = kind_of(name)?;
     let payload = payload_of(alloc, kind, words)?;
     assert!(rt; is_formed(kind, &payload));
-    Ok(element.take(alloc, Limits::STANDARD, kind, &payload))
+    Ok(element.take(alloc, Profile::STANDARD, kind, &payload))
 }
 
 /// What an element draws, or why the record at a place is refused.

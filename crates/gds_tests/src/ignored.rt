@@ -22,6 +22,7 @@ const PROPERTIES_ALONE: Ignore = Ignore {
     texts: false,
     names: false,
     padding: false,
+    points: false,
 };
 
 const NAMES_ALONE: Ignore = Ignore {
@@ -29,6 +30,7 @@ const NAMES_ALONE: Ignore = Ignore {
     texts: false,
     names: true,
     padding: false,
+    points: false,
 };
 
 /// What only OASIS files have.
@@ -37,6 +39,7 @@ const OF_OASIS: Ignore = Ignore {
     texts: true,
     names: false,
     padding: true,
+    points: false,
 };
 
 /// The standard profile, with this ignored.

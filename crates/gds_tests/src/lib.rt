@@ -17,4 +17,6 @@ mod library_elements;
 #[cfg(test)]
 mod records;
 #[cfg(test)]
+mod repeats;
+#[cfg(test)]
 mod rows;

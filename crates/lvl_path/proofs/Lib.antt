@@ -4,3 +4,4 @@ pub mod Covering
 pub mod Outcomes
 pub mod Figures
 pub mod Lowest
+pub mod Repeating

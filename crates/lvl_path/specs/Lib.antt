@@ -1,4 +1,5 @@
 pub mod Ways
 pub mod Bands
 pub mod Runs
+pub mod Repeats
 pub mod Figure

@@ -16,10 +16,12 @@
 #![tactic(auto)]
 
 pub use fault::PathFault;
+pub use repeats::bands_by;
 pub use runs::bands;
 
 mod band;
 mod fault;
+mod repeats;
 mod runs;
 mod steps;
 mod way;

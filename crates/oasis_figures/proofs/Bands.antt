@@ -8,11 +8,13 @@ use Rattle.std.specs.declared.alloc.Global.{Global}
 use Rattle.std.specs.declared.vec.Vec.{Vec}
 use Rattle.lvl_grid.specs.Turn.{FitsPoint, shifted}
 use Rattle.lvl_grid.specs.declared.point.Point.{Point}
+use Rattle.lvl_path.specs.Repeats.{asked, without_repeats}
 use Rattle.lvl_path.specs.Runs.{IsPath, IsLowestFault, path_rings}
 use Rattle.lvl_path.specs.declared.fault.PathFault.{PathFault}
 use Rattle.lvl_refusal.specs.Refused.{Says}
 use Rattle.lvl_refusal.specs.declared.Cause.{Cause}
 use Rattle.lvl_refusal.specs.declared.Cause.TheVariants.{Breach, OutOfMemory}
+use Rattle.lvl_profile.specs.declared.ignore.Ignore.{Ignore}
 use Rattle.oasis_records.specs.declared.path.Path.{Path}
 use Rattle.oasis_records.specs.declared.record.Record.{Record}
 use Rattle.oasis_figures.specs.Figures.{number, reach, path_points, half_of, start_of, end_of, layer_of, shifts_of}
@@ -108,56 +110,60 @@ has_reaches earlier p v s e a r =
     }
 
 -- if the vertices fit, no rule before Extension is breached
-before_extension : (earlier : List Record) (p : Path) (v : Resolved) (qs : List Point) → IsRead earlier p v qs
+before_extension : (ignore : Ignore) (earlier : List Record) (p : Path) (v : Resolved) (qs : List Point)
+    → IsRead earlier p v qs
     → All FitsPoint qs
-    → (other : FigureRule) → order other < 5 → ¬ Breaks earlier (a_path p) other
-before_extension earlier p v qs a h (Undefined x) lt b =
-    known_first earlier (a_path p) a.values.known (Undefined x) (omega arith) b
-before_extension earlier p v qs a h WideLayer lt b =
-    known_first earlier (a_path p) a.values.known WideLayer (omega arith) b
-before_extension earlier p v qs a h OutOfRange lt b =
+    → (other : FigureRule) → order other < 5 → ¬ Breaks ignore earlier (a_path p) other
+before_extension ignore earlier p v qs a h (Undefined x) lt b =
+    known_first ignore earlier (a_path p) a.values.known (Undefined x) (omega arith) b
+before_extension ignore earlier p v qs a h WideLayer lt b =
+    known_first ignore earlier (a_path p) a.values.known WideLayer (omega arith) b
+before_extension ignore earlier p v qs a h OutOfRange lt b =
     b (subst FitsPoint (sym a.values.at) a.values.fits, subst (λ (ps : List Point). All FitsPoint ps) a.points h)
-before_extension earlier p v qs a h Magnification lt b = b
-before_extension earlier p v qs a h Angle lt b = b
-before_extension earlier p v qs a h Extension lt b = omega (arith, lt)
-before_extension earlier p v qs a h Oblique lt b = b
-before_extension earlier p v qs a h (PathRule f) lt b = omega (arith, lt)
+before_extension ignore earlier p v qs a h Magnification lt b = b
+before_extension ignore earlier p v qs a h Angle lt b = b
+before_extension ignore earlier p v qs a h Extension lt b = omega (arith, lt)
+before_extension ignore earlier p v qs a h Oblique lt b = b
+before_extension ignore earlier p v qs a h (PathRule f) lt b = omega (arith, lt)
 
 -- if in addition no extension is negative, no rule before Path is breached
-before_path : (earlier : List Record) (p : Path) (v : Resolved) (qs : List Point) (s e : ℕ) → IsRead earlier p v qs
+before_path : (ignore : Ignore) (earlier : List Record) (p : Path) (v : Resolved) (qs : List Point) (s e : ℕ)
+    → IsRead earlier p v qs
     → All FitsPoint qs
-    → HasReaches earlier p s e → (other : FigureRule) → order other < 7 → ¬ Breaks earlier (a_path p) other
-before_path earlier p v qs s e a h r (Undefined x) lt b =
-    before_extension earlier p v qs a h (Undefined x) (omega arith) b
-before_path earlier p v qs s e a h r WideLayer lt b = before_extension earlier p v qs a h WideLayer (omega arith) b
-before_path earlier p v qs s e a h r OutOfRange lt b = before_extension earlier p v qs a h OutOfRange (omega arith) b
-before_path earlier p v qs s e a h r Magnification lt b = b
-before_path earlier p v qs s e a h r Angle lt b = b
-before_path earlier p v qs s e a h r Extension lt b =
+    → HasReaches earlier p s e → (other : FigureRule) → order other < 7 → ¬ Breaks ignore earlier (a_path p) other
+before_path ignore earlier p v qs s e a h r (Undefined x) lt b =
+    before_extension ignore earlier p v qs a h (Undefined x) (omega arith) b
+before_path ignore earlier p v qs s e a h r WideLayer lt b = before_extension ignore earlier p v qs a h WideLayer
+    (omega arith) b
+before_path ignore earlier p v qs s e a h r OutOfRange lt b = before_extension ignore earlier p v qs a h OutOfRange
+    (omega arith) b
+before_path ignore earlier p v qs s e a h r Magnification lt b = b
+before_path ignore earlier p v qs s e a h r Angle lt b = b
+before_path ignore earlier p v qs s e a h r Extension lt b =
     none_negative (modal start_set (a_path p ∷ earlier)) (modal end_set (a_path p ∷ earlier)) s e r.start r.end b
-before_path earlier p v qs s e a h r Oblique lt b = b
-before_path earlier p v qs s e a h r (PathRule f) lt b = omega (arith, lt)
+before_path ignore earlier p v qs s e a h r Oblique lt b = b
+before_path ignore earlier p v qs s e a h r (PathRule f) lt b = omega (arith, lt)
 
-pub vertices_refused : (m : Modal) (p : Path) (v : Resolved) (qs : List Point) (x : Cause FigureRule)
+pub vertices_refused : (ignore : Ignore) (m : Modal) (p : Path) (v : Resolved) (qs : List Point) (x : Cause FigureRule)
     → IsReadAfter m p v qs
-    → Says x (λ rule. (rule ≡ OutOfRange) × ¬ All FitsPoint qs) → Says x (BreachesAfter m (a_path p))
-vertices_refused m p v qs (Breach rule) read b = λ earlier s.
+    → Says x (λ rule. (rule ≡ OutOfRange) × ¬ All FitsPoint qs) → Says x (BreachesAfter ignore m (a_path p))
+vertices_refused ignore m p v qs (Breach rule) read b = λ earlier s.
     let a = read earlier s in
-    let out = range_breached earlier (a_path p) a.values.known
+    let out = range_breached ignore earlier (a_path p) a.values.known
     (λ h. b.1 (subst (λ (ps : List Point). All FitsPoint ps) (sym a.points) h.1)) in
-    subst (Breaches earlier (a_path p)) (sym b.0) out
-vertices_refused m p v qs OutOfMemory read b = tt
+    subst (Breaches ignore earlier (a_path p)) (sym b.0) out
+vertices_refused ignore m p v qs OutOfMemory read b = tt
 
-pub extension_refused : (m : Modal) (p : Path) (v : Resolved) (qs : List Point) → IsReadAfter m p v qs
+pub extension_refused : (ignore : Ignore) (m : Modal) (p : Path) (v : Resolved) (qs : List Point) → IsReadAfter m p v qs
     → All FitsPoint qs
-    → reaches v.stroke.start v.stroke.end ≡ None → BreachesAfter m (a_path p) Extension
-extension_refused m p v qs read h r = λ earlier s.
+    → reaches v.stroke.start v.stroke.end ≡ None → BreachesAfter ignore m (a_path p) Extension
+extension_refused ignore m p v qs read h r = λ earlier s.
     let a = read earlier s in
     let starts = modal start_set (a_path p ∷ earlier) in
     let ends = modal end_set (a_path p ∷ earlier) in
     record {
       broken = some_negative starts ends v.stroke.start v.stroke.end a.values.start a.values.end r;
-      first = before_extension earlier p v qs a h;
+      first = before_extension ignore earlier p v qs a h;
     }
 
 -- a property of points and numbers holds of equal ones
@@ -181,63 +187,70 @@ as_given P earlier p v qs s e a r x =
     (sym (ap number a.values.half))
     (sym (ap reach r.start)) (sym (ap reach r.end)) x
 
-bands_breached : (earlier : List Record) (p : Path) (v : Resolved) (qs : List Point) (s e : ℕ) (rule : FigureRule)
+bands_breached : (ignore : Ignore) (earlier : List Record) (p : Path) (v : Resolved) (qs : List Point) (s e : ℕ)
+    (rule : FigureRule)
     → IsRead earlier p v qs
-    → All FitsPoint qs → HasReaches earlier p s e → BandsBreak qs v.stroke.half s e rule
-    → Breaches earlier (a_path p) rule
-bands_breached earlier p v qs s e (PathRule f) a h r b = record {
-  broken = as_given (λ (l : List Point) (i j k : ℕ). IsLowestFault l (record { half = i; start = j; end = k }) f)
+    → All FitsPoint qs → HasReaches earlier p s e → BandsBreak ignore.points qs v.stroke.half s e rule
+    → Breaches ignore earlier (a_path p) rule
+bands_breached ignore earlier p v qs s e (PathRule f) a h r b = record {
+  broken = as_given (λ (l : List Point) (i j k : ℕ). IsLowestFault (asked ignore.points l)
+      (record { half = i; start = j; end = k }) f)
       earlier p v qs s e a r b;
-  first = before_path earlier p v qs s e a h r;
+  first = before_path ignore earlier p v qs s e a h r;
 }
-bands_breached earlier p v qs s e _ a h r b = absurd b
+bands_breached ignore earlier p v qs s e _ a h r b = absurd b
 
-pub bands_refused : (m : Modal) (p : Path) (v : Resolved) (qs : List Point) (s e : ℕ) (x : Cause FigureRule)
+pub bands_refused : (ignore : Ignore) (m : Modal) (p : Path) (v : Resolved) (qs : List Point) (s e : ℕ)
+    (x : Cause FigureRule)
     → IsReadAfter m p v qs
-    → All FitsPoint qs → reaches v.stroke.start v.stroke.end ≡ Some (s, e) → Says x (BandsBreak qs v.stroke.half s e)
-    → Says x (BreachesAfter m (a_path p))
-bands_refused m p v qs s e (Breach rule) read h r b = λ earlier st.
+    → All FitsPoint qs → reaches v.stroke.start v.stroke.end ≡ Some (s, e)
+    → Says x (BandsBreak ignore.points qs v.stroke.half s e)
+    → Says x (BreachesAfter ignore m (a_path p))
+bands_refused ignore m p v qs s e (Breach rule) read h r b = λ earlier st.
     let a = read earlier st in
-    bands_breached earlier p v qs s e rule a h (has_reaches earlier p v s e a.values r) b
-bands_refused m p v qs s e OutOfMemory read h r b = tt
+    bands_breached ignore earlier p v qs s e rule a h (has_reaches earlier p v s e a.values r) b
+bands_refused ignore m p v qs s e OutOfMemory read h r b = tt
 
-no_later : (earlier : List Record) (p : Path) (s e : ℕ) → HasReaches earlier p s e
-    → ((f : PathFault) → ¬ Breaks earlier (a_path p) (PathRule f)) → BreaksNoLater earlier (a_path p)
-no_later earlier p s e r k (Undefined x) lt b = omega (arith, lt)
-no_later earlier p s e r k WideLayer lt b = omega (arith, lt)
-no_later earlier p s e r k OutOfRange lt b = omega (arith, lt)
-no_later earlier p s e r k Magnification lt b = b
-no_later earlier p s e r k Angle lt b = b
-no_later earlier p s e r k Extension lt b =
+no_later : (ignore : Ignore) (earlier : List Record) (p : Path) (s e : ℕ) → HasReaches earlier p s e
+    → ((f : PathFault) → ¬ Breaks ignore earlier (a_path p) (PathRule f)) → BreaksNoLater ignore earlier (a_path p)
+no_later ignore earlier p s e r k (Undefined x) lt b = omega (arith, lt)
+no_later ignore earlier p s e r k WideLayer lt b = omega (arith, lt)
+no_later ignore earlier p s e r k OutOfRange lt b = omega (arith, lt)
+no_later ignore earlier p s e r k Magnification lt b = b
+no_later ignore earlier p s e r k Angle lt b = b
+no_later ignore earlier p s e r k Extension lt b =
     none_negative (modal start_set (a_path p ∷ earlier)) (modal end_set (a_path p ∷ earlier)) s e r.start r.end b
-no_later earlier p s e r k Oblique lt b = b
-no_later earlier p s e r k (PathRule f) lt b = k f b
+no_later ignore earlier p s e r k Oblique lt b = b
+no_later ignore earlier p s e r k (PathRule f) lt b = k f b
 
-pub path_none : (earlier : List Record) (p : Path) (v : Resolved) (qs : List Point) (s e : ℕ) → IsRead earlier p v qs
+pub path_none : (ignore : Ignore) (earlier : List Record) (p : Path) (v : Resolved) (qs : List Point) (s e : ℕ)
+    → IsRead earlier p v qs
     → All FitsPoint qs
-    → HasReaches earlier p s e → IsPath qs (record { half = v.stroke.half; start = s; end = e })
-    → BreachesNone earlier (a_path p)
-path_none earlier p v qs s e a h r x =
+    → HasReaches earlier p s e → IsPath (asked ignore.points qs) (record { half = v.stroke.half; start = s; end = e })
+    → BreachesNone ignore earlier (a_path p)
+path_none ignore earlier p v qs s e a h r x =
     let fits = subst (λ (ps : List Point). All FitsPoint ps) a.points h in
-    let good = as_given (λ (l : List Point) (i j k : ℕ). IsPath l (record { half = i; start = j; end = k })) earlier p
+    let good = as_given (λ (l : List Point) (i j k : ℕ). IsPath (asked ignore.points l)
+    (record { half = i; start = j; end = k })) earlier p
     v qs s e a r x in
-    no_rule earlier (a_path p) a.values.known.defined a.values.known.narrow
+    no_rule ignore earlier (a_path p) a.values.known.defined a.values.known.narrow
     (λ out. out (subst FitsPoint (sym a.values.at) a.values.fits, fits))
-    (no_later earlier p s e r (λ f b. good f b.breached))
+    (no_later ignore earlier p s e r (λ f b. good f b.breached))
 
 pub path_drawn : (earlier : List Record) (p : Path) (v : Resolved) (qs : List Point) (rings : Vec (List Point) Global)
     (s e : ℕ)
     → IsRead earlier p v qs → HasReaches earlier p s e
-    → rings.items ≡ path_rings qs (record { half = v.stroke.half; start = s; end = e })
+    → rings.items ≡ path_rings (without_repeats qs) (record { half = v.stroke.half; start = s; end = e })
     → IsDrawn earlier (a_path p) (Some (Rings v.on rings))
 path_drawn earlier p v qs rings s e a r x =
     let all = a_path p ∷ earlier in
     let layer = layer_is all v.stroke.layer v.stroke.datatype v.on a.values.layer a.values.datatype a.values.on in
     let bands = as_given (λ (l : List Point) (i j k : ℕ). rings.items
-    ≡ path_rings l (record { half = i; start = j; end = k })) earlier p v qs s e a r x in
+    ≡ path_rings (without_repeats l) (record { half = i; start = j; end = k })) earlier p v qs s e a r x in
     record {
       shapes = shape_is v.on (layer_of all) rings.items
-          (path_rings (path_points all) (record { half = half_of all; start = start_of all; end = end_of all }))
+          (path_rings (without_repeats (path_points all))
+          (record { half = half_of all; start = start_of all; end = end_of all }))
           (shifts_of earlier (a_path p)) layer bands;
       placements = refl;
     }

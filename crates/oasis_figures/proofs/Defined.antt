@@ -4,6 +4,7 @@ use Rattle.std.proofs.Common.{subst, arith}
 use Rattle.std.specs.Prelude.{is_some, if◌then◌else◌}
 use Rattle.std.specs.Option.{option_or}
 use Rattle.lvl_grid.specs.declared.point.Point.{Point}
+use Rattle.lvl_profile.specs.declared.ignore.Ignore.{Ignore}
 use Rattle.oasis_values.specs.declared.repetition.Repetition.{Repetition}
 use Rattle.oasis_values.specs.declared.repetition.Repetition.TheVariants.{Modal as Same, New}
 use Rattle.oasis_records.specs.declared.record.Record.{Record}
@@ -43,26 +44,27 @@ known d (Some Same) shifts e k = next d TheRepetition [] (e ∙ k) refl
 known d (Some (New s)) shifts e k = next d TheRepetition [] e refl
 
 -- the rules that are tested after OutOfRange
-abbrev pub BreaksNoLater : List Record → Record → Type 0
-BreaksNoLater earlier r = (rule : FigureRule) → 2 < order rule → ¬ Breaks earlier r rule
+abbrev pub BreaksNoLater : Ignore → List Record → Record → Type 0
+BreaksNoLater ignore earlier r = (rule : FigureRule) → 2 < order rule → ¬ Breaks ignore earlier r rule
 
-pub no_rule : (earlier : List Record) (r : Record) → AreDefined earlier r → ¬ HasWideLayer earlier r
-    → ¬ LeavesRange earlier r → BreaksNoLater earlier r → BreachesNone earlier r
-no_rule earlier r d n m k (Undefined v) b = none_some (sym d ∙ b)
-no_rule earlier r d n m k WideLayer b = n b
-no_rule earlier r d n m k OutOfRange b = m b
-no_rule earlier r d n m k Magnification b = k Magnification (omega arith) b
-no_rule earlier r d n m k Angle b = k Angle (omega arith) b
-no_rule earlier r d n m k Extension b = k Extension (omega arith) b
-no_rule earlier r d n m k Oblique b = k Oblique (omega arith) b
-no_rule earlier r d n m k (Path f) b = k (Path f) (omega arith) b
+pub no_rule : (ignore : Ignore) (earlier : List Record) (r : Record) → AreDefined earlier r → ¬ HasWideLayer earlier r
+    → ¬ LeavesRange earlier r → BreaksNoLater ignore earlier r → BreachesNone ignore earlier r
+no_rule ignore earlier r d n m k (Undefined v) b = none_some (sym d ∙ b)
+no_rule ignore earlier r d n m k WideLayer b = n b
+no_rule ignore earlier r d n m k OutOfRange b = m b
+no_rule ignore earlier r d n m k Magnification b = k Magnification (omega arith) b
+no_rule ignore earlier r d n m k Angle b = k Angle (omega arith) b
+no_rule ignore earlier r d n m k Extension b = k Extension (omega arith) b
+no_rule ignore earlier r d n m k Oblique b = k Oblique (omega arith) b
+no_rule ignore earlier r d n m k (Path f) b = k (Path f) (omega arith) b
 
 -- a record whose values are known breaches no rule before OutOfRange
-pub known_first : (earlier : List Record) (r : Record) → IsKnown earlier r → (other : FigureRule) → order other < 2
-    → ¬ Breaks earlier r other
-known_first earlier r k (Undefined v) lt b = none_some (sym k.defined ∙ b)
-known_first earlier r k WideLayer lt b = k.narrow b
-known_first earlier r k _ lt b = omega (arith, lt)
+pub known_first : (ignore : Ignore) (earlier : List Record) (r : Record) → IsKnown earlier r → (other : FigureRule)
+    → order other < 2
+    → ¬ Breaks ignore earlier r other
+known_first ignore earlier r k (Undefined v) lt b = none_some (sym k.defined ∙ b)
+known_first ignore earlier r k WideLayer lt b = k.narrow b
+known_first ignore earlier r k _ lt b = omega (arith, lt)
 
 -- the modal repetition is needed, and undefined
 pub unknown : (d : Variable → Bool) (rep : Option Repetition) (shifts : Option (List Point))
@@ -72,9 +74,9 @@ unknown d None shifts e k = absurd (untrue k)
 unknown d (Some Same) shifts e k = ap (λ (b : Bool). if b then None else Some TheRepetition) (e ∙ k)
 unknown d (Some (New s)) shifts e k = absurd (untrue k)
 
-pub undefined_breached : (earlier : List Record) (r : Record) (v : Variable)
-    → first_undefined (is_defined (r ∷ earlier)) (taken r) ≡ Some v → Breaches earlier r (Undefined v)
-undefined_breached earlier r v e = record { broken = e; first = λ other lt. absurd (omega (arith, lt)) }
+pub undefined_breached : (ignore : Ignore) (earlier : List Record) (r : Record) (v : Variable)
+    → first_undefined (is_defined (r ∷ earlier)) (taken r) ≡ Some v → Breaches ignore earlier r (Undefined v)
+undefined_breached ignore earlier r v e = record { broken = e; first = λ other lt. absurd (omega (arith, lt)) }
 
 -- what the repetition of a record does to the variable
 pub repeated : (m : Modal) (earlier : List Record) (r : Record) → StandsFor m earlier
@@ -91,18 +93,20 @@ position_after m earlier r s =
     sym (before ∙ mode)
 
 -- if all variables are defined, no rule before WideLayer is breached
-wide_first : (earlier : List Record) (r : Record) → AreDefined earlier r → (other : FigureRule) → order other < 1
-    → ¬ Breaks earlier r other
-wide_first earlier r d (Undefined v) lt b = none_some (sym d ∙ b)
-wide_first earlier r d _ lt b = omega (arith, lt)
+wide_first : (ignore : Ignore) (earlier : List Record) (r : Record) → AreDefined earlier r → (other : FigureRule)
+    → order other < 1
+    → ¬ Breaks ignore earlier r other
+wide_first ignore earlier r d (Undefined v) lt b = none_some (sym d ∙ b)
+wide_first ignore earlier r d _ lt b = omega (arith, lt)
 
-pub wide_breached : (earlier : List Record) (r : Record) → AreDefined earlier r → HasWideLayer earlier r
-    → Breaches earlier r WideLayer
-wide_breached earlier r d w = record { broken = w; first = wide_first earlier r d }
+pub wide_breached : (ignore : Ignore) (earlier : List Record) (r : Record) → AreDefined earlier r
+    → HasWideLayer earlier r
+    → Breaches ignore earlier r WideLayer
+wide_breached ignore earlier r d w = record { broken = w; first = wide_first ignore earlier r d }
 
-pub range_breached : (earlier : List Record) (r : Record) → IsKnown earlier r → LeavesRange earlier r
-    → Breaches earlier r OutOfRange
-range_breached earlier r k w = record { broken = w; first = known_first earlier r k }
+pub range_breached : (ignore : Ignore) (earlier : List Record) (r : Record) → IsKnown earlier r → LeavesRange earlier r
+    → Breaches ignore earlier r OutOfRange
+range_breached ignore earlier r k w = record { broken = w; first = known_first ignore earlier r k }
 
 -- the layer and the datatype that records give, if they are these
 pub narrow_at : (a b : Option ℕ) (l d : ℕ) → a ≡ Some l → b ≡ Some d → AreNarrow l d → AreNarrow (number a) (number b)

@@ -1,6 +1,7 @@
 pub mod Defined
 pub mod Figures
 pub mod Taking
+pub mod Growing
 pub mod Rectangles
 pub mod Moved
 pub mod Polygons

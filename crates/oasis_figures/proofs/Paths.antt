@@ -4,6 +4,7 @@ use Rattle.std.specs.Prelude.{is_some, if◌then◌else◌, option_map}
 use Rattle.std.specs.Option.{option_or, option_and_then}
 use Rattle.lvl_grid.specs.Turn.{FitsPoint}
 use Rattle.lvl_grid.specs.declared.point.Point.{Point}
+use Rattle.lvl_profile.specs.declared.ignore.Ignore.{Ignore}
 use Rattle.oasis_records.specs.declared.path.Ends.{Ends}
 use Rattle.oasis_records.specs.declared.path.Path.{Path}
 use Rattle.oasis_records.specs.declared.record.Record.{Record}
@@ -102,13 +103,14 @@ stroke_known m earlier p t vs s a q =
     next f TheLayer (Datatype ∷ PathHalfWidth ∷ PathStartExtension ∷ PathEndExtension ∷ vs)
     (ap is_some (layer_at m earlier p t s a)) datatype
 
-pub list_unknown : (m : Modal) (earlier : List Record) (p : Path) (t : Stroke) → StandsFor m earlier → IsStroke m p t
-    → has_list m p ≡ false → Breaches earlier (a_path p) (Undefined PathPointList)
-list_unknown m earlier p t s a k =
+pub list_unknown : (ignore : Ignore) (m : Modal) (earlier : List Record) (p : Path) (t : Stroke) → StandsFor m earlier
+    → IsStroke m p t
+    → has_list m p ≡ false → Breaches ignore earlier (a_path p) (Undefined PathPointList)
+list_unknown ignore m earlier p t s a k =
     let f = defined earlier p in
     let vs = of_repetition p.position.repetition in
     let here = ap (λ (o : Option (List Point)). is_some (option_or p.points o)) (sym s.path) ∙ k in
-    undefined_breached earlier (a_path p) PathPointList
+    undefined_breached ignore earlier (a_path p) PathPointList
     (stroke_known m earlier p t (PathPointList ∷ vs) s a
     (ap (λ (b : Bool). if b then first_undefined f vs else Some PathPointList) here))
 
@@ -122,13 +124,14 @@ list_known m earlier p t s a k q =
     let here = ap (λ (o : Option (List Point)). is_some (option_or p.points o)) (sym s.path) ∙ k in
     stroke_known m earlier p t (PathPointList ∷ vs) s a (next (defined earlier p) PathPointList vs here q)
 
-pub repetition_unknown : (m : Modal) (earlier : List Record) (p : Path) (t : Stroke) → StandsFor m earlier
+pub repetition_unknown : (ignore : Ignore) (m : Modal) (earlier : List Record) (p : Path) (t : Stroke)
+    → StandsFor m earlier
     → IsStroke m p t
     → has_list m p ≡ true → is_known p.position.repetition m.repetition ≡ false
-    → Breaches earlier (a_path p) (Undefined TheRepetition)
-repetition_unknown m earlier p t s a k n =
+    → Breaches ignore earlier (a_path p) (Undefined TheRepetition)
+repetition_unknown ignore m earlier p t s a k n =
     let none = unknown (defined earlier p) p.position.repetition m.repetition (repeated m earlier (a_path p) s) n in
-    undefined_breached earlier (a_path p) TheRepetition (list_known m earlier p t s a k none)
+    undefined_breached ignore earlier (a_path p) TheRepetition (list_known m earlier p t s a k none)
 
 pub all_defined : (m : Modal) (earlier : List Record) (p : Path) (t : Stroke) → StandsFor m earlier → IsStroke m p t
     → has_list m p ≡ true → is_known p.position.repetition m.repetition ≡ true → AreDefined earlier (a_path p)
@@ -136,12 +139,13 @@ all_defined m earlier p t s a k n =
     list_known m earlier p t s a k
     (known (defined earlier p) p.position.repetition m.repetition (repeated m earlier (a_path p) s) n)
 
-pub layer_wide : (m : Modal) (earlier : List Record) (p : Path) (t : Stroke) → StandsFor m earlier → IsStroke m p t
-    → AreDefined earlier (a_path p) → ¬ AreNarrow t.layer t.datatype → Breaches earlier (a_path p) WideLayer
-layer_wide m earlier p t s a d n =
+pub layer_wide : (ignore : Ignore) (m : Modal) (earlier : List Record) (p : Path) (t : Stroke) → StandsFor m earlier
+    → IsStroke m p t
+    → AreDefined earlier (a_path p) → ¬ AreNarrow t.layer t.datatype → Breaches ignore earlier (a_path p) WideLayer
+layer_wide ignore m earlier p t s a d n =
     let layer = modal layer_set (all earlier p) in
     let datatype = modal datatype_set (all earlier p) in
-    wide_breached earlier (a_path p) d
+    wide_breached ignore earlier (a_path p) d
     (λ w. n (narrow_from layer datatype t.layer t.datatype (layer_at m earlier p t s a) (datatype_at m earlier p t s a)
     w))
 
@@ -157,10 +161,12 @@ all_known m earlier p t s a d n =
       narrow = λ out. out narrow;
     }
 
-pub position_out : (m : Modal) (earlier : List Record) (p : Path) → StandsFor m earlier → IsKnown earlier (a_path p)
-    → ¬ FitsPoint (moved m.geometry p.position.x p.position.y m.is_relative) → Breaches earlier (a_path p) OutOfRange
-position_out m earlier p s k n =
-    range_breached earlier (a_path p) k (λ h. n (subst FitsPoint (position_after m earlier (a_path p) s) h.0))
+pub position_out : (ignore : Ignore) (m : Modal) (earlier : List Record) (p : Path) → StandsFor m earlier
+    → IsKnown earlier (a_path p)
+    → ¬ FitsPoint (moved m.geometry p.position.x p.position.y m.is_relative)
+    → Breaches ignore earlier (a_path p) OutOfRange
+position_out ignore m earlier p s k n =
+    range_breached ignore earlier (a_path p) k (λ h. n (subst FitsPoint (position_after m earlier (a_path p) s) h.0))
 
 pub resolved : (m : Modal) (earlier : List Record) (p : Path) (v : Resolved) → StandsFor m earlier
     → IsStroke m p v.stroke

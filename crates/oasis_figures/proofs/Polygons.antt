@@ -10,6 +10,7 @@ use Rattle.lvl_grid.specs.declared.point.Point.{Point}
 use Rattle.lvl_refusal.specs.Refused.{Says}
 use Rattle.lvl_refusal.specs.declared.Cause.{Cause}
 use Rattle.lvl_refusal.specs.declared.Cause.TheVariants.{Breach, OutOfMemory}
+use Rattle.lvl_profile.specs.declared.ignore.Ignore.{Ignore}
 use Rattle.oasis_records.specs.declared.polygon.Polygon.{Polygon}
 use Rattle.oasis_records.specs.declared.record.Record.{Record}
 use Rattle.oasis_figures.specs.Figures.{polygon_ring, layer_of, shifts_of, IsDrawn}
@@ -51,56 +52,60 @@ read_after m p v list points vertices known f g w = λ earlier s.
     }
 
 -- if the vertices fit, no rule before Oblique is breached
-before_oblique : (earlier : List Record) (p : Polygon) (v : Resolved) (qs : List Point) → IsRead earlier p v qs
-    → All FitsPoint qs
-    → (other : FigureRule) → order other < 6 → ¬ Breaks earlier (a_polygon p) other
-before_oblique earlier p v qs a h (Undefined x) lt b =
-    known_first earlier (a_polygon p) a.values.known (Undefined x) (omega arith) b
-before_oblique earlier p v qs a h WideLayer lt b =
-    known_first earlier (a_polygon p) a.values.known WideLayer (omega arith) b
-before_oblique earlier p v qs a h OutOfRange lt b =
-    b (subst FitsPoint (sym a.values.at) a.values.fits, subst (λ (ps : List Point). All FitsPoint ps) a.points h)
-before_oblique earlier p v qs a h Magnification lt b = b
-before_oblique earlier p v qs a h Angle lt b = b
-before_oblique earlier p v qs a h Extension lt b = b
-before_oblique earlier p v qs a h Oblique lt b = omega (arith, lt)
-before_oblique earlier p v qs a h (Path f) lt b = b
-
-ring_breached : (earlier : List Record) (p : Polygon) (v : Resolved) (qs : List Point) (rule : FigureRule)
+before_oblique : (ignore : Ignore) (earlier : List Record) (p : Polygon) (v : Resolved) (qs : List Point)
     → IsRead earlier p v qs
-    → RingBreaks qs rule → Breaches earlier (a_polygon p) rule
-ring_breached earlier p v qs OutOfRange a b = record {
-  broken = λ h. b (subst (λ (ps : List Point). All FitsPoint ps) (sym a.points) h.1);
-  first = known_first earlier (a_polygon p) a.values.known;
-}
-ring_breached earlier p v qs Oblique a b = record {
-  broken = λ h. b.1 (subst IsRing (sym a.points) h);
-  first = before_oblique earlier p v qs a b.0;
-}
-ring_breached earlier p v qs _ a b = absurd b
-
-pub ring_refused : (m : Modal) (p : Polygon) (v : Resolved) (qs : List Point) (x : Cause FigureRule)
-    → IsReadAfter m p v qs
-    → Says x (RingBreaks qs) → Says x (BreachesAfter m (a_polygon p))
-ring_refused m p v qs (Breach rule) read b = λ earlier s. ring_breached earlier p v qs rule (read earlier s) b
-ring_refused m p v qs OutOfMemory read b = tt
-
-no_later : (earlier : List Record) (p : Polygon) → IsRing (polygon_ring (a_polygon p ∷ earlier))
-    → BreaksNoLater earlier (a_polygon p)
-no_later earlier p h (Undefined v) lt b = omega (arith, lt)
-no_later earlier p h WideLayer lt b = omega (arith, lt)
-no_later earlier p h OutOfRange lt b = omega (arith, lt)
-no_later earlier p h Oblique lt b = b h
-no_later earlier p h _ lt b = b
-
-pub polygon_none : (earlier : List Record) (p : Polygon) (v : Resolved) (qs : List Point) → IsRead earlier p v qs
     → All FitsPoint qs
-    → IsRing qs → BreachesNone earlier (a_polygon p)
-polygon_none earlier p v qs a h ring =
+    → (other : FigureRule) → order other < 6 → ¬ Breaks ignore earlier (a_polygon p) other
+before_oblique ignore earlier p v qs a h (Undefined x) lt b =
+    known_first ignore earlier (a_polygon p) a.values.known (Undefined x) (omega arith) b
+before_oblique ignore earlier p v qs a h WideLayer lt b =
+    known_first ignore earlier (a_polygon p) a.values.known WideLayer (omega arith) b
+before_oblique ignore earlier p v qs a h OutOfRange lt b =
+    b (subst FitsPoint (sym a.values.at) a.values.fits, subst (λ (ps : List Point). All FitsPoint ps) a.points h)
+before_oblique ignore earlier p v qs a h Magnification lt b = b
+before_oblique ignore earlier p v qs a h Angle lt b = b
+before_oblique ignore earlier p v qs a h Extension lt b = b
+before_oblique ignore earlier p v qs a h Oblique lt b = omega (arith, lt)
+before_oblique ignore earlier p v qs a h (Path f) lt b = b
+
+ring_breached : (ignore : Ignore) (earlier : List Record) (p : Polygon) (v : Resolved) (qs : List Point)
+    (rule : FigureRule)
+    → IsRead earlier p v qs
+    → RingBreaks qs rule → Breaches ignore earlier (a_polygon p) rule
+ring_breached ignore earlier p v qs OutOfRange a b = record {
+  broken = λ h. b (subst (λ (ps : List Point). All FitsPoint ps) (sym a.points) h.1);
+  first = known_first ignore earlier (a_polygon p) a.values.known;
+}
+ring_breached ignore earlier p v qs Oblique a b = record {
+  broken = λ h. b.1 (subst IsRing (sym a.points) h);
+  first = before_oblique ignore earlier p v qs a b.0;
+}
+ring_breached ignore earlier p v qs _ a b = absurd b
+
+pub ring_refused : (ignore : Ignore) (m : Modal) (p : Polygon) (v : Resolved) (qs : List Point) (x : Cause FigureRule)
+    → IsReadAfter m p v qs
+    → Says x (RingBreaks qs) → Says x (BreachesAfter ignore m (a_polygon p))
+ring_refused ignore m p v qs (Breach rule) read b = λ earlier s. ring_breached ignore earlier p v qs rule
+    (read earlier s) b
+ring_refused ignore m p v qs OutOfMemory read b = tt
+
+no_later : (ignore : Ignore) (earlier : List Record) (p : Polygon) → IsRing (polygon_ring (a_polygon p ∷ earlier))
+    → BreaksNoLater ignore earlier (a_polygon p)
+no_later ignore earlier p h (Undefined v) lt b = omega (arith, lt)
+no_later ignore earlier p h WideLayer lt b = omega (arith, lt)
+no_later ignore earlier p h OutOfRange lt b = omega (arith, lt)
+no_later ignore earlier p h Oblique lt b = b h
+no_later ignore earlier p h _ lt b = b
+
+pub polygon_none : (ignore : Ignore) (earlier : List Record) (p : Polygon) (v : Resolved) (qs : List Point)
+    → IsRead earlier p v qs
+    → All FitsPoint qs
+    → IsRing qs → BreachesNone ignore earlier (a_polygon p)
+polygon_none ignore earlier p v qs a h ring =
     let fits = subst (λ (ps : List Point). All FitsPoint ps) a.points h in
-    no_rule earlier (a_polygon p) a.values.known.defined a.values.known.narrow
+    no_rule ignore earlier (a_polygon p) a.values.known.defined a.values.known.narrow
     (λ out. out (subst FitsPoint (sym a.values.at) a.values.fits, fits))
-    (no_later earlier p (subst IsRing a.points ring))
+    (no_later ignore earlier p (subst IsRing a.points ring))
 
 pub polygon_drawn : (earlier : List Record) (p : Polygon) (v : Resolved) (qs ring : List Point) → IsRead earlier p v qs
     → ring ≡ qs

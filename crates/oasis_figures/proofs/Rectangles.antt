@@ -5,6 +5,7 @@ use Rattle.std.specs.Option.{option_or}
 use Rattle.lvl_grid.specs.Turn.{FitsPoint, shifted}
 use Rattle.lvl_grid.specs.Winding.{rectangle_between}
 use Rattle.lvl_grid.specs.declared.point.Point.{Point}
+use Rattle.lvl_profile.specs.declared.ignore.Ignore.{Ignore}
 use Rattle.oasis_values.specs.Deltas.{to}
 use Rattle.oasis_records.specs.declared.record.Record.{Record}
 use Rattle.oasis_records.specs.declared.rectangle.Rectangle.{Rectangle}
@@ -134,11 +135,11 @@ ring_of m earlier r l d w h low s v e =
     (position_after m earlier (a_rectangle r) s ∙ sym e) (width_at m earlier r w s v.width)
     (height_after m earlier r w (Some h) s v.width v.height)
 
-no_later : (earlier : List Record) (r : Rectangle) → BreaksNoLater earlier (a_rectangle r)
-no_later earlier r (Undefined v) lt b = omega (arith, lt)
-no_later earlier r WideLayer lt b = omega (arith, lt)
-no_later earlier r OutOfRange lt b = omega (arith, lt)
-no_later earlier r _ lt b = b
+no_later : (ignore : Ignore) (earlier : List Record) (r : Rectangle) → BreaksNoLater ignore earlier (a_rectangle r)
+no_later ignore earlier r (Undefined v) lt b = omega (arith, lt)
+no_later ignore earlier r WideLayer lt b = omega (arith, lt)
+no_later ignore earlier r OutOfRange lt b = omega (arith, lt)
+no_later ignore earlier r _ lt b = b
 
 pub resolved : (m : Modal) (earlier : List Record) (r : Rectangle) (v : Resolved) → StandsFor m earlier
     → AreValues m r v.layer v.datatype v.width v.height
@@ -154,10 +155,11 @@ resolved m earlier r v s a k n on low_fit low high_fit high = record {
   on = on;
   low = position_after m earlier (a_rectangle r) s ∙ sym low;
   high = high;
-  none = no_rule earlier (a_rectangle r) (all_defined m earlier r v.layer v.datatype v.width v.height s a k)
+  none = λ ignore. no_rule ignore earlier (a_rectangle r)
+      (all_defined m earlier r v.layer v.datatype v.width v.height s a k)
       (not_wide m earlier r v.layer v.datatype v.width v.height s a n)
       (λ out. out (subst (λ (ps : List Point). All FitsPoint ps)
       (sym (ring_of m earlier r v.layer v.datatype v.width v.height v.low s a low))
       (all_fit v.low (corner v.low v.width v.height) low_fit (subst FitsPoint high high_fit))))
-      (no_later earlier r);
+      (no_later ignore earlier r);
 }

@@ -3,6 +3,7 @@ use Rattle.std.proofs.Common.{◌≡◌, List, Option, Result, Ok, Err, refl, sy
 use Rattle.std.specs.Result.{IsErr, IsErrAnd}
 use Rattle.lvl_refusal.specs.Refused.{Says}
 use Rattle.lvl_refusal.specs.declared.Cause.{Cause}
+use Rattle.lvl_profile.specs.declared.ignore.Ignore.{Ignore}
 use Rattle.oasis_records.specs.declared.record.Record.{Record}
 use Rattle.oasis_figures.specs.Keeping.{StandsFor}
 use Rattle.oasis_figures.specs.Rules.{Breaches}
@@ -12,18 +13,18 @@ use Rattle.oasis_figures.specs.declared.rule.FigureRule.{FigureRule}
 use Rattle.oasis_figures.specs.inside.Taking.{Takes}
 
 -- the rule is breached after all records with which the variables agree
-abbrev pub BreachesAfter : Modal → Record → FigureRule → Type 0
-BreachesAfter m r rule = (earlier : List Record) → StandsFor m earlier → Breaches earlier r rule
+abbrev pub BreachesAfter : Ignore → Modal → Record → FigureRule → Type 0
+BreachesAfter ignore m r rule = (earlier : List Record) → StandsFor m earlier → Breaches ignore earlier r rule
 
-pub takes_refused : (m : Modal) (r : Record) (result : Result (Option Drawn) (Cause FigureRule))
+pub takes_refused : (ignore : Ignore) (m : Modal) (r : Record) (result : Result (Option Drawn) (Cause FigureRule))
     (e : Cause FigureRule)
-    → IsErr result × IsErrAnd result (λ x. x ≡ e) → Says e (BreachesAfter m r) → Takes m r result m
-takes_refused m r (Ok d) e h s = absurd h.1
-takes_refused m r (Err x) e h s = record {
+    → IsErr result × IsErrAnd result (λ x. x ≡ e) → Says e (BreachesAfter ignore m r) → Takes ignore m r result m
+takes_refused ignore m r (Ok d) e h s = absurd h.1
+takes_refused ignore m r (Err x) e h s = record {
   drawn = tt;
   places = tt;
   kept = tt;
   none = tt;
-  refused = subst (λ (y : Cause FigureRule). Says y (BreachesAfter m r)) (sym h.1) s;
+  refused = subst (λ (y : Cause FigureRule). Says y (BreachesAfter ignore m r)) (sym h.1) s;
   same = refl;
 }

@@ -4,8 +4,10 @@ use Rattle.std.specs.Prelude.{◌≡◌, ℕ, ◌<◌, ◌^◌, ◌||◌, ℤ, n
 use Rattle.std.specs.Prelude.{◌∷◌, Option, Some, None, All}
 use Rattle.lvl_grid.specs.Turn.{FitsPoint, shifted}
 use Rattle.lvl_grid.specs.Winding.{IsRing}
+use Rattle.lvl_path.specs.Repeats.{asked}
 use Rattle.lvl_path.specs.Runs.{IsLowestFault}
 use Rattle.lvl_path.specs.declared.fault.PathFault.{PathFault}
+use Rattle.lvl_profile.specs.declared.ignore.Ignore.{Ignore}
 use Rattle.oasis_values.specs.declared.repetition.Repetition.{Repetition}
 use Rattle.oasis_records.specs.declared.record.Record.{Record}
 use Rattle.oasis_records.specs.declared.record.Record.TheVariants.{Placement, Rectangle, Polygon, Path, Text}
@@ -114,27 +116,28 @@ abbrev pub HasObliqueEdge : List Record → Record → Type 0
 HasObliqueEdge earlier (Polygon p) = ¬ IsRing (polygon_ring (Polygon p ∷ earlier))
 HasObliqueEdge earlier r = ⊥
 
--- the latest path breaches this rule of paths, and none with a lower number (own rule)
-abbrev pub IsPathFault : List Record → PathFault → Type 0
-IsPathFault records f =
-    IsLowestFault (path_points records)
+-- the latest path breaches this rule of paths, and none with a lower number, without the points that are ignored (own
+-- rule)
+abbrev pub IsPathFault : Ignore → List Record → PathFault → Type 0
+IsPathFault ignore records f =
+    IsLowestFault (asked ignore.points (path_points records))
     (record { half = half_of records; start = start_of records; end = end_of records }) f
 
 -- the record is a path that breaches this rule, and none with a lower number
-abbrev pub HasPathFault : List Record → Record → PathFault → Type 0
-HasPathFault earlier (Path p) f = IsPathFault (Path p ∷ earlier) f
-HasPathFault earlier r f = ⊥
+abbrev pub HasPathFault : Ignore → List Record → Record → PathFault → Type 0
+HasPathFault ignore earlier (Path p) f = IsPathFault ignore (Path p ∷ earlier) f
+HasPathFault ignore earlier r f = ⊥
 
 -- the record breaks the rule, whichever others it breaks
-abbrev pub Breaks : List Record → Record → FigureRule → Type 0
-Breaks earlier r (Undefined v) = first_undefined (is_defined (r ∷ earlier)) (taken r) ≡ Some v
-Breaks earlier r WideLayer = HasWideLayer earlier r
-Breaks earlier r OutOfRange = LeavesRange earlier r
-Breaks earlier r Magnification = IsMagnified r
-Breaks earlier r Angle = IsTurnedOtherwise r
-Breaks earlier r Extension = HasNegativeEnd earlier r
-Breaks earlier r Oblique = HasObliqueEdge earlier r
-Breaks earlier r (PathRule f) = HasPathFault earlier r f
+abbrev pub Breaks : Ignore → List Record → Record → FigureRule → Type 0
+Breaks ignore earlier r (Undefined v) = first_undefined (is_defined (r ∷ earlier)) (taken r) ≡ Some v
+Breaks ignore earlier r WideLayer = HasWideLayer earlier r
+Breaks ignore earlier r OutOfRange = LeavesRange earlier r
+Breaks ignore earlier r Magnification = IsMagnified r
+Breaks ignore earlier r Angle = IsTurnedOtherwise r
+Breaks ignore earlier r Extension = HasNegativeEnd earlier r
+Breaks ignore earlier r Oblique = HasObliqueEdge earlier r
+Breaks ignore earlier r (PathRule f) = HasPathFault ignore earlier r f
 
 -- the order in which the rules are tested
 abbrev pub order : FigureRule → ℕ
@@ -148,10 +151,10 @@ order Oblique = 6
 order (PathRule f) = 7
 
 -- the rule is the first, in the order of tests, that the record breaks
-pub record Breaches (earlier : List Record) (r : Record) (rule : FigureRule) : Type 0 where
-  pub broken : Breaks earlier r rule
-  pub first : (other : FigureRule) → order other < order rule → ¬ Breaks earlier r other
+pub record Breaches (ignore : Ignore) (earlier : List Record) (r : Record) (rule : FigureRule) : Type 0 where
+  pub broken : Breaks ignore earlier r rule
+  pub first : (other : FigureRule) → order other < order rule → ¬ Breaks ignore earlier r other
 
 -- the record breaks none of the rules
-abbrev pub BreachesNone : List Record → Record → Type 0
-BreachesNone earlier r = (rule : FigureRule) → ¬ Breaks earlier r rule
+abbrev pub BreachesNone : Ignore → List Record → Record → Type 0
+BreachesNone ignore earlier r = (rule : FigureRule) → ¬ Breaks ignore earlier r rule

@@ -7,10 +7,11 @@
 //! `record` is a RECTANGLE with all its fields:
 //!
 //! ```
+//! use lvl_profile::Ignore;
 //! use oasis_figures::{Drawn, Modal};
 //!
 //! let mut modal = Modal::new();
-//! let drawn = modal.take(alloc, record)?;
+//! let drawn = modal.take(alloc, Ignore::NOTHING, record)?;
 //! assert!(rt; matches!(drawn, Some(Drawn::Ring(_, _))));
 //! ```
 #![tactic(auto)]

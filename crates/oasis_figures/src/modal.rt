@@ -2,6 +2,7 @@
 ghost use Rattle.std.specs.Prelude.{◌≡◌, ◌∷◌, [], List, IfOk, IfErr, OnOk, OnErr};
 ghost use Rattle.std.specs.Option.{option_copied};
 ghost use Rattle.lvl_refusal.specs.Refused.{Says};
+ghost use Rattle.lvl_profile.specs.declared.ignore.Ignore.{Ignore as Ignored};
 ghost use Rattle.oasis_records.specs.declared.record.Record.{Record as ARecord};
 ghost use Rattle.oasis_figures.specs.Figures.{shifts_of, IsDrawn, PlacesFit};
 ghost use Rattle.oasis_figures.specs.Keeping.{StandsFor};
@@ -13,6 +14,7 @@ use crate::drawn::Drawn;
 use crate::rule::FigureRule;
 use lvl_grid::Point;
 use lvl_names::Offsets;
+use lvl_profile::Ignore;
 use lvl_refusal::Cause;
 use oasis_records::{CellRef, Record};
 use std::alloc::Global;
@@ -72,8 +74,14 @@ impl Modal {
     /// record).
     ///
     /// If the record breaches a [`FigureRule`], the first of them in their order is returned. After that,
-    /// and after a failed allocation, the variables are as they were.
-    pub fn take(&mut self, alloc: Global, next: Record) -> Result<Option<Drawn>, Cause<FigureRule>>
+    /// and after a failed allocation, the variables are as they were. If points of paths that equal the one
+    /// before are ignored, the rules of paths are asked without them.
+    pub fn take(
+        &mut self,
+        alloc: Global,
+        ignore: Ignore,
+        next: Record,
+    ) -> Result<Option<Drawn>, Cause<FigureRule>>
         ensures drawn { IfOk result (λ drawn. (earlier : List ARecord) → StandsFor self.old earlier
             → IsDrawn earlier next drawn) }
         ensures places { IfOk result (λ drawn. (earlier : List ARecord) → StandsFor self.old earlier
@@ -81,15 +89,15 @@ impl Modal {
         ensures kept { OnOk result ((earlier : List ARecord) → StandsFor self.old earlier
             → StandsFor self.new (next ∷ earlier)) }
         ensures none { OnOk result ((earlier : List ARecord) → StandsFor self.old earlier
-            → BreachesNone earlier next) }
+            → BreachesNone ignore earlier next) }
         ensures refused { IfErr result (λ e. Says e (λ rule. (earlier : List ARecord) → StandsFor self.old earlier
-            → Breaches earlier next rule)) }
+            → Breaches ignore earlier next rule)) }
         ensures same { OnErr result (self.new ≡ self.old) }
     {
         match next {
             Record::Rectangle(rectangle) => self.take_rectangle(alloc, rectangle),
             Record::Polygon(polygon) => self.take_polygon(alloc, polygon),
-            Record::Path(path) => self.take_path(alloc, path),
+            Record::Path(path) => self.take_path(alloc, ignore, path),
             Record::Placement(placement) => self.take_placement(placement),
             Record::Text(repetition) => self.take_text(repetition),
             Record::XyAbsolute => self.take_mode(false),
@@ -121,7 +129,7 @@ impl Modal {
     /// Takes an XYRELATIVE or an XYABSOLUTE: from now on a coordinate is added to the one before it, or
     /// replaces it.
     fn take_mode(&mut self, is_relative: bool) -> Result<Option<Drawn>, Cause<FigureRule>>
-        ensures { Takes self.old (mode is_relative) result self.new }
+        ensures { (ignore : Ignored) → Takes ignore self.old (mode is_relative) result self.new }
     {
         self.is_relative = is_relative;
         self.is_repeated = false;
@@ -131,7 +139,7 @@ impl Modal {
     /// Takes a record that sets no variable.
     fn take_other(&mut self, next: Record) -> Result<Option<Drawn>, Cause<FigureRule>>
         requires { IsOther next }
-        ensures { Takes self.old next result self.new }
+        ensures { (ignore : Ignored) → Takes ignore self.old next result self.new }
     {
         drop(next);
         self.is_repeated = false;

@@ -1,7 +1,9 @@
 //! PATH: the bands of its runs.
 ghost use Rattle.std.specs.Prelude.{◌≡◌, List, IfOk, IfErr, OnOk};
+ghost use Rattle.lvl_path.specs.Repeats.{asked, without_repeats};
 ghost use Rattle.lvl_path.specs.Runs.{path_rings, IsPath};
 ghost use Rattle.lvl_refusal.specs.Refused.{Says};
+ghost use Rattle.lvl_profile.specs.declared.ignore.Ignore.{Ignore as Ignored};
 ghost use Rattle.oasis_records.specs.declared.record.Record.{Record as ARecord};
 ghost use Rattle.oasis_figures.specs.Keeping.{StandsFor};
 ghost use Rattle.oasis_figures.specs.Rules.{Breaches};
@@ -19,7 +21,8 @@ use crate::variable::Variable;
 use crate::vertices::{all_shifted, are_known, known, listed};
 use lvl_grid::{Point, Ring};
 use lvl_names::Layer;
-use lvl_path::bands;
+use lvl_path::bands_by;
+use lvl_profile::Ignore;
 use lvl_refusal::Cause;
 use oasis_records::Path;
 use std::alloc::Global;
@@ -42,20 +45,24 @@ pub(crate) struct Resolved {
     at: Point,
 }
 
-/// The rings of the bands of a path, unless it breaches a rule of paths.
+/// The rings of the bands of a path, unless it breaches a rule of paths. `ignored` says whether points that equal
+/// the one before are.
 fn bands_of(
     alloc: Global,
-    points: &[Point],
+    points: Vec<Point>,
     half: u64,
     start: u64,
     end: u64,
+    ignored: bool,
 ) -> Result<Vec<Ring>, Cause<FigureRule>>
     ensures value { IfOk result
-        (λ rings. rings.items ≡ path_rings points.now (record { half = half; start = start; end = end })) }
-    ensures path { OnOk result (IsPath points.now (record { half = half; start = start; end = end })) }
-    ensures refused { IfErr result (λ e. Says e (BandsBreak points.now half start end)) }
+        (λ rings. rings.items ≡ path_rings (without_repeats points.items)
+        (record { half = half; start = start; end = end })) }
+    ensures path { OnOk result (IsPath (asked ignored points.items)
+        (record { half = half; start = start; end = end })) }
+    ensures refused { IfErr result (λ e. Says e (BandsBreak ignored points.items half start end)) }
 {
-    match bands(alloc, points, half, start, end) {
+    match bands_by(alloc, points, half, start, end, ignored) {
         Ok(rings) => Ok(rings),
         Err(Cause::Breach(fault)) => Err(Cause::Breach(FigureRule::Path(fault))),
         Err(Cause::OutOfMemory) => Err(Cause::OutOfMemory),
@@ -66,8 +73,8 @@ impl Modal {
     /// The values that are tested before the points, if all of them are known.
     fn stroke_of(&self, path: &Path) -> Result<Stroke, FigureRule>
         ensures ok { IfOk result (IsStroke self.now path.now) }
-        ensures err { IfErr result (λ rule. (earlier : List ARecord) → StandsFor self.now earlier
-            → Breaches earlier (a_path path.now) rule) }
+        ensures err { IfErr result (λ rule. (ignore : Ignored) (earlier : List ARecord) → StandsFor self.now earlier
+            → Breaches ignore earlier (a_path path.now) rule) }
     {
         let Some(layer) = path.on.layer.or(self.layer) else {
             return Err(FigureRule::Undefined(Variable::Layer));
@@ -98,8 +105,8 @@ impl Modal {
     fn resolve_path(&self, path: &Path) -> Result<Resolved, FigureRule>
         ensures ok { IfOk result (λ v. (earlier : List ARecord) → StandsFor self.now earlier
             → IsResolved earlier path.now v) }
-        ensures err { IfErr result (λ rule. (earlier : List ARecord) → StandsFor self.now earlier
-            → Breaches earlier (a_path path.now) rule) }
+        ensures err { IfErr result (λ rule. (ignore : Ignored) (earlier : List ARecord) → StandsFor self.now earlier
+            → Breaches ignore earlier (a_path path.now) rule) }
     {
         let stroke = self.stroke_of(path)?;
         if !are_known(&path.points, &self.path) {
@@ -123,9 +130,10 @@ impl Modal {
     pub(crate) fn take_path(
         &mut self,
         alloc: Global,
+        ignore: Ignore,
         path: Path,
     ) -> Result<Option<Drawn>, Cause<FigureRule>>
-        ensures { Takes self.old (a_path path) result self.new }
+        ensures { Takes ignore self.old (a_path path) result self.new }
     {
         let Resolved { stroke, on, at } = self.resolve_path(&path)?;
         let points = listed(path.points);
@@ -133,7 +141,7 @@ impl Modal {
         let Some((start, end)) = reaches(stroke.start, stroke.end) else {
             return Err(Cause::Breach(FigureRule::Extension));
         };
-        let rings = bands_of(alloc, &vertices, stroke.half, start, end)?;
+        let rings = bands_of(alloc, vertices, stroke.half, start, end, ignore.points)?;
         let repetition = path.position.repetition;
         self.geometry = at;
         self.layer = Some(stroke.layer);

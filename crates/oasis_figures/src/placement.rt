@@ -1,5 +1,6 @@
 //! PLACEMENT: a cell, turned by right angles.
 ghost use Rattle.std.specs.Prelude.{◌≡◌, List, IfOk, IfErr};
+ghost use Rattle.lvl_profile.specs.declared.ignore.Ignore.{Ignore as Ignored};
 ghost use Rattle.oasis_records.specs.declared.record.Record.{Record as ARecord};
 ghost use Rattle.oasis_figures.specs.Figures.{is_number, turn_by, turn_of, is_magnified};
 ghost use Rattle.oasis_figures.specs.Keeping.{StandsFor};
@@ -81,8 +82,8 @@ impl Modal {
     fn resolve_placement(&self, placement: &Placement) -> Result<Map, FigureRule>
         ensures ok { IfOk result (λ by. (earlier : List ARecord) → StandsFor self.now earlier
             → IsResolved earlier placement.now by) }
-        ensures err { IfErr result (λ rule. (earlier : List ARecord) → StandsFor self.now earlier
-            → Breaches earlier (a_placement placement.now) rule) }
+        ensures err { IfErr result (λ rule. (ignore : Ignored) (earlier : List ARecord) → StandsFor self.now earlier
+            → Breaches ignore earlier (a_placement placement.now) rule) }
     {
         if placement.cell.is_none() && self.cell.is_none() {
             return Err(FigureRule::Undefined(Variable::PlacementCell));
@@ -115,7 +116,7 @@ impl Modal {
         &mut self,
         placement: Placement,
     ) -> Result<Option<Drawn>, Cause<FigureRule>>
-        ensures { Takes self.old (a_placement placement) result self.new }
+        ensures { (ignore : Ignored) → Takes ignore self.old (a_placement placement) result self.new }
     {
         let by = self.resolve_placement(&placement)?;
         let repetition = placement.position.repetition;

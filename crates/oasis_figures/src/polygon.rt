@@ -3,6 +3,7 @@ ghost use Rattle.std.specs.Prelude.{◌≡◌, List, map, All, IfOk, IfErr, OnOk
 ghost use Rattle.lvl_grid.specs.Turn.{FitsPoint, shifted};
 ghost use Rattle.lvl_grid.specs.Winding.{IsRing};
 ghost use Rattle.lvl_refusal.specs.Refused.{Says};
+ghost use Rattle.lvl_profile.specs.declared.ignore.Ignore.{Ignore as Ignored};
 ghost use Rattle.oasis_records.specs.declared.record.Record.{Record as ARecord};
 ghost use Rattle.oasis_figures.specs.Keeping.{StandsFor};
 ghost use Rattle.oasis_figures.specs.Rules.{Breaches};
@@ -51,8 +52,8 @@ impl Modal {
     fn resolve_polygon(&self, polygon: &Polygon) -> Result<Resolved, FigureRule>
         ensures ok { IfOk result (λ v. (earlier : List ARecord) → StandsFor self.now earlier
             → IsResolved earlier polygon.now v) }
-        ensures err { IfErr result (λ rule. (earlier : List ARecord) → StandsFor self.now earlier
-            → Breaches earlier (a_polygon polygon.now) rule) }
+        ensures err { IfErr result (λ rule. (ignore : Ignored) (earlier : List ARecord) → StandsFor self.now earlier
+            → Breaches ignore earlier (a_polygon polygon.now) rule) }
     {
         let Some(layer) = polygon.on.layer.or(self.layer) else {
             return Err(FigureRule::Undefined(Variable::Layer));
@@ -88,7 +89,7 @@ impl Modal {
         alloc: Global,
         polygon: Polygon,
     ) -> Result<Option<Drawn>, Cause<FigureRule>>
-        ensures { Takes self.old (a_polygon polygon) result self.new }
+        ensures { (ignore : Ignored) → Takes ignore self.old (a_polygon polygon) result self.new }
     {
         let values = self.resolve_polygon(&polygon)?;
         let points = listed(polygon.points);

@@ -1,5 +1,6 @@
 //! RECTANGLE: the ring of its corners.
 ghost use Rattle.std.specs.Prelude.{◌≡◌, Some, List, IfOk, IfErr, if◌then◌else◌};
+ghost use Rattle.lvl_profile.specs.declared.ignore.Ignore.{Ignore as Ignored};
 ghost use Rattle.oasis_records.specs.declared.record.Record.{Record as ARecord};
 ghost use Rattle.oasis_figures.specs.Keeping.{StandsFor};
 ghost use Rattle.oasis_figures.specs.Rules.{Breaches};
@@ -46,8 +47,8 @@ impl Modal {
     fn resolve_rectangle(&self, rectangle: &Rectangle) -> Result<Resolved, FigureRule>
         ensures ok { IfOk result (λ v. (earlier : List ARecord) → StandsFor self.now earlier
             → IsResolved earlier rectangle.now v) }
-        ensures err { IfErr result (λ rule. (earlier : List ARecord) → StandsFor self.now earlier
-            → Breaches earlier (a_rectangle rectangle.now) rule) }
+        ensures err { IfErr result (λ rule. (ignore : Ignored) (earlier : List ARecord) → StandsFor self.now earlier
+            → Breaches ignore earlier (a_rectangle rectangle.now) rule) }
     {
         let Some(layer) = rectangle.on.layer.or(self.layer) else {
             return Err(FigureRule::Undefined(Variable::Layer));
@@ -91,7 +92,7 @@ impl Modal {
         alloc: Global,
         rectangle: Rectangle,
     ) -> Result<Option<Drawn>, Cause<FigureRule>>
-        ensures { Takes self.old (a_rectangle rectangle) result self.new }
+        ensures { (ignore : Ignored) → Takes ignore self.old (a_rectangle rectangle) result self.new }
     {
         let values = self.resolve_rectangle(&rectangle)?;
         let ring = Ring::rectangle(alloc, values.low, values.high)?;

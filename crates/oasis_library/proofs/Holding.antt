@@ -5,6 +5,8 @@ use Rattle.std.proofs.lemmas.List.{append-nil}
 use Rattle.std.specs.Prelude.{flat_map, Option, Some, None}
 use Rattle.lvl_refusal.specs.declared.Cause.{Cause}
 use Rattle.lvl_refusal.specs.declared.Cause.TheVariants.{Breach, OutOfMemory}
+use Rattle.lvl_profile.specs.declared.ignore.Ignore.{Ignore}
+use Rattle.lvl_profile.specs.declared.profile.Profile.{Profile}
 use Rattle.oasis_records.specs.declared.cell.CellRef.{CellRef}
 use Rattle.oasis_records.specs.declared.record.Record.TheVariants.{Cell}
 use Rattle.oasis_figures.specs.Figures.{shifts_of, IsDrawn, PlacesFit}
@@ -123,35 +125,38 @@ name_ok (Ok v) q u e f p = p
 name_ok (Err (Breach k)) q u e f p = (let z : Err (Breach (Name k)) ≡ Ok u = sym e ∙ f in cc)
 name_ok (Err OutOfMemory) q u e f p = (let z : Err OutOfMemory ≡ Ok u = sym e ∙ f in cc)
 
-pub record Takes (old new : Modal) (next : Record) (r : Result (Option Drawn) (Cause FigureRule)) : Type 0 where
+pub record Takes (ignore : Ignore) (old new : Modal) (next : Record) (r : Result (Option Drawn)
+    (Cause FigureRule)) : Type 0 where
   pub drawn : IfOk r (λ drawn. (earlier : List Record) → StandsFor old earlier → IsDrawn earlier next drawn)
   pub places : IfOk r (λ drawn. (earlier : List Record) → StandsFor old earlier → PlacesFit (shifts_of earlier next)
       drawn)
   pub kept : OnOk r ((earlier : List Record) → StandsFor old earlier → StandsFor new (next ∷ earlier))
-  pub none : OnOk r ((earlier : List Record) → StandsFor old earlier → BreachesNone earlier next)
+  pub none : OnOk r ((earlier : List Record) → StandsFor old earlier → BreachesNone ignore earlier next)
 
-pub figure_ok : (old new : Modal) (next : Record) (r : Result (Option Drawn) (Cause FigureRule))
+pub figure_ok : (ignore : Ignore) (old new : Modal) (next : Record) (r : Result (Option Drawn) (Cause FigureRule))
     (q : Result (Option Drawn) (Cause OasisKind)) (d : Option Drawn)
-    → q ≡ of_figure r → q ≡ Ok d → Takes old new next r → (earlier : List Record) → StandsFor old earlier
-    → IsTaken earlier next d new
-figure_ok old new next (Ok x) q d e f t earlier h =
+    → q ≡ of_figure r → q ≡ Ok d → Takes ignore old new next r → (earlier : List Record) → StandsFor old earlier
+    → IsTaken earlier next d new × BreachesNone ignore earlier next
+figure_ok ignore old new next (Ok x) q d e f t earlier h =
     let z : Ok x ≡ Ok d = sym e ∙ f in
-    let same : x ≡ d = cc in
-    subst (λ (i : Option Drawn). IsTaken earlier next i new) same
-    (record {
-      stands = t.kept earlier h;
-      draws = t.drawn earlier h;
-      fits = t.places earlier h;
-      none = t.none earlier h;
-    })
-figure_ok old new next (Err (Breach k)) q d e f t earlier h = (let z : Err (Breach (Figure k)) ≡ Ok d = sym e ∙ f in cc)
-figure_ok old new next (Err OutOfMemory) q d e f t earlier h = (let z : Err OutOfMemory ≡ Ok d = sym e ∙ f in cc)
+    let same : x ≡ d = cc in (
+      subst (λ (i : Option Drawn). IsTaken earlier next i new) same (record {
+        stands = t.kept earlier h;
+        draws = t.drawn earlier h;
+        fits = t.places earlier h;
+        none = (ignore, t.none earlier h);
+      }),
+      t.none earlier h,
+    )
+figure_ok ignore old new next (Err (Breach k)) q d e f t earlier h = (let z : Err (Breach
+    (Figure k)) ≡ Ok d = sym e ∙ f in cc)
+figure_ok ignore old new next (Err OutOfMemory) q d e f t earlier h = (let z : Err OutOfMemory ≡ Ok d = sym e ∙ f in cc)
 
 -- a CELL breaches no rule
-pub cell_keeps : (rs : List Record) (ref : CellRef) → KeepsRules rs (Cell ref)
-cell_keeps rs ref = (λ k b. b, none)
+pub cell_keeps : (profile : Profile) (rs : List Record) (ref : CellRef) → KeepsRules profile rs (Cell ref)
+cell_keeps profile rs ref = (λ k b. b, none)
   where
-    none : BreachesNone (since_cell rs) (Cell ref)
+    none : BreachesNone profile.ignore (since_cell rs) (Cell ref)
     none (Undefined v) b = (let z : None ≡ Some v = b in cc)
     none (PathRule f) b = b
     none _ b = b

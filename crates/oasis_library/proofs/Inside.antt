@@ -100,10 +100,11 @@ pub item_room : (profile : Profile) (is : List Item) (r : Record)
 item_room profile is r = omega (arith, unpacked-snoc is (item r))
 
 -- a rule of records is no rule of blocks
-pub record_cause : (rs : List Record) (r : Record) (k : OasisKind) → RecordBreaches rs r k → RecordBreaches rs r (cause k)
-record_cause rs r (Name j) b = b
-record_cause rs r (Figure j) b = b
-record_cause rs r _ b = absurd b
+pub record_cause : (profile : Profile) (rs : List Record) (r : Record) (k : OasisKind) → RecordBreaches profile rs r k
+    → RecordBreaches profile rs r (cause k)
+record_cause profile rs r (Name j) b = b
+record_cause profile rs r (Figure j) b = b
+record_cause profile rs r _ b = absurd b
 
 -- whether a record is a block
 pub not_block : (r : Record) → ((p : Packed) → r ≡ ABlock p → ⊥) → is_block r ≡ false
@@ -111,7 +112,7 @@ not_block (ABlock p) h = absurd (h p refl)
 not_block _ h = refl
 
 pub record_kept : (profile : Profile) (x y : Reading) (is : List Item) (r : Record) → is_block r ≡ false
-    → HasRead profile x is → Holds y (records is ++ r ∷ []) → KeepsRules (records is) r → y.room ≡ x.room
+    → HasRead profile x is → Holds y (records is ++ r ∷ []) → KeepsRules profile (records is) r → y.room ≡ x.room
     → IsKept profile is r y
 record_kept profile x y is r other h held keeps room = (
   item r,
@@ -144,17 +145,17 @@ block_kept profile x y next p e (Ok u) s =
 block_kept profile x y next p e (Err f) s = tt
 
 pub record_says : (profile : Profile) (x : Reading) (next : Record) (r : Result (Unit {0}) (Cause OasisKind))
-    → IfErr r (λ e. Says e (λ k. (rs : List Record) → Holds x rs → RecordBreaches rs next k))
+    → IfErr r (λ e. Says e (λ k. (rs : List Record) → Holds x rs → RecordBreaches profile rs next k))
     → IfErr r (λ e. Says e (λ k. (is : List Item) → HasRead profile x is → Breaches profile is (item next) (cause k)))
 record_says profile x next (Ok u) s = tt
 record_says profile x next (Err OutOfMemory) s = tt
 record_says profile x next (Err (Breach k)) s =
-    λ is h. inl (record_cause (records is) next k (s (records is) h.holds))
+    λ is h. inl (record_cause profile (records is) next k (s (records is) h.holds))
 
 pub record_taken : (profile : Profile) (x y : Reading) (next : Record) → is_block next ≡ false
     → (r : Result (Unit {0}) (Cause OasisKind))
     → OnOk r ((rs : List Record) → Holds x rs → Holds y (rs ++ next ∷ []))
-    → OnOk r ((rs : List Record) → Holds x rs → KeepsRules rs next) → OnOk r (y.room ≡ x.room)
+    → OnOk r ((rs : List Record) → Holds x rs → KeepsRules profile rs next) → OnOk r (y.room ≡ x.room)
     → OnOk r ((is : List Item) → HasRead profile x is → IsKept profile is next y)
 record_taken profile x y next other (Ok u) kept keeps room =
     λ is h. record_kept profile x y is next other h (kept (records is) h.holds) (keeps (records is) h.holds) room

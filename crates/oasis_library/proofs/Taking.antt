@@ -5,6 +5,7 @@ use Rattle.std.proofs.lemmas.List.{append-nil}
 use Rattle.lvl_grid.specs.declared.map.Map.{Map}
 use Rattle.lvl_grid.specs.declared.point.Point.{Point}
 use Rattle.lvl_cells.specs.Cells.{PlainShape, Rings}
+use Rattle.lvl_profile.specs.declared.ignore.Ignore.{Ignore}
 use Rattle.oasis_records.specs.declared.cell.CellRef.{CellRef}
 use Rattle.oasis_records.specs.declared.cell.CellRef.TheVariants.{Number}
 use Rattle.oasis_records.specs.declared.record.Record.{Record}
@@ -23,18 +24,19 @@ use Rattle.oasis_library.specs.inside.Kept.{placed}
 use Rattle.oasis_library.specs.inside.Taken.{IsTaken, grown}
 
 -- a PLACEMENT whose cell is undefined breaches a rule
-unknown_cell : (earlier : List Record) (r : Record) (x : Placed) (xs : List Placed) → x ∷ xs ≡ placements_of earlier r
-    → BreachesNone earlier r → modal cell_set (r ∷ earlier) ≡ None → ⊥
-unknown_cell earlier (Placement p) x xs e none h =
+unknown_cell : (ignore : Ignore) (earlier : List Record) (r : Record) (x : Placed) (xs : List Placed)
+    → x ∷ xs ≡ placements_of earlier r
+    → BreachesNone ignore earlier r → modal cell_set (r ∷ earlier) ≡ None → ⊥
+unknown_cell ignore earlier (Placement p) x xs e none h =
     none (Undefined PlacementCell)
     (ap (λ o. if is_some o then first_undefined (is_defined (Placement p ∷ earlier))
     (of_repetition p.position.repetition) else Some PlacementCell) h)
-unknown_cell earlier _ x xs e none h = cc
+unknown_cell ignore earlier _ x xs e none h = cc
 
 -- the cell of a placement is defined
 pub known_cell : (earlier : List Record) (r : Record) (by : Map) (m : Modal) → IsTaken earlier r (Some (Placing by)) m
     → modal cell_set (r ∷ earlier) ≡ None → ⊥
-known_cell earlier r by m t h = unknown_cell earlier r _ [] t.draws.placements t.none h
+known_cell earlier r by m t h = unknown_cell t.none.0 earlier r _ [] t.draws.placements t.none.1 h
 
 abbrev a_kept : CellRef → List (PlainShape Rings) → List Placed → PlainDrawing Rings
 a_kept name shapes placements = record { name = name; shapes = shapes; placements = placements }

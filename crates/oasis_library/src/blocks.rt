@@ -59,12 +59,13 @@ fn take_inside(
         → bytes_left Some input.old ≡ Some ys → HasMoreInside (input_profile input.old) rs ys reading.new) }
     ensures room { OnOk result (reading.new.room ≡ reading.old.room) }
 {
+    let profile = input.profile();
     'records: while input.offset() < count {
         let record = match read_inside(input, alloc, reading.order()) {
             Ok(record) => record,
             Err(refusal) => return Err(in_block(refusal)),
         };
-        reading.take(alloc, record)?;
+        reading.take(alloc, profile, record)?;
     }
     Ok(())
 }
@@ -109,5 +110,5 @@ pub(crate) fn take_next(
     if let Record::Block(packed) = &next {
         return take_block(alloc, reading, packed, profile);
     }
-    reading.take(alloc, next)
+    reading.take(alloc, profile, next)
 }

@@ -15,6 +15,7 @@ use crate::head::{HeadRecords, OasisHead};
 use crate::names::Names;
 use crate::resolve::resolve_cells;
 use lvl_cells::Library;
+use lvl_profile::Profile;
 use lvl_refusal::Cause;
 use oasis_figures::{Drawn, FigureRule, Modal};
 use oasis_records::Record;
@@ -81,13 +82,18 @@ impl Reading {
     }
 
     /// Takes the next record, unless it breaches a rule.
-    pub(crate) fn take(&mut self, alloc: Global, next: Record) -> Result<(), Cause<OasisKind>>
+    pub(crate) fn take(
+        &mut self,
+        alloc: Global,
+        profile: Profile,
+        next: Record,
+    ) -> Result<(), Cause<OasisKind>>
         requires { (rs : List ARecord) × Holds self.old rs }
         ensures refused { IfErr result (λ e. Says e (λ kind.
-            (rs : List ARecord) → Holds self.old rs → RecordBreaches rs next kind)) }
+            (rs : List ARecord) → Holds self.old rs → RecordBreaches profile rs next kind)) }
         ensures kept { OnOk result
             ((rs : List ARecord) → Holds self.old rs → Holds self.new (rs ++ next ∷ [])) }
-        ensures none { OnOk result ((rs : List ARecord) → Holds self.old rs → KeepsRules rs next) }
+        ensures none { OnOk result ((rs : List ARecord) → Holds self.old rs → KeepsRules profile rs next) }
         ensures room { OnOk result (self.new.room ≡ self.old.room) }
     {
         self.order.pass(&next);
@@ -98,7 +104,7 @@ impl Reading {
             self.cells.begin(alloc, name)?;
             return Ok(());
         }
-        let drawn = of_figure(self.modal.take(alloc, next))?;
+        let drawn = of_figure(self.modal.take(alloc, profile.ignore, next))?;
         self.cells.add(alloc, drawn, &self.modal)?;
         Ok(())
     }

@@ -1,6 +1,6 @@
 -- Blocks: the bytes of a block decide the records inside, and which rule is breached; if one is, no records are inside.
-use Rattle.std.proofs.Common.{◌≡◌, ℕ, ◌-◌, ◌<◌, ◌≤◌, ◌⊎◌, true, List, [], ◌∷◌, ◌++◌, length, take, drop, Result, Ok}
-use Rattle.std.proofs.Common.{Err, Some, None, refl, sym, ap, ◌∙◌, subst, inl, inr, arith, length-take, length-drop}
+use Rattle.std.proofs.Common.{◌≡◌, ℕ, ◌-◌, ◌<◌, ◌≤◌, ◌⊎◌, true, List, ◌++◌, length, take, drop, Result, Ok}
+use Rattle.std.proofs.Common.{Err, Some, None, refl, sym, ◌∙◌, subst, inl, inr, arith, length-take}
 use Rattle.std.proofs.lemmas.List.{take-append-drop}
 use Rattle.lvl_io.specs.Known.{Agree}
 use Rattle.lvl_io.specs.Spelling.{FirstBytesSay, IsBegun}
@@ -64,7 +64,8 @@ cut_inside profile rs room ys text r l b p agree fits =
     })
 
 rule_stops : (profile : Profile) (rs : List Record) (ys text : List ℕ) (r : Record) (k : OasisKind)
-    → BreaksRuleInside profile rs ys k → IsNext true rs profile text (said r) → KeepsRules rs r → Agree text ys → ⊥
+    → BreaksRuleInside profile rs ys k → IsNext true rs profile text (said r) → KeepsRules profile rs r → Agree text ys
+    → ⊥
 rule_stops profile rs ys text r k w p g agree = elim w.1 [
   | inl q ↦ (let e : Ok (Err k) ≡ said r = front_only (IsNext true rs profile) ys w.0 (Ok (Err k)) (said r)
       (next_free true rs profile) q text p agree in
@@ -72,11 +73,12 @@ rule_stops profile rs ys text r k w p g agree = elim w.1 [
   | inr q ↦
       let e : q.0 ≡ r = same_record q.0 r (front_only (IsNext true rs profile) ys w.0 (said q.0) (said r)
       (next_free true rs profile) q.1 text p agree) in
-      record_keeps rs r k g (subst (λ (s : Record). RecordBreaches rs s k) e q.2)
+      record_keeps profile rs r k g (subst (λ (s : Record). RecordBreaches profile rs s k) e q.2)
 ]
 
 inside_stops : (profile : Profile) (rs : List Record) (room : ℕ) (ys text : List ℕ) (r : Record) (k : OasisKind)
-    → IsWrongInside profile rs room ys k → IsNext true rs profile text (said r) → KeepsRules rs r → Agree text ys
+    → IsWrongInside profile rs room ys k → IsNext true rs profile text (said r) → KeepsRules profile rs r
+    → Agree text ys
     → length text ≤ room → ⊥
 inside_stops profile rs room ys text r (Value f) w p g agree fits =
     breached_none (IsNext true rs profile) ys w.1 f (Ok (item r)) (next_free true rs profile) w.2 text p agree
@@ -115,25 +117,25 @@ are_inside_faults profile outer count = record {
 }
 
 -- what bytes say about the next record is why the rule is breached
-abbrev Explains : List Record → Result (Result Item OasisKind) ValueFault → OasisKind → Type 0
-Explains rs (Err f) k = k ≡ Value f
-Explains rs (Ok (Err j)) k = k ≡ j
-Explains rs (Ok (Ok (item r))) k = RecordBreaches rs r k
-Explains rs (Ok (Ok i)) k = ⊥
+abbrev Explains : Profile → List Record → Result (Result Item OasisKind) ValueFault → OasisKind → Type 0
+Explains profile rs (Err f) k = k ≡ Value f
+Explains profile rs (Ok (Err j)) k = k ≡ j
+Explains profile rs (Ok (Ok (item r))) k = RecordBreaches profile rs r k
+Explains profile rs (Ok (Ok i)) k = ⊥
 
-explains_once : (rs : List Record) (x : Result (Result Item OasisKind) ValueFault) (j k : OasisKind)
-    → Explains rs x j → Explains rs x k → j ≡ k
-explains_once rs (Err f) j k p q = p ∙ sym q
-explains_once rs (Ok (Err i)) j k p q = p ∙ sym q
-explains_once rs (Ok (Ok (item r))) j k p q = record_once rs r j k p q
-explains_once rs (Ok (Ok _)) j k p q = absurd p
+explains_once : (profile : Profile) (rs : List Record) (x : Result (Result Item OasisKind) ValueFault) (j k : OasisKind)
+    → Explains profile rs x j → Explains profile rs x k → j ≡ k
+explains_once profile rs (Err f) j k p q = p ∙ sym q
+explains_once profile rs (Ok (Err i)) j k p q = p ∙ sym q
+explains_once profile rs (Ok (Ok (item r))) j k p q = record_once profile rs r j k p q
+explains_once profile rs (Ok (Ok _)) j k p q = absurd p
 
 -- bytes at the front are why
 record IsExplained (profile : Profile) (rs : List Record) (ys : List ℕ) (k : OasisKind) : Type 0 where
   count : ℕ
   says : Result (Result Item OasisKind) ValueFault
   front : FirstBytesSay (IsNext true rs profile) ys count says
-  why : Explains rs says k
+  why : Explains profile rs says k
 
 -- or the block ends there
 record IsCut (profile : Profile) (rs : List Record) (ys : List ℕ) (k : OasisKind) : Type 0 where
@@ -166,7 +168,7 @@ one_cause profile rs ys j k p q = elim p [
     | inl b ↦
         let same : a.says ≡ b.says = front_only (IsNext true rs profile) ys a.count a.says b.says
         (next_free true rs profile) a.front b.front.bytes b.front.says (b.front.rest, inr b.front.whole) in
-        explains_once rs a.says j k a.why (subst (λ x. Explains rs x k) (sym same) b.why)
+        explains_once profile rs a.says j k a.why (subst (λ x. Explains profile rs x k) (sym same) b.why)
     | inr b ↦ absurd (open_inside profile rs ys a.count a.says b.begun a.front)
   ]
   | inr a ↦ elim q [

@@ -21,11 +21,13 @@ use Rattle.oasis_records.proofs.Ignored.{type_grows}
 use Rattle.oasis_records.proofs.Sizes.{sized_code}
 use Rattle.oasis_records.proofs.Whole.{magic_code}
 use Rattle.oasis_blocks.specs.Packed.{Packed}
+use Rattle.oasis_figures.proofs.Growing.{none_grows}
 use Rattle.oasis_stream.specs.Items.{Item, magic, item, block, records, as_packed}
 use Rattle.oasis_stream.specs.Order.{at_end, cells_in, opens_cell, mixes, is_expected_in, allowed, type_by, type_after}
 use Rattle.oasis_stream.specs.Next.{of_magic, IsTyped, IsTypedAfter, IsNext, IsItem}
 use Rattle.oasis_stream.specs.Blocks.{inside, HasInside}
 use Rattle.oasis_stream.specs.Front.{Keeps, oasis}
+use Rattle.oasis_stream.specs.Rules.{since_cell, KeepsRules}
 use Rattle.oasis_stream.specs.declared.fault.OasisKind.{OasisKind}
 use Rattle.oasis_stream.specs.declared.fault.OasisKind.TheVariants.{Record as OfRecord, Unexpected, Name, TooManyCells}
 use Rattle.oasis_stream.specs.declared.fault.NameRule.TheVariants.{Mixed}
@@ -130,11 +132,20 @@ inside_all_grow less more within outer before (r ∷ rs) count bytes p =
       p.4,
     )
 
-inside_follow_all : (less more : Profile) (outer before rs : List Record) (count : ℕ)
+-- a record that breaches no rule breaches none under a wider profile
+rules_grow : (less more : Profile) → IsWider less more → (rs : List Record) (r : Record) → KeepsRules less rs r
+    → KeepsRules more rs r
+rules_grow less more within rs r k =
+    (k.0, none_grows less.ignore more.ignore within.ignore (since_cell rs) r k.1)
+
+inside_follow_all : (less more : Profile) → IsWider less more → (outer before rs : List Record) (count : ℕ)
     → FollowAll (inside less outer count) before rs → FollowAll (inside more outer count) before rs
-inside_follow_all less more outer before [] count p = p
-inside_follow_all less more outer before (r ∷ rs) count p =
-    (p.0, inside_follow_all less more outer (before ++ r ∷ []) rs count p.1)
+inside_follow_all less more within outer before [] count p = p
+inside_follow_all less more within outer before (r ∷ rs) count p = (
+  rules_grow less more within (outer ++ before) r p.0,
+  inside_follow_all less more within outer
+      (before ++ r ∷ []) rs count p.1,
+)
 
 inside_grows : (less more : Profile) → IsWider less more → (before : List Item) (p : Packed) (rs : List Record)
     → HasInside less before p rs → HasInside more before p rs
@@ -148,7 +159,7 @@ inside_grows less more within before p rs h =
       whole = record {
         front = record {
           spelled = inside_all_grow less more within outer [] rs n h.bytes h.whole.front.spelled;
-          followed = inside_follow_all less more outer [] rs n h.whole.front.followed;
+          followed = inside_follow_all less more within outer [] rs n h.whole.front.followed;
           within = h.whole.front.within;
         };
         whole = tt;
@@ -158,7 +169,7 @@ inside_grows less more within before p rs h =
 keeps_grow : (less more : Profile) → IsWider less more → (before : List Item) (i : Item) → Keeps less before i
     → Keeps more before i
 keeps_grow less more within before magic k = k
-keeps_grow less more within before (item r) k = k
+keeps_grow less more within before (item r) k = (rules_grow less more within (records before) r k.0, k.1)
 keeps_grow less more within before (block p rs) k = inside_grows less more within before p rs k
 
 -- an item that may follow may follow under a wider profile

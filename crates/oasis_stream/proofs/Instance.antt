@@ -14,7 +14,7 @@ use Rattle.oasis_values.specs.declared.fault.ValueFault.{ValueFault}
 use Rattle.oasis_blocks.specs.Packed.{Packed as ABlock}
 use Rattle.oasis_records.specs.declared.record.Record.{Record as ARecord}
 use Rattle.oasis_records.specs.declared.record.Record.TheVariants.{Block as Packed}
-use Rattle.oasis_stream.specs.Items.{Item, magic, item, block, records, as_packed, IsEnded}
+use Rattle.oasis_stream.specs.Items.{Item, magic, item, block, records, as_packed}
 use Rattle.oasis_stream.specs.Next.{IsItem}
 use Rattle.oasis_stream.specs.Blocks.{HasInside}
 use Rattle.oasis_stream.specs.Front.{is_block, PackedBreaches, Breaches, MayFollow, oasis}
@@ -44,11 +44,11 @@ follows_kept : (profile : Profile) (before : List Item) (i : Item) (k : OasisKin
     → Breaches profile before (as_packed i) k → ⊥
 follows_kept profile before magic k g b = b
 follows_kept profile before (item r) k g b = elim b [
-  | inl x ↦ record_keeps (records before) r k g.1.0 x
+  | inl x ↦ record_keeps profile (records before) r k g.1.0 x
   | inr x ↦ none_packed profile before r k g.1.1 x
 ]
 follows_kept profile before (block p rs) k g b = elim b [
-  | inl x ↦ block_keeps (records before) p k x
+  | inl x ↦ block_keeps profile (records before) p k x
   | inr x ↦ block_none profile before p rs k x g.1
 ]
 

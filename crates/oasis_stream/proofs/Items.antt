@@ -1,6 +1,6 @@
 -- What bytes say about the next item of a file: the spelling is prefix-free, and the empty list spells no item.
-use Rattle.std.proofs.Common.{◌≡◌, ◌≢◌, ℕ, ◌<◌, Bool, true, false, not, ◌&&◌, nat_lt, if◌then◌else◌, List, [], ◌∷◌}
-use Rattle.std.proofs.Common.{◌==◌, drop, length, Result, Ok, Err, refl, sym, ap, ◌∙◌, arith, length-append}
+use Rattle.std.proofs.Common.{◌≡◌, ℕ, ◌<◌, Bool, true, false, not, ◌&&◌, nat_lt, if◌then◌else◌, List, [], ◌∷◌}
+use Rattle.std.proofs.Common.{◌==◌, drop, length, Result, Ok, Err, refl, ap, ◌∙◌, arith, length-append}
 use Rattle.lvl_io.specs.Spelling.{UnlessBreached, FirstBytesSay, IsPrefixFree, CanSay}
 use Rattle.lvl_profile.specs.declared.profile.Profile.{Profile}
 use Rattle.lvl_io.proofs.Spelling.{then_free, then_said}

@@ -24,9 +24,10 @@ use Rattle.oasis_stream.proofs.Blocks.{block_once}
 use Rattle.oasis_stream.proofs.Once.{record_once, block_keeps}
 
 -- a block breaches no rule of records, and a record that isn't a block none of blocks
-apart : (profile : Profile) (before : List Item) (r : ARecord) (j k : OasisKind) → RecordBreaches (records before) r j
+apart : (profile : Profile) (before : List Item) (r : ARecord) (j k : OasisKind)
+    → RecordBreaches profile (records before) r j
     → PackedBreaches profile before r k → ⊥
-apart profile before (Packed p) j k x y = block_keeps (records before) p j x
+apart profile before (Packed p) j k x y = block_keeps profile (records before) p j x
 apart profile before _ j k x y = y
 
 packed_once : (profile : Profile) (before : List Item) (r : ARecord) (j k : OasisKind)
@@ -41,7 +42,7 @@ breaches_once profile before magic j k p q = absurd p
 breaches_once profile before (block b rs) j k p q = absurd p
 breaches_once profile before (item r) j k p q = elim p [
   | inl x ↦ elim q [
-    | inl y ↦ record_once (records before) r j k x y
+    | inl y ↦ record_once profile (records before) r j k x y
     | inr y ↦ absurd (apart profile before r j k x y)
   ]
   | inr x ↦ elim q [

@@ -22,7 +22,7 @@ use Rattle.oasis_values.proofs.Reading.{front_rest}
 use Rattle.oasis_blocks.specs.declared.fault.BlockRule.TheVariants.{TooLong as OverLimit, Deflate, BlockLength}
 use Rattle.oasis_records.specs.declared.record.Record.{Record as ARecord}
 use Rattle.oasis_records.specs.declared.record.Record.TheVariants.{Block as Packed}
-use Rattle.oasis_stream.specs.Items.{Item, magic, item, block, as_packed, IsEnded}
+use Rattle.oasis_stream.specs.Items.{Item, item, as_packed, IsEnded}
 use Rattle.oasis_stream.specs.Next.{IsItem}
 use Rattle.oasis_stream.specs.Blocks.{cause}
 use Rattle.oasis_stream.specs.Front.{PackedBreaches, Breaches, MayFollow, oasis}

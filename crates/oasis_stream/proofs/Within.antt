@@ -1,10 +1,9 @@
 -- The bytes of a block are read record by record: what each call says about all of them.
-use Rattle.std.proofs.Common.{◌≡◌, ℕ, ◌+◌, ◌-◌, ◌<◌, ◌≤◌, true, false, List, [], ◌∷◌, ◌++◌, length, take, drop, Ok, Err}
-use Rattle.std.proofs.Common.{refl, sym, ap, ◌∙◌, subst, inl, inr, arith, length-append, length-drop, length-take}
+use Rattle.std.proofs.Common.{◌≡◌, ℕ, ◌+◌, ◌-◌, ◌<◌, ◌≤◌, true, false, List, [], ◌∷◌, ◌++◌, length, drop, Ok, Err}
+use Rattle.std.proofs.Common.{refl, sym, ap, ◌∙◌, subst, inl, inr, arith, length-append, length-drop}
 use Rattle.std.proofs.lemmas.List.{take_all}
 use Rattle.std.specs.Prelude.{Option, Some}
 use Rattle.std.specs.Borrow.{GName}
-use Rattle.lvl_io.specs.Spelling.{FirstBytesSay}
 use Rattle.lvl_grammar.specs.Front.{IsFront, SpellsWhole}
 use Rattle.lvl_grammar.specs.inside.ReadTo.{ReadTo}
 use Rattle.lvl_grammar.proofs.Reading.{reads_on, reads_begin}
@@ -19,7 +18,7 @@ use Rattle.oasis_values.specs.declared.input.Input.{Input}
 use Rattle.oasis_values.proofs.Reading.{front_rest}
 use Rattle.oasis_blocks.specs.declared.fault.BlockRule.TheVariants.{BlockLength}
 use Rattle.oasis_records.specs.declared.record.Record.{Record}
-use Rattle.oasis_stream.specs.Items.{Item, item}
+use Rattle.oasis_stream.specs.Items.{item}
 use Rattle.oasis_stream.specs.Next.{IsNext}
 use Rattle.oasis_stream.specs.Blocks.{inside, StopsInside, IsWrongInside, BreaksRuleInside, cause}
 use Rattle.oasis_stream.specs.Reported.{of_kind}
@@ -37,7 +36,7 @@ pub inside_on : {R : Type 0} {remaining : R → Option (List ℕ)} {errors : R �
     (to : ReadTo (inside profile outer (length ys)) ys (input_offset old) Has (bytes_left remaining old)) (r : Record)
     → has_failed old ≡ false → input_profile old ≡ profile
     → Reads remaining errors lent (IsNext true (outer ++ to.records)) old new (Ok (Ok (item r)))
-    → KeepsRules (outer ++ to.records) r → Has' (to.records ++ r ∷ [])
+    → KeepsRules profile (outer ++ to.records) r → Has' (to.records ++ r ∷ [])
     → ReadTo (inside profile outer (length ys)) ys (input_offset new) Has' (bytes_left remaining new)
 inside_on {remaining = remaining} profile outer ys Has Has' {old = old} {new = new} to r live under p keeps has =
     let G = inside profile outer (length ys) in
@@ -90,7 +89,7 @@ pub inside_breached : {R : Type 0} {remaining : R → Option (List ℕ)} {errors
     (to : ReadTo (inside profile outer (length ys)) ys (input_offset old) Has (bytes_left remaining old)) (r : Record)
     (k : OasisKind) → has_failed old ≡ false → input_profile old ≡ profile
     → Reads remaining errors lent (IsNext true (outer ++ to.records)) old new (Ok (Ok (item r)))
-    → RecordBreaches (outer ++ to.records) r k → StopsInside profile outer ys (cause k)
+    → RecordBreaches profile (outer ++ to.records) r k → StopsInside profile outer ys (cause k)
 inside_breached {remaining = remaining} profile outer ys Has {old = old} {new = new} to r (Name k) live under p b =
     let f = (answers_under profile under p live (drop (input_offset old) ys) to.left_is).0 in
     stops_at profile outer ys (input_offset old) Has (bytes_left remaining old) to (Name k)

@@ -1,6 +1,6 @@
 -- The records inside a block (SEMI P39 OASIS 1.0, "CBLOCK record"), and what is wrong with a block that is refused (own
 -- rule: which fault is reported).
-use Rattle.std.specs.Prelude.{◌≡◌, ℕ, ◌-◌, ◌<◌, ◌≤◌, ◌⊎◌, true, List, ◌++◌, length, take, drop, Result, Ok, Err}
+use Rattle.std.specs.Prelude.{◌≡◌, ℕ, ◌-◌, ◌<◌, ◌≤◌, ◌⊎◌, true, List, ◌++◌, length, take, drop, Ok, Err}
 use Rattle.lvl_io.specs.Spelling.{FirstBytesSay, IsBegun}
 use Rattle.lvl_grammar.specs.Grammar.{Grammar}
 use Rattle.lvl_grammar.specs.Front.{IsFront, SpellsWhole}
@@ -21,7 +21,7 @@ use Rattle.oasis_stream.specs.declared.fault.OasisKind.TheVariants.{Value, Block
 abbrev pub inside : Profile → List Record → ℕ → Grammar Record
 inside profile outer count = record {
   spells = λ before bytes r. IsNext true (outer ++ before) profile bytes (Ok (Ok (item r)));
-  follows = λ before r. KeepsRules (outer ++ before) r;
+  follows = λ before r. KeepsRules profile (outer ++ before) r;
   ends = λ before. Unit {0};
   limit = count;
 }
@@ -42,7 +42,7 @@ pub record HasInside (profile : Profile) (before : List Item) (p : Packed) (rs :
 abbrev pub BreaksRuleInside : Profile → List Record → List ℕ → OasisKind → Type 0
 BreaksRuleInside profile rs ys k =
     (n : ℕ) × (FirstBytesSay (IsNext true rs profile) ys n (Ok (Err k))
-    ⊎ ((r : Record) × FirstBytesSay (IsNext true rs profile) ys n (Ok (Ok (item r))) × RecordBreaches rs r k))
+    ⊎ ((r : Record) × FirstBytesSay (IsNext true rs profile) ys n (Ok (Ok (item r))) × RecordBreaches profile rs r k))
 
 -- what is wrong at the front of the bytes inside a block, after the records rs, if `room` bytes of it are left: a block
 -- that ends within a record has too few bytes

@@ -22,13 +22,13 @@ PackedBreaches profile before r k = ⊥
 
 -- the item, as it is packed, breaches the rule after the others
 abbrev pub Breaches : Profile → List Item → Item → OasisKind → Type 0
-Breaches profile before (item r) k = RecordBreaches (records before) r k ⊎ PackedBreaches profile before r k
+Breaches profile before (item r) k = RecordBreaches profile (records before) r k ⊎ PackedBreaches profile before r k
 Breaches profile before i k = ⊥
 
 -- the item breaches no rule after the others, and a block has the records inside
 abbrev pub Keeps : Profile → List Item → Item → Type 0
 Keeps profile before magic = Unit {0}
-Keeps profile before (item r) = KeepsRules (records before) r × (is_block r ≡ false)
+Keeps profile before (item r) = KeepsRules profile (records before) r × (is_block r ≡ false)
 Keeps profile before (block p rs) = HasInside profile before p rs
 
 -- the item may follow the others: there is no END among them, and it breaches no rule

@@ -1,6 +1,7 @@
 -- The rules that a complete record may breach after others (SEMI P39 OASIS 1.0, "CELLNAME record", "CELL record", "END
 -- record").
 use Rattle.std.specs.Prelude.{Bool, true, false, if◌then◌else◌, List, [], ◌∷◌}
+use Rattle.lvl_profile.specs.declared.profile.Profile.{Profile}
 use Rattle.oasis_records.specs.declared.cell.CellName.{CellName}
 use Rattle.oasis_records.specs.declared.record.Record.{Record}
 use Rattle.oasis_records.specs.declared.record.Record.TheVariants.{CellName as OfCellName, Cell as OfCell}
@@ -38,12 +39,13 @@ NamingBreaches names (OfCellName c) k = NameBreaches names c k
 NamingBreaches names r k = ⊥
 
 -- the record breaches the rule after the records rs: of names, or of what it draws after the records of its cell
-abbrev pub RecordBreaches : List Record → Record → OasisKind → Type 0
-RecordBreaches rs r (Name k) = NamingBreaches (names_in rs) r k
-RecordBreaches rs r (Figure k) = FigureBreaches (since_cell rs) r k
-RecordBreaches rs r k = ⊥
+abbrev pub RecordBreaches : Profile → List Record → Record → OasisKind → Type 0
+RecordBreaches profile rs r (Name k) = NamingBreaches (names_in rs) r k
+RecordBreaches profile rs r (Figure k) = FigureBreaches profile.ignore (since_cell rs) r k
+RecordBreaches profile rs r k = ⊥
 
 -- the record breaches no rule after the records rs: neither one of names, nor one of what it draws after the records
 -- of its cell
-abbrev pub KeepsRules : List Record → Record → Type 0
-KeepsRules rs r = ((k : NameRule) → NamingBreaches (names_in rs) r k → ⊥) × BreachesNone (since_cell rs) r
+abbrev pub KeepsRules : Profile → List Record → Record → Type 0
+KeepsRules profile rs r = ((k : NameRule) → NamingBreaches (names_in rs) r k → ⊥)
+    × BreachesNone profile.ignore (since_cell rs) r

@@ -2,6 +2,8 @@
 use Rattle.std.proofs.Common.{◌≡◌, ◌==◌, ◌%◌, ℕ, List, [], ◌∷◌, Some, None, Ok, true, false, pos, negsuc, refl}
 use Rattle.lvl_grid.specs.declared.point.Point.{Point}
 use Rattle.lvl_names.specs.Shifts.{lattice}
+use Rattle.lvl_path.specs.Figure.{path, figure_rings}
+use Rattle.lvl_path.specs.Repeats.{without_repeats}
 use Rattle.lvl_path.specs.Runs.{path_rings, runs}
 use Rattle.lvl_profile.specs.Profiles.{strict}
 use Rattle.oasis_values.specs.Deltas.{two_delta, three_delta, IsGDelta, IsRestOfGDelta}
@@ -40,6 +42,21 @@ rings_of_bent : path_rings bent (record { half = 2; start = 1; end = 0 })
     ∷ record { x = negsuc 0; y = pos 2 } ∷ [])
     ∷ (record { x = pos 8; y = negsuc 1 } ∷ record { x = pos 12; y = negsuc 1 } ∷ point 12 6 ∷ point 8 6 ∷ []) ∷ []
 rings_of_bent = refl
+
+-- points that equal the one before are left out, however many they are; one that comes again later isn't
+left_out : without_repeats (point 0 0 ∷ point 0 0 ∷ point 4 0 ∷ point 4 0 ∷ point 4 0 ∷ point 0 0 ∷ [])
+    ≡ point 0 0 ∷ point 4 0 ∷ point 0 0 ∷ []
+left_out = refl
+
+-- if all points are equal, one is left
+one_left : without_repeats (point 5 7 ∷ point 5 7 ∷ point 5 7 ∷ []) ≡ point 5 7 ∷ []
+one_left = refl
+
+-- a path draws the same with such points
+bent_with_repeats : figure_rings (path (point 0 0 ∷ point 0 0 ∷ point 4 0 ∷ point 10 0 ∷ point 10 0 ∷ point 10 6 ∷ [])
+    (record { half = 2; start = 1; end = 0 }))
+    ≡ path_rings bent (record { half = 2; start = 1; end = 0 })
+bent_with_repeats = refl
 
 -- 300 is 44 and 2 times 128
 integer : IsUnsigned strict (0xAC ∷ 2 ∷ []) (Ok 300)

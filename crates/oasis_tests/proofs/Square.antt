@@ -323,39 +323,39 @@ none_some h = cc
 
 follows : (profile : Profile) (before : List Item) (r : Record) → last_or false (map is_end before) ≡ false
     → ((k : NameRule) → NamingBreaches (names_in (records before)) r k → ⊥)
-    → BreachesNone (since_cell (records before)) r
+    → BreachesNone profile.ignore (since_cell (records before)) r
     → is_block r ≡ false → MayFollow profile before (item r)
 follows profile before r e n f b = (unended before e, ((n, f), b))
 
-none_of_start : (earlier : List Record) → BreachesNone earlier starting
-none_of_start earlier (Undefined v) b = none_some b
-none_of_start earlier WideLayer b = b
-none_of_start earlier OutOfRange b = b
-none_of_start earlier Magnification b = b
-none_of_start earlier Angle b = b
-none_of_start earlier Extension b = b
-none_of_start earlier Oblique b = b
-none_of_start earlier (Path f) b = b
+none_of_start : (ignore : Ignore) (earlier : List Record) → BreachesNone ignore earlier starting
+none_of_start ignore earlier (Undefined v) b = none_some b
+none_of_start ignore earlier WideLayer b = b
+none_of_start ignore earlier OutOfRange b = b
+none_of_start ignore earlier Magnification b = b
+none_of_start ignore earlier Angle b = b
+none_of_start ignore earlier Extension b = b
+none_of_start ignore earlier Oblique b = b
+none_of_start ignore earlier (Path f) b = b
 
-none_of_cell : (earlier : List Record) → BreachesNone earlier cell
-none_of_cell earlier (Undefined v) b = none_some b
-none_of_cell earlier WideLayer b = b
-none_of_cell earlier OutOfRange b = b
-none_of_cell earlier Magnification b = b
-none_of_cell earlier Angle b = b
-none_of_cell earlier Extension b = b
-none_of_cell earlier Oblique b = b
-none_of_cell earlier (Path f) b = b
+none_of_cell : (ignore : Ignore) (earlier : List Record) → BreachesNone ignore earlier cell
+none_of_cell ignore earlier (Undefined v) b = none_some b
+none_of_cell ignore earlier WideLayer b = b
+none_of_cell ignore earlier OutOfRange b = b
+none_of_cell ignore earlier Magnification b = b
+none_of_cell ignore earlier Angle b = b
+none_of_cell ignore earlier Extension b = b
+none_of_cell ignore earlier Oblique b = b
+none_of_cell ignore earlier (Path f) b = b
 
-none_of_end : (earlier : List Record) → BreachesNone earlier ending
-none_of_end earlier (Undefined v) b = none_some b
-none_of_end earlier WideLayer b = b
-none_of_end earlier OutOfRange b = b
-none_of_end earlier Magnification b = b
-none_of_end earlier Angle b = b
-none_of_end earlier Extension b = b
-none_of_end earlier Oblique b = b
-none_of_end earlier (Path f) b = b
+none_of_end : (ignore : Ignore) (earlier : List Record) → BreachesNone ignore earlier ending
+none_of_end ignore earlier (Undefined v) b = none_some b
+none_of_end ignore earlier WideLayer b = b
+none_of_end ignore earlier OutOfRange b = b
+none_of_end ignore earlier Magnification b = b
+none_of_end ignore earlier Angle b = b
+none_of_end ignore earlier Extension b = b
+none_of_end ignore earlier Oblique b = b
+none_of_end ignore earlier (Path f) b = b
 
 abbrev at : ℕ → ℕ → Point
 at x y = record { x = pos x; y = pos y }
@@ -373,28 +373,30 @@ all_near =
     (All-cons FitsPoint (at 10 10) (at 0 10 ∷ []) (near 10 10 refl refl)
     (All-cons FitsPoint (at 0 10) [] (near 0 10 refl refl) (All-nil FitsPoint))))
 
-none_of_rectangle : BreachesNone [] drawn
-none_of_rectangle (Undefined v) b = none_some b
-none_of_rectangle WideLayer b = b (ltb-true 1 (2 ^ 32) refl, ltb-true 0 (2 ^ 32) refl)
-none_of_rectangle OutOfRange b = b all_near
-none_of_rectangle Magnification b = b
-none_of_rectangle Angle b = b
-none_of_rectangle Extension b = b
-none_of_rectangle Oblique b = b
-none_of_rectangle (Path f) b = b
+none_of_rectangle : (ignore : Ignore) → BreachesNone ignore [] drawn
+none_of_rectangle ignore (Undefined v) b = none_some b
+none_of_rectangle ignore WideLayer b = b (ltb-true 1 (2 ^ 32) refl, ltb-true 0 (2 ^ 32) refl)
+none_of_rectangle ignore OutOfRange b = b all_near
+none_of_rectangle ignore Magnification b = b
+none_of_rectangle ignore Angle b = b
+none_of_rectangle ignore Extension b = b
+none_of_rectangle ignore Oblique b = b
+none_of_rectangle ignore (Path f) b = b
 
 followed : (ignore : Ignore) → FollowAll (oasis (ignoring ignore)) [] square
 followed ignore = (
   (unended [] refl, tt),
   (
-    follows (ignoring ignore) (magic ∷ []) starting refl (λ k b. b) (none_of_start []) refl,
+    follows (ignoring ignore) (magic ∷ []) starting refl (λ k b. b) (none_of_start ignore []) refl,
     (
-      follows (ignoring ignore) (magic ∷ item starting ∷ []) cell refl (λ k b. b) (none_of_cell (starting ∷ [])) refl,
+      follows (ignoring ignore) (magic ∷ item starting ∷ []) cell refl (λ k b. b) (none_of_cell ignore
+          (starting ∷ [])) refl,
       (
-        follows (ignoring ignore) (magic ∷ item starting ∷ item cell ∷ []) drawn refl (λ k b. b) none_of_rectangle refl,
+        follows (ignoring ignore) (magic ∷ item starting ∷ item cell ∷ []) drawn refl (λ k b. b)
+            (none_of_rectangle ignore) refl,
         (
           follows (ignoring ignore) (magic ∷ item starting ∷ item cell ∷ item drawn ∷ []) ending refl (λ k b. b)
-              (none_of_end (drawn ∷ [])) refl,
+              (none_of_end ignore (drawn ∷ [])) refl,
           tt,
         ),
       ),

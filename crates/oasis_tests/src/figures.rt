@@ -39,7 +39,7 @@ fn take_next<R: Read>(
     let Some(record) = next(input, alloc)? else {
         return Ok(false);
     };
-    *drawn = modal.take(alloc, record)?;
+    *drawn = modal.take(alloc, input.profile().ignore, record)?;
     Ok(true)
 }
 
@@ -48,8 +48,9 @@ fn take_all(
     modal: &mut Modal,
     alloc: Global,
     bytes: &[u8],
+    profile: Profile,
 ) -> Result<Option<Drawn>, Cause<FigureRule>> {
-    let mut input = Input::new(Pieces::new(bytes, 1), Profile::STANDARD);
+    let mut input = Input::new(Pieces::new(bytes, 1), profile);
     let mut drawn = None;
     for _ in 0..bytes.len() {
         if !take_next(&mut input, modal, alloc, &mut drawn)? {
@@ -100,10 +101,10 @@ fn drawn_text(
     }
 }
 
-/// At how many shifts the last of these records draws, and what.
-fn drawn(alloc: Global, bytes: &[u8]) -> Result<String, AllocError> {
+/// At how many shifts the last of these records draws, and what, under the profile.
+pub fn drawn(alloc: Global, bytes: &[u8], profile: Profile) -> Result<String, AllocError> {
     let mut modal = Modal::new();
-    let got = take_all(&mut modal, alloc, bytes);
+    let got = take_all(&mut modal, alloc, bytes, profile);
     let shifts = modal.shifts().len();
     let text = drawn_text(alloc, &got)?;
     format!(in alloc; "{shifts} {text}")
@@ -136,7 +137,7 @@ placement-fields, magnified | 12 84 01 41 04 02 01 | 1 Magnification
 
 fn drawn_of_words(alloc: Global, words: &str) -> Result<String, Fail> {
     let records = bytes_of(alloc, words)?;
-    Ok(drawn(alloc, &records)?)
+    Ok(drawn(alloc, &records, Profile::STANDARD)?)
 }
 
 #[test]
@@ -151,7 +152,7 @@ fn figures(rt: HostRuntime) -> Result<(), Fail> {
 
 /// Whether the last of these records places a cell.
 fn is_placing(modal: &mut Modal, alloc: Global, bytes: &[u8]) -> Result<bool, AllocError> {
-    match take_all(modal, alloc, bytes) {
+    match take_all(modal, alloc, bytes, Profile::STANDARD) {
         Ok(Some(Drawn::Placement(_))) => Ok(true),
         Err(Cause::OutOfMemory) => Err(AllocError),
         _ => Ok(false),

@@ -189,6 +189,7 @@ fn ignore_of(name: &str) -> Ignore {
         texts: name == "texts",
         properties: name == "properties",
         padding: false,
+        points: false,
     }
 }
 
@@ -199,6 +200,7 @@ fn without(ignore: Ignore) -> Ignore {
         texts: !ignore.texts,
         names: !ignore.names,
         padding: true,
+        points: true,
     }
 }
 

@@ -24,6 +24,8 @@ mod memory;
 #[cfg(test)]
 mod records;
 #[cfg(test)]
+mod repeats;
+#[cfg(test)]
 mod rows;
 #[cfg(test)]
 mod unpacked;

@@ -2,7 +2,7 @@
 use Rattle.std.specs.Prelude.{◌≡◌, ◌<◌, ◌≤◌, List, length, All, Some}
 use Rattle.lvl_grid.specs.declared.point.Point.{Point}
 use Rattle.lvl_grid.specs.Winding.{IsStraight}
-use Rattle.gds_elements.specs.Types.{boundary, layer}
+use Rattle.gds_elements.specs.Types.{boundary}
 use Rattle.gds_elements.specs.Order.{an_element, a_boundary}
 use Rattle.lvl_grammar.specs.Order.{Order}
 use Rattle.gds_elements.specs.Rec.{Rec, kinds, opener}

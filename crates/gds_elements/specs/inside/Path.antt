@@ -2,8 +2,9 @@
 use Rattle.std.specs.Prelude.{◌≡◌, ℕ, ◌<◌, ◌≤◌, Bool, pos, if◌then◌else◌, List, length, Option, Some, None}
 use Rattle.std.specs.Ordering.{int_eq}
 use Rattle.lvl_grid.specs.declared.point.Point.{Point}
+use Rattle.lvl_path.specs.Repeats.{asked}
 use Rattle.lvl_path.specs.Runs.{IsLowestFault}
-use Rattle.gds_elements.specs.Types.{path, layer, pathtype, width}
+use Rattle.gds_elements.specs.Types.{path, pathtype, width}
 use Rattle.gds_elements.specs.Order.{an_element, a_path}
 use Rattle.lvl_grammar.specs.Order.{Order}
 use Rattle.gds_elements.specs.Rec.{Rec, kinds, opener, field, last_of}
@@ -43,11 +44,12 @@ pub record IsPathRead (p : Path) (piece : List Rec) : Type 0 where
 abbrev pub reach_at : Bool → ℕ → ℕ
 reach_at square h = if square then h else 0
 
--- the rule that these points breach in a path, with half a width and with square ends or not
-abbrev pub IsBandsFault : List Point → Option ℕ → Bool → ElementRule → Type 0
-IsBandsFault ps half square PointsFault = length ps < 2
-IsBandsFault ps half square WidthFault = (2 ≤ length ps) × (half ≡ None)
-IsBandsFault ps half square (PathFault f) =
+-- the rule that these points breach in a path, with half a width and with square ends or not, if repeats are ignored or
+-- not
+abbrev pub IsBandsFault : Bool → List Point → Option ℕ → Bool → ElementRule → Type 0
+IsBandsFault ignored ps half square PointsFault = length ps < 2
+IsBandsFault ignored ps half square WidthFault = (2 ≤ length ps) × (half ≡ None)
+IsBandsFault ignored ps half square (PathFault f) =
     (2 ≤ length ps) × (h : ℕ) × (half ≡ Some h)
-    × IsLowestFault ps (record { half = h; start = reach_at square h; end = reach_at square h }) f
-IsBandsFault ps half square f = ⊥
+    × IsLowestFault (asked ignored ps) (record { half = h; start = reach_at square h; end = reach_at square h }) f
+IsBandsFault ignored ps half square f = ⊥

@@ -24,7 +24,7 @@ use Rattle.gds_elements.specs.declared.element.State.TheVariants.{Boundary, Path
 use Rattle.gds_elements.specs.declared.element.Element.{Element}
 use Rattle.gds_elements.specs.declared.element.Step.{Step}
 use Rattle.gds_elements.specs.declared.element.Step.TheVariants.{Open, Whole}
-use Rattle.lvl_profile.specs.declared.limits.Limits.{Limits}
+use Rattle.lvl_profile.specs.declared.profile.Profile.{Profile}
 
 abbrev pub record_of : ℕ → ℕ → List ℕ → Rec
 record_of k d p = record { kind = k; data_type = d; payload = p }
@@ -72,10 +72,10 @@ IsStep (Open e) piece = IsReading e piece
 IsStep (Whole d) piece = IsWord an_element (kinds piece) × IsDrawn d piece
 
 -- the record was read after the others and breaches no rule, or it is refused by a rule that it breaches
-abbrev pub Takes : Limits → List Rec → Rec → Result State (Cause ElementFault) → Type 0
-Takes limits piece r (Ok s) = HasRead s (piece ++ r ∷ []) × BreachesNone limits piece r
-Takes limits piece r (Err e) = Says e (ElementBreaches limits piece r)
+abbrev pub Takes : Profile → List Rec → Rec → Result State (Cause ElementFault) → Type 0
+Takes profile piece r (Ok s) = HasRead s (piece ++ r ∷ []) × BreachesNone profile piece r
+Takes profile piece r (Err e) = Says e (ElementBreaches profile piece r)
 
-abbrev pub Steps : Limits → List Rec → Rec → Result Step (Cause ElementFault) → Type 0
-Steps limits piece r (Ok s) = IsStep s (piece ++ r ∷ []) × BreachesNone limits piece r
-Steps limits piece r (Err e) = Says e (ElementBreaches limits piece r)
+abbrev pub Steps : Profile → List Rec → Rec → Result Step (Cause ElementFault) → Type 0
+Steps profile piece r (Ok s) = IsStep s (piece ++ r ∷ []) × BreachesNone profile piece r
+Steps profile piece r (Err e) = Says e (ElementBreaches profile piece r)

@@ -1,8 +1,9 @@
 -- What is known of a path when its values are.
-use Rattle.std.specs.Prelude.{◌≡◌, ◌∷◌, ℕ, pos, List, Some, option_map}
+use Rattle.std.specs.Prelude.{Bool, ◌≡◌, ◌∷◌, ℕ, pos, List, Some, option_map}
 use Rattle.std.specs.Option.{option_or}
 use Rattle.lvl_grid.specs.Turn.{FitsPoint}
 use Rattle.lvl_grid.specs.declared.point.Point.{Point}
+use Rattle.lvl_path.specs.Repeats.{asked}
 use Rattle.lvl_path.specs.Runs.{IsLowestFault}
 use Rattle.oasis_records.specs.declared.path.Path.{Path}
 use Rattle.oasis_records.specs.declared.record.Record.{Record}
@@ -46,12 +47,13 @@ pub record IsResolved (earlier : List Record) (p : Path) (v : Resolved) : Type 0
   pub known : IsKnown earlier (APath p)
 
 -- the rule that these points, half-width and reaches breach in a path
-abbrev pub BandsBreak : List Point → ℕ → ℕ → ℕ → FigureRule → Type 0
-BandsBreak ps half start end (PathRule f) = IsLowestFault ps (record { half = half; start = start; end = end }) f
-BandsBreak ps half start end (Undefined v) = ⊥
-BandsBreak ps half start end WideLayer = ⊥
-BandsBreak ps half start end OutOfRange = ⊥
-BandsBreak ps half start end Magnification = ⊥
-BandsBreak ps half start end Angle = ⊥
-BandsBreak ps half start end Extension = ⊥
-BandsBreak ps half start end Oblique = ⊥
+abbrev pub BandsBreak : Bool → List Point → ℕ → ℕ → ℕ → FigureRule → Type 0
+BandsBreak ignored ps half start end (PathRule f) = IsLowestFault (asked ignored ps)
+    (record { half = half; start = start; end = end }) f
+BandsBreak ignored ps half start end (Undefined v) = ⊥
+BandsBreak ignored ps half start end WideLayer = ⊥
+BandsBreak ignored ps half start end OutOfRange = ⊥
+BandsBreak ignored ps half start end Magnification = ⊥
+BandsBreak ignored ps half start end Angle = ⊥
+BandsBreak ignored ps half start end Extension = ⊥
+BandsBreak ignored ps half start end Oblique = ⊥

@@ -5,6 +5,7 @@ use Rattle.lvl_grid.specs.declared.map.Map.{Map}
 use Rattle.oasis_records.specs.declared.placement.Placement.{Placement}
 use Rattle.oasis_records.specs.declared.record.Record.{Record}
 use Rattle.oasis_records.specs.declared.record.Record.TheVariants.{Placement as APlacement}
+use Rattle.lvl_profile.specs.declared.ignore.Ignore.{Ignore}
 use Rattle.oasis_figures.specs.Figures.{turn_of, shifts_of}
 use Rattle.oasis_figures.specs.Modal.{placement}
 use Rattle.oasis_figures.specs.Rules.{BreachesNone}
@@ -18,4 +19,4 @@ pub record IsResolved (earlier : List Record) (p : Placement) (by : Map) : Type 
   pub turn : turn_of p.transform ≡ Some by.turn
   pub at : placement (APlacement p ∷ earlier) ≡ by.at
   pub places : All (λ e. FitsPoint (shifted by.at e)) (shifts_of earlier (APlacement p))
-  pub none : BreachesNone earlier (APlacement p)
+  pub none : (ignore : Ignore) → BreachesNone ignore earlier (APlacement p)

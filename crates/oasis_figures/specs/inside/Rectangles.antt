@@ -5,6 +5,7 @@ use Rattle.oasis_values.specs.Deltas.{to}
 use Rattle.oasis_records.specs.declared.record.Record.{Record}
 use Rattle.oasis_records.specs.declared.record.Record.TheVariants.{Rectangle as ARectangle}
 use Rattle.oasis_records.specs.declared.rectangle.Rectangle.{Rectangle}
+use Rattle.lvl_profile.specs.declared.ignore.Ignore.{Ignore}
 use Rattle.oasis_figures.specs.Figures.{layer_by}
 use Rattle.oasis_figures.specs.Modal.{modal, layer_set, datatype_set, width_set, height_set, geometry}
 use Rattle.oasis_figures.specs.Rules.{BreachesNone}
@@ -22,4 +23,4 @@ pub record IsResolved (earlier : List Record) (r : Rectangle) (v : Resolved) : T
   pub on : v.on ≡ layer_by v.layer v.datatype
   pub low : geometry (ARectangle r ∷ earlier) ≡ v.low
   pub high : v.high ≡ shifted (to (pos v.width) (pos v.height)) v.low
-  pub none : BreachesNone earlier (ARectangle r)
+  pub none : (ignore : Ignore) → BreachesNone ignore earlier (ARectangle r)

@@ -2,6 +2,7 @@
 use Rattle.std.specs.Prelude.{◌≡◌, Bool, true, false, ◌∷◌, List, Option, Result, IfOk, IfErr, OnOk, OnErr}
 use Rattle.lvl_refusal.specs.Refused.{Says}
 use Rattle.lvl_refusal.specs.declared.Cause.{Cause}
+use Rattle.lvl_profile.specs.declared.ignore.Ignore.{Ignore}
 use Rattle.oasis_values.specs.declared.repetition.Repetition.{Repetition}
 use Rattle.oasis_records.specs.declared.record.Record.{Record}
 use Rattle.oasis_records.specs.declared.record.Record.TheVariants.{Placement, Rectangle, Polygon, Path, XyAbsolute}
@@ -15,14 +16,15 @@ use Rattle.oasis_figures.specs.declared.rule.FigureRule.{FigureRule}
 
 -- for every list of records after which the variables have these values: the record draws what is returned and breaches
 -- no rule, or it breaches the rule that is returned
-pub record Takes (m : Modal) (r : Record) (result : Result (Option Drawn) (Cause FigureRule)) (after : Modal)
+pub record Takes (ignore : Ignore) (m : Modal) (r : Record) (result : Result (Option Drawn) (Cause FigureRule))
+    (after : Modal)
     : Type 0 where
   pub drawn : IfOk result (λ d. (earlier : List Record) → StandsFor m earlier → IsDrawn earlier r d)
   pub places : IfOk result (λ d. (earlier : List Record) → StandsFor m earlier → PlacesFit (shifts_of earlier r) d)
   pub kept : OnOk result ((earlier : List Record) → StandsFor m earlier → StandsFor after (r ∷ earlier))
-  pub none : OnOk result ((earlier : List Record) → StandsFor m earlier → BreachesNone earlier r)
+  pub none : OnOk result ((earlier : List Record) → StandsFor m earlier → BreachesNone ignore earlier r)
   pub refused : IfErr result
-      (λ e. Says e (λ rule. (earlier : List Record) → StandsFor m earlier → Breaches earlier r rule))
+      (λ e. Says e (λ rule. (earlier : List Record) → StandsFor m earlier → Breaches ignore earlier r rule))
   pub same : OnErr result (after ≡ m)
 
 -- the record that sets the mode

@@ -1,6 +1,7 @@
 -- What a record adds to a cell.
 use Rattle.std.specs.Prelude.{List, ◌∷◌, ◌++◌, map, Option}
 use Rattle.lvl_cells.specs.Cells.{Rings}
+use Rattle.lvl_profile.specs.declared.ignore.Ignore.{Ignore}
 use Rattle.oasis_records.specs.declared.record.Record.{Record}
 use Rattle.oasis_figures.specs.Figures.{shapes_of, placements_of, shifts_of, in_rings, IsDrawn, PlacesFit}
 use Rattle.oasis_figures.specs.Keeping.{StandsFor}
@@ -9,12 +10,13 @@ use Rattle.oasis_figures.specs.declared.drawn.Drawn.{Drawn}
 use Rattle.oasis_figures.specs.declared.modal.Modal.{Modal}
 use Rattle.oasis_library.specs.Cells.{PlainDrawing}
 
--- the modal variables are those after the record, and `drawn` is what it draws after the records before it in its cell
+-- the modal variables are those after the record, and `drawn` is what it draws after the records before it in its cell;
+-- it breaches no rule, whatever is ignored of it
 pub record IsTaken (earlier : List Record) (r : Record) (drawn : Option Drawn) (m : Modal) : Type 0 where
   pub stands : StandsFor m (r ∷ earlier)
   pub draws : IsDrawn earlier r drawn
   pub fits : PlacesFit (shifts_of earlier r) drawn
-  pub none : BreachesNone earlier r
+  pub none : (ignore : Ignore) × BreachesNone ignore earlier r
 
 -- a cell with what the record draws added
 abbrev pub grown : List Record → Record → PlainDrawing Rings → PlainDrawing Rings

@@ -2,8 +2,10 @@ use Rattle.std.proofs.Common.{◌≡◌, ◌≤◌, ℕ, [], ◌∷◌, ◌++◌
 use Rattle.std.proofs.lemmas.List.{append-nil}
 use Rattle.std.specs.Prelude.{Some}
 use Rattle.lvl_grammar.specs.inside.ReadTo.{ReadTo}
+use Rattle.lvl_profile.specs.declared.profile.Profile.{Profile}
 use Rattle.oasis_values.specs.Input.{input_profile, input_offset, input_reader, bytes_left}
 use Rattle.oasis_stream.specs.Blocks.{inside}
+use Rattle.oasis_stream.specs.Rules.{RecordBreaches, KeepsRules}
 use Rattle.oasis_stream.specs.inside.Reached.{HasReached}
 use Rattle.oasis_stream.proofs.Within.{inside_begin, inside_on, inside_takes, inside_whole, inside_breached}
 use Rattle.oasis_library.specs.inside.Holds.{Holds}
@@ -46,7 +48,9 @@ returns-in_err-take-clause-refused c =
     let p = c.in-Ok.ensures.reads (rs ++ to.records) (subst (λ o. HasReached o (rs ++ to.records)) (sym c.order.ensures)
     to.holds.order) in
     inside_breached (input_profile c.args.input.now) rs ys (λ more. Holds c.records.reading (rs ++ more)) to
-    c.in-Ok.record f c.records.invariant.live c.records.invariant.profile p (b (rs ++ to.records) to.holds))
+    c.in-Ok.record f c.records.invariant.live c.records.invariant.profile p
+    (subst (λ (i : Profile). RecordBreaches i (rs ++ to.records) c.in-Ok.record f) c.profile-profile.ensures
+    (b (rs ++ to.records) to.holds)))
     c.in_err-take.ensures.refused c.from_residual.ensures
 
 pub records-preserved : goal.records-preserved
@@ -66,7 +70,8 @@ records-preserved c =
           (subst (λ o. HasReached o (rs ++ to.records)) (sym c.order.ensures) to.holds.order) in
           inside_on (input_profile c.args.input.now) rs ys (λ more. Holds c.records.reading (rs ++ more))
           (λ more. Holds y (rs ++ more)) to r c.records.invariant.live c.records.invariant.profile p
-          (c.in_ok-take.ensures.none (rs ++ to.records) to.holds)
+          (subst (λ (i : Profile). KeepsRules i (rs ++ to.records) r) c.profile-profile.ensures
+          (c.in_ok-take.ensures.none (rs ++ to.records) to.holds))
           (subst (Holds y) (append_assoc rs to.records (r ∷ []))
           (c.in_ok-take.ensures.kept (rs ++ to.records) to.holds));
       room = c.in_ok-take.ensures.room ∙ c.records.invariant.room;

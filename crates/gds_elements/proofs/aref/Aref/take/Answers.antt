@@ -27,8 +27,8 @@ returns-in_ok-counts-in-Goes c = λ piece d h.
     let b = aref_goes c.args.self s' piece r h t e.name e.flip e.turn c.in_ok-counts-in-Goes.ensures.columns
     c.in_ok-counts-in-Goes.ensures.rows in (
       b,
-      allowed c.args.limits piece r (leads_begins _ (left c.in-Goes.stage) b.leads)
-          (law_aref c.args.limits piece r h.opened e.allowed c.in_ok-counts-in-Goes.ensures.allowed
+      allowed c.args.profile piece r (leads_begins _ (left c.in-Goes.stage) b.leads)
+          (law_aref c.args.profile piece r h.opened e.allowed c.in_ok-counts-in-Goes.ensures.allowed
           (λ x. absurd (subst (EndsBy xy c.args.kind) c.in-Goes.is c.after.ensures.last x))),
     )
 
@@ -40,8 +40,8 @@ returns-in_ok-reference-in-Ends c = λ piece d h.
     let e = c.in_ok-reference-in-Ends.ensures in
     let b = aref_ends c.args.self piece r c.in_ok-reference-in-Ends.reference h t x e.value in (
       b,
-      allowed c.args.limits piece r (leads_begins _ (one endel) b.leads)
-          (law_aref c.args.limits piece r h.opened (placing_at_points c.args.kind c.args.payload.now x)
+      allowed c.args.profile piece r (leads_begins _ (one endel) b.leads)
+          (law_aref c.args.profile piece r h.opened (placing_at_points c.args.kind c.args.payload.now x)
           (λ y. absurd (omega (arith, x, y)))
           (λ _. steps_of c.args.self piece (points c.args.payload.now) h e.allowed)),
     )
@@ -49,7 +49,7 @@ returns-in_ok-reference-in-Ends c = λ piece d h.
 pub returns-in-Nowhere : goal.returns-in-Nowhere
 returns-in-Nowhere c = λ piece d h.
     let r = record_of c.args.kind d c.args.payload.now in
-    law_misplaced c.args.limits piece r (left c.args.self.stage) c.out_of_order.result h.leads
+    law_misplaced c.args.profile piece r (left c.args.self.stage) c.out_of_order.result h.leads
     (c.after.ensures.order ∙ ap (left_after left) c.in-Nowhere.is) c.requires.known c.out_of_order.ensures
 
 pub returns-in_err-placing-in-Goes : goal.returns-in_err-placing-in-Goes
@@ -57,19 +57,20 @@ returns-in_err-placing-in-Goes c = λ piece d h.
     let r = record_of c.args.kind d c.args.payload.now in
     let t = c.after.ensures.order ∙ ap (left_after left) c.in-Goes.is in
     let g = in_order piece r (left c.args.self.stage) (left c.in-Goes.stage) h.leads t in
-    takes_broken c.args.limits piece r c.from_residual.result c.in_err-placing-in-Goes.field-0.0
+    takes_broken c.args.profile piece r c.from_residual.result c.in_err-placing-in-Goes.field-0.0
     (IsPlacingFault c.args.kind c.args.payload.now) c.from_residual.ensures g
-    (placing_fault c.args.limits piece r (inr h.opened)) c.in_err-placing-in-Goes.ensures.refused
+    (placing_fault c.args.profile piece r (inr h.opened)) c.in_err-placing-in-Goes.ensures.refused
 
 pub returns-in_err-counts-in-Goes : goal.returns-in_err-counts-in-Goes
 returns-in_err-counts-in-Goes c = λ piece d h.
     let r = record_of c.args.kind d c.args.payload.now in
     let t = c.after.ensures.order ∙ ap (left_after left) c.in-Goes.is in
     let g = in_order piece r (left c.args.self.stage) (left c.in-Goes.stage) h.leads t in
-    takes_broken c.args.limits piece r c.from_residual-in_err-counts-in-Goes.result c.in_err-counts-in-Goes.field-0.0
-    (λ k. (c.args.kind ≡ colrow) × IsCountFault c.args.limits c.args.payload.now k) c.from_residual-in_err-counts-in-Goes.ensures
+    takes_broken c.args.profile piece r c.from_residual-in_err-counts-in-Goes.result c.in_err-counts-in-Goes.field-0.0
+    (λ k. (c.args.kind ≡ colrow) × IsCountFault c.args.profile.limits c.args.payload.now k)
+    c.from_residual-in_err-counts-in-Goes.ensures
     g
-    (count_fault c.args.limits piece r h.opened) c.in_err-counts-in-Goes.ensures.refused
+    (count_fault c.args.profile piece r h.opened) c.in_err-counts-in-Goes.ensures.refused
 
 pub returns-in_err-reference-in-Ends : goal.returns-in_err-reference-in-Ends
 returns-in_err-reference-in-Ends c = λ piece d h.
@@ -77,7 +78,8 @@ returns-in_err-reference-in-Ends c = λ piece d h.
     let t = c.after.ensures.order ∙ ap (left_after left) c.in-Ends.is in
     let last = subst (EndsBy xy c.args.kind) c.in-Ends.is c.after.ensures.last in
     let g = in_order piece r (left c.args.self.stage) (one endel) h.leads t in
-    takes_broken c.args.limits piece r c.from_residual-in_err-reference-in-Ends.result c.in_err-reference-in-Ends.field-0.0
+    takes_broken c.args.profile piece r c.from_residual-in_err-reference-in-Ends.result
+    c.in_err-reference-in-Ends.field-0.0
     (IsArrayFault (points c.args.payload.now) c.args.self.counts.columns c.args.self.counts.rows)
     c.from_residual-in_err-reference-in-Ends.ensures g
-    (array_fault c.args.limits c.args.self piece r h last) c.in_err-reference-in-Ends.ensures.refused
+    (array_fault c.args.profile c.args.self piece r h last) c.in_err-reference-in-Ends.ensures.refused

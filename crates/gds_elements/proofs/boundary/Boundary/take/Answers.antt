@@ -13,52 +13,53 @@ use Rattle.gds_elements.proofs.Boundaries.{boundary_goes, boundary_ends}
 use Rattle.gds_elements.proofs.boundary.Boundary.take.Goals as goal
 
 pub returns-in_ok-layer-in-Goes : goal.returns-in_ok-layer-in-Goes
-returns-in_ok-layer-in-Goes c = λ limits piece d h.
+returns-in_ok-layer-in-Goes c = λ profile piece d h.
     let r = record_of c.args.kind d c.args.payload.now in
     let t = c.after.ensures.order ∙ ap (left_after left) c.in-Goes.is in
     let e = c.in_ok-layer-in-Goes.ensures in
     let b = boundary_goes c.args.self (record { stage = c.in-Goes.stage; layer = c.in_ok-layer-in-Goes.layer }) piece r
     h t e.layer e.datatype in (
       b,
-      allowed limits piece r (leads_begins _ (left c.in-Goes.stage) b.leads)
-          (law_boundary limits piece r h.opened e.allowed
+      allowed profile piece r (leads_begins _ (left c.in-Goes.stage) b.leads)
+          (law_boundary profile piece r h.opened e.allowed
           (λ x. absurd (subst (EndsBy xy c.args.kind) c.in-Goes.is c.after.ensures.last x))),
     )
 
 pub returns-in_ok-ring-in-Ends : goal.returns-in_ok-ring-in-Ends
-returns-in_ok-ring-in-Ends c = λ limits piece d h.
+returns-in_ok-ring-in-Ends c = λ profile piece d h.
     let r = record_of c.args.kind d c.args.payload.now in
     let t = c.after.ensures.order ∙ ap (left_after left) c.in-Ends.is in
     let x : c.args.kind ≡ xy = subst (EndsBy xy c.args.kind) c.in-Ends.is c.after.ensures.last in
     let e = c.in_ok-ring-in-Ends.ensures in
     let b = boundary_ends c.args.self piece r c.in_ok-ring-in-Ends.ring h t x e.value in (
       b,
-      allowed limits piece r (leads_begins _ (one endel) b.leads)
-          (law_boundary limits piece r h.opened
+      allowed profile piece r (leads_begins _ (one endel) b.leads)
+          (law_boundary profile piece r h.opened
           (λ l. absurd (elim l [ inl y ↦ omega (arith, y, x) | inr y ↦ omega (arith, y, x) ])) (λ _. e.allowed)),
     )
 
 pub returns-in-Nowhere : goal.returns-in-Nowhere
-returns-in-Nowhere c = λ limits piece d h.
+returns-in-Nowhere c = λ profile piece d h.
     let r = record_of c.args.kind d c.args.payload.now in
-    law_misplaced limits piece r (left c.args.self.stage) c.out_of_order.result h.leads
+    law_misplaced profile piece r (left c.args.self.stage) c.out_of_order.result h.leads
     (c.after.ensures.order ∙ ap (left_after left) c.in-Nowhere.is) c.requires.known c.out_of_order.ensures
 
 pub returns-in_err-layer-in-Goes : goal.returns-in_err-layer-in-Goes
-returns-in_err-layer-in-Goes c = λ limits piece d h.
+returns-in_err-layer-in-Goes c = λ profile piece d h.
     let r = record_of c.args.kind d c.args.payload.now in
     let t = c.after.ensures.order ∙ ap (left_after left) c.in-Goes.is in
     let g = in_order piece r (left c.args.self.stage) (left c.in-Goes.stage) h.leads t in
     let e = c.in_err-layer-in-Goes.ensures.refused in
-    takes_one limits piece r c.from_residual.result c.in_err-layer-in-Goes.field-0.0 LayerKind c.from_residual.ensures g e.0
+    takes_one profile piece r c.from_residual.result c.in_err-layer-in-Goes.field-0.0 LayerKind c.from_residual.ensures
+    g e.0
     (e.1, inl h.opened, e.2)
 
 pub returns-in_err-ring-in-Ends : goal.returns-in_err-ring-in-Ends
-returns-in_err-ring-in-Ends c = λ limits piece d h.
+returns-in_err-ring-in-Ends c = λ profile piece d h.
     let r = record_of c.args.kind d c.args.payload.now in
     let t = c.after.ensures.order ∙ ap (left_after left) c.in-Ends.is in
     let last = subst (EndsBy xy c.args.kind) c.in-Ends.is c.after.ensures.last in
     let g = in_order piece r (left c.args.self.stage) (one endel) h.leads t in
-    takes_broken limits piece r c.from_residual-in_err-ring-in-Ends.result c.in_err-ring-in-Ends.field-0.0
+    takes_broken profile piece r c.from_residual-in_err-ring-in-Ends.result c.in_err-ring-in-Ends.field-0.0
     (IsRingFault (points c.args.payload.now)) c.from_residual-in_err-ring-in-Ends.ensures g
-    (ring_fault limits piece r h.opened last) c.in_err-ring-in-Ends.ensures.refused
+    (ring_fault profile piece r h.opened last) c.in_err-ring-in-Ends.ensures.refused

@@ -5,29 +5,30 @@ use Rattle.gds_elements.proofs.element.State.take.Goals as goal
 
 pub returns-in-Boundary : goal.returns-in-Boundary
 returns-in-Boundary c = λ piece d h.
-    c.going.ensures c.args.limits piece (record_of c.args.kind d c.args.payload.now)
-    (c.take.ensures c.args.limits piece d (subst (λ (s : State). HasRead s piece) c.in-Boundary.is h))
+    c.going.ensures c.args.profile piece (record_of c.args.kind d c.args.payload.now)
+    (c.take.ensures c.args.profile piece d (subst (λ (s : State). HasRead s piece) c.in-Boundary.is h))
 
 pub returns-in-Path : goal.returns-in-Path
 returns-in-Path c = λ piece d h.
-    c.going-in-Path.ensures c.args.limits piece (record_of c.args.kind d c.args.payload.now)
-    (c.take-in-Path.ensures c.args.limits piece d (subst (λ (s : State). HasRead s piece) c.in-Path.is h))
+    c.going-in-Path.ensures c.args.profile piece (record_of c.args.kind d c.args.payload.now)
+    (c.take-in-Path.ensures piece d (subst (λ (s : State). HasRead s piece) c.in-Path.is h))
 
 pub returns-in-Sref : goal.returns-in-Sref
 returns-in-Sref c = λ piece d h.
-    c.going-in-Sref.ensures c.args.limits piece (record_of c.args.kind d c.args.payload.now)
-    (c.take-in-Sref.ensures c.args.limits piece d (subst (λ (s : State). HasRead s piece) c.in-Sref.is h))
+    c.going-in-Sref.ensures c.args.profile piece (record_of c.args.kind d c.args.payload.now)
+    (c.take-in-Sref.ensures c.args.profile piece d (subst (λ (s : State). HasRead s piece) c.in-Sref.is h))
 
 pub returns-in-Aref : goal.returns-in-Aref
 returns-in-Aref c = λ piece d h.
-    c.going-in-Aref.ensures c.args.limits piece (record_of c.args.kind d c.args.payload.now)
+    c.going-in-Aref.ensures c.args.profile piece (record_of c.args.kind d c.args.payload.now)
     (c.take-in-Aref.ensures piece d (subst (λ (s : State). HasRead s piece) c.in-Aref.is h))
 
 pub returns-in-Text : goal.returns-in-Text
 returns-in-Text c = λ piece d h.
-    c.going-in-Text.ensures c.args.limits piece (record_of c.args.kind d c.args.payload.now)
-    (c.take-in-Text.ensures c.args.limits piece d (subst (λ (s : State). HasRead s piece) c.in-Text.is h))
+    c.going-in-Text.ensures c.args.profile piece (record_of c.args.kind d c.args.payload.now)
+    (c.take-in-Text.ensures c.args.profile piece d (subst (λ (s : State). HasRead s piece) c.in-Text.is h))
 
 pub returns-in-Drawn : goal.returns-in-Drawn
 returns-in-Drawn c =
-    λ piece d h. c.end.ensures c.args.limits piece d c.args.payload.now (subst (λ (s : State). HasRead s piece) c.in-Drawn.is h)
+    λ piece d h. c.end.ensures c.args.profile piece d c.args.payload.now
+    (subst (λ (s : State). HasRead s piece) c.in-Drawn.is h)

@@ -1,4 +1,5 @@
 use Rattle.std.proofs.Common.{◌≡◌, ◌∙◌, ℕ, ap, subst, inl, inr, arith}
+use Rattle.lvl_path.specs.Repeats.{asked}
 use Rattle.lvl_path.specs.Runs.{IsPath}
 use Rattle.gds_elements.specs.Types.{xy, endel}
 use Rattle.lvl_grammar.specs.Order.{one}
@@ -17,7 +18,8 @@ use Rattle.gds_elements.proofs.Paths.{reach_is, bands_fault}
 use Rattle.gds_elements.proofs.path.Path.take.Goals as goal
 
 pub returns-in_ok-half-in-Goes : goal.returns-in_ok-half-in-Goes
-returns-in_ok-half-in-Goes c = λ limits piece d h.
+returns-in_ok-half-in-Goes c = λ piece d h.
+    let profile = c.args.profile in
     let r = record_of c.args.kind d c.args.payload.now in
     let t = c.after.ensures.order ∙ ap (left_after left) c.in-Goes.is in
     let p' : Path = record {
@@ -30,75 +32,83 @@ returns-in_ok-half-in-Goes c = λ limits piece d h.
     c.in_ok-layer-in-Goes.ensures.datatype c.in_ok-square-in-Goes.ensures.value c.in_ok-half-in-Goes.ensures.value
     in (
       b,
-      allowed limits piece r (leads_begins _ (left c.in-Goes.stage) b.leads)
-          (law_path limits piece r h.opened c.in_ok-layer-in-Goes.ensures.allowed c.in_ok-square-in-Goes.ensures.allowed
+      allowed profile piece r (leads_begins _ (left c.in-Goes.stage) b.leads)
+          (law_path profile piece r h.opened c.in_ok-layer-in-Goes.ensures.allowed
+          c.in_ok-square-in-Goes.ensures.allowed
           c.in_ok-half-in-Goes.ensures.allowed
           (λ x. absurd (subst (EndsBy xy c.args.kind) c.in-Goes.is c.after.ensures.last x))),
     )
 
 pub returns-in_err-rings-in-Ends : goal.returns-in_err-rings-in-Ends
-returns-in_err-rings-in-Ends c = λ limits piece d h.
+returns-in_err-rings-in-Ends c = λ piece d h.
+    let profile = c.args.profile in
     let r = record_of c.args.kind d c.args.payload.now in
     let t = c.after.ensures.order ∙ ap (left_after left) c.in-Ends.is in
     let last = subst (EndsBy xy c.args.kind) c.in-Ends.is c.after.ensures.last in
     let e = c.in_err-rings-in-Ends.field-0.0 in
-    takes_broken limits piece r c.from_residual-in_err-rings-in-Ends.result e
-    (IsBandsFault (points c.args.payload.now) c.args.self.half c.args.self.square)
+    takes_broken profile piece r c.from_residual-in_err-rings-in-Ends.result e
+    (IsBandsFault profile.ignore.points (points c.args.payload.now) c.args.self.half c.args.self.square)
     c.from_residual-in_err-rings-in-Ends.ensures
     (in_order piece r (left c.args.self.stage) (one endel) h.leads t)
-    (bands_fault limits c.args.self piece r h last) c.in_err-rings-in-Ends.ensures.refused
+    (bands_fault profile c.args.self piece r h last) c.in_err-rings-in-Ends.ensures.refused
 
 pub returns-in_ok-rings-in-Ends : goal.returns-in_ok-rings-in-Ends
-returns-in_ok-rings-in-Ends c = λ limits piece d h.
+returns-in_ok-rings-in-Ends c = λ piece d h.
+    let profile = c.args.profile in
     let r = record_of c.args.kind d c.args.payload.now in
-    let ps = points c.args.payload.now in
+    let qs = asked profile.ignore.points (points c.args.payload.now) in
     let t = c.after.ensures.order ∙ ap (left_after left) c.in-Ends.is in
     let x : c.args.kind ≡ xy = subst (EndsBy xy c.args.kind) c.in-Ends.is c.after.ensures.last in
     let e = c.in_ok-rings-in-Ends.ensures in
     let known = some_of c.args.self.half e.width in
     let b = path_ends c.args.self piece r known.0 c.in_ok-rings-in-Ends.rings h t x known.1 (e.value known.0 known.1) in
     let ok = e.allowed known.0 known.1 in
-    let ok' = subst (λ (n : ℕ). IsPath ps (record { half = known.0; start = n; end = n }))
+    let ok' = subst (λ (n : ℕ). IsPath qs (record { half = known.0; start = n; end = n }))
     (reach_is c.args.self piece known.0 h known.1) ok in
-    let ok'' = subst (λ (n : ℕ). IsPath ps (record { half = n; start = end_of piece; end = end_of piece }))
+    let ok'' = subst (λ (n : ℕ). IsPath qs (record { half = n; start = end_of piece; end = end_of piece }))
     (half_is c.args.self piece known.0 h known.1) ok' in (
       b,
-      allowed limits piece r (leads_begins _ (one endel) b.leads)
-          (law_path limits piece r h.opened (λ l. absurd
+      allowed profile piece r (leads_begins _ (one endel) b.leads)
+          (law_path profile piece r h.opened (λ l. absurd
           (elim l [ inl y ↦ omega (arith, y, x) | inr y ↦ omega (arith, y, x) ]))
           (λ y. absurd (omega (arith, x, y))) (λ y. absurd (omega (arith, x, y)))
           (λ _. (e.enough, width_read c.args.self piece h e.width, ok''))),
     )
 
 pub returns-in-Nowhere : goal.returns-in-Nowhere
-returns-in-Nowhere c = λ limits piece d h.
+returns-in-Nowhere c = λ piece d h.
+    let profile = c.args.profile in
     let r = record_of c.args.kind d c.args.payload.now in
-    law_misplaced limits piece r (left c.args.self.stage) c.out_of_order.result h.leads
+    law_misplaced profile piece r (left c.args.self.stage) c.out_of_order.result h.leads
     (c.after.ensures.order ∙ ap (left_after left) c.in-Nowhere.is) c.requires.known c.out_of_order.ensures
 
 pub returns-in_err-layer-in-Goes : goal.returns-in_err-layer-in-Goes
-returns-in_err-layer-in-Goes c = λ limits piece d h.
+returns-in_err-layer-in-Goes c = λ piece d h.
+    let profile = c.args.profile in
     let r = record_of c.args.kind d c.args.payload.now in
     let t = c.after.ensures.order ∙ ap (left_after left) c.in-Goes.is in
     let g = in_order piece r (left c.args.self.stage) (left c.in-Goes.stage) h.leads t in
     let e = c.in_err-layer-in-Goes.ensures.refused in
-    takes_one limits piece r c.from_residual.result c.in_err-layer-in-Goes.field-0.0 LayerKind c.from_residual.ensures g e.0
+    takes_one profile piece r c.from_residual.result c.in_err-layer-in-Goes.field-0.0 LayerKind c.from_residual.ensures
+    g e.0
     (e.1, inr h.opened, e.2)
 
 pub returns-in_err-square-in-Goes : goal.returns-in_err-square-in-Goes
-returns-in_err-square-in-Goes c = λ limits piece d h.
+returns-in_err-square-in-Goes c = λ piece d h.
+    let profile = c.args.profile in
     let r = record_of c.args.kind d c.args.payload.now in
     let t = c.after.ensures.order ∙ ap (left_after left) c.in-Goes.is in
     let g = in_order piece r (left c.args.self.stage) (left c.in-Goes.stage) h.leads t in
     let e = c.in_err-square-in-Goes.ensures.refused in
-    takes_one limits piece r c.from_residual-in_err-square-in-Goes.result c.in_err-square-in-Goes.field-0.0 PathType
+    takes_one profile piece r c.from_residual-in_err-square-in-Goes.result c.in_err-square-in-Goes.field-0.0 PathType
     c.from_residual-in_err-square-in-Goes.ensures g e.0 (e.1, h.opened, e.2, e.3)
 
 pub returns-in_err-half-in-Goes : goal.returns-in_err-half-in-Goes
-returns-in_err-half-in-Goes c = λ limits piece d h.
+returns-in_err-half-in-Goes c = λ piece d h.
+    let profile = c.args.profile in
     let r = record_of c.args.kind d c.args.payload.now in
     let t = c.after.ensures.order ∙ ap (left_after left) c.in-Goes.is in
     let g = in_order piece r (left c.args.self.stage) (left c.in-Goes.stage) h.leads t in
     let e = c.in_err-half-in-Goes.ensures.refused in
-    takes_one limits piece r c.from_residual-in_err-half-in-Goes.result c.in_err-half-in-Goes.field-0.0 Width
+    takes_one profile piece r c.from_residual-in_err-half-in-Goes.result c.in_err-half-in-Goes.field-0.0 Width
     c.from_residual-in_err-half-in-Goes.ensures g e.0 (h.opened, inl (e.1, e.2))

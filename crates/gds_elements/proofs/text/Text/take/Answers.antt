@@ -13,37 +13,38 @@ use Rattle.gds_elements.proofs.Texts.{text_goes, text_ends}
 use Rattle.gds_elements.proofs.text.Text.take.Goals as goal
 
 pub returns-in_ok-check_points-in-Goes : goal.returns-in_ok-check_points-in-Goes
-returns-in_ok-check_points-in-Goes c = λ limits piece d h.
+returns-in_ok-check_points-in-Goes c = λ profile piece d h.
     let r = record_of c.args.kind d c.args.payload.now in
     let t' : Text = record { stage = c.in-Goes.stage } in
     let b = text_goes c.args.self t' piece r h (c.after.ensures.order ∙ ap (left_after left) c.in-Goes.is) in (
       b,
-      allowed limits piece r (leads_begins _ (left c.in-Goes.stage) b.leads)
-          (law_text limits piece r h.opened c.in_ok-check_points-in-Goes.ensures.allowed),
+      allowed profile piece r (leads_begins _ (left c.in-Goes.stage) b.leads)
+          (law_text profile piece r h.opened c.in_ok-check_points-in-Goes.ensures.allowed),
     )
 
 pub returns-in-Ends : goal.returns-in-Ends
-returns-in-Ends c = λ limits piece d h.
+returns-in-Ends c = λ profile piece d h.
     let r = record_of c.args.kind d c.args.payload.now in
     let t = c.after.ensures.order ∙ ap (left_after left) c.in-Ends.is in
     let last = subst (EndsBy string c.args.kind) c.in-Ends.is c.after.ensures.last in
     let b = text_ends c.args.self piece r h t in (
       b,
-      allowed limits piece r (leads_begins _ (one endel) b.leads)
-          (law_text limits piece r h.opened (λ x. absurd (omega (arith, x, last)))),
+      allowed profile piece r (leads_begins _ (one endel) b.leads)
+          (law_text profile piece r h.opened (λ x. absurd (omega (arith, x, last)))),
     )
 
 pub returns-in-Nowhere : goal.returns-in-Nowhere
-returns-in-Nowhere c = λ limits piece d h.
+returns-in-Nowhere c = λ profile piece d h.
     let r = record_of c.args.kind d c.args.payload.now in
-    law_misplaced limits piece r (left c.args.self.stage) c.out_of_order.result h.leads
+    law_misplaced profile piece r (left c.args.self.stage) c.out_of_order.result h.leads
     (c.after.ensures.order ∙ ap (left_after left) c.in-Nowhere.is) c.requires.known c.out_of_order.ensures
 
 pub returns-in_err-check_points-in-Goes : goal.returns-in_err-check_points-in-Goes
-returns-in_err-check_points-in-Goes c = λ limits piece d h.
+returns-in_err-check_points-in-Goes c = λ profile piece d h.
     let r = record_of c.args.kind d c.args.payload.now in
     let t = c.after.ensures.order ∙ ap (left_after left) c.in-Goes.is in
     let g = in_order piece r (left c.args.self.stage) (left c.in-Goes.stage) h.leads t in
     let e = c.in_err-check_points-in-Goes.ensures.refused in
-    takes_one limits piece r c.from_residual.result c.in_err-check_points-in-Goes.field-0.0 Points c.from_residual.ensures g
+    takes_one profile piece r c.from_residual.result c.in_err-check_points-in-Goes.field-0.0 Points
+    c.from_residual.ensures g
     e.0 (e.1, inr (inr (inr (inr h.opened, e.2))))

@@ -13,6 +13,11 @@ use Rattle.oasis_figures.proofs.Figures.{list_kept, repetition_kept}
 use Rattle.oasis_figures.proofs.Taking.{takes_refused}
 use Rattle.oasis_figures.proofs.modal.Modal.take_path.Goals as goal
 
+pub returns-in_err-stroke : goal.returns-in_err-stroke
+returns-in_err-stroke c =
+    takes_refused c.args.ignore c.args.self.now (a_path c.args.path) c.from_residual.result
+    (Breach c.in_err-stroke.field-0.0) c.from_residual.ensures (c.in_err-stroke.ensures.err c.args.ignore)
+
 pub returns-in_err-vertices : goal.returns-in_err-vertices
 returns-in_err-vertices c =
     let m = c.args.self.now in
@@ -23,8 +28,9 @@ returns-in_err-vertices c =
     let read = read_after m p v list.result c.known.result.now qs c.in_ok-stroke.ensures.ok list.ensures
     c.known.ensures refl in
     let refusal = c.in_err-vertices.field-0.0 in
-    let refused = vertices_refused m p v qs refusal read c.in_err-vertices.ensures.refused in
-    takes_refused m (a_path p) c.from_residual-in_err-vertices.result refusal c.from_residual-in_err-vertices.ensures
+    let refused = vertices_refused c.args.ignore m p v qs refusal read c.in_err-vertices.ensures.refused in
+    takes_refused c.args.ignore m (a_path p) c.from_residual-in_err-vertices.result refusal
+    c.from_residual-in_err-vertices.ensures
     refused
 
 pub returns-in_default : goal.returns-in_default
@@ -36,9 +42,9 @@ returns-in_default c =
     let qs = map (shifted v.at) c.known.result.now in
     let read = read_after m p v list.result c.known.result.now qs c.in_ok-stroke.ensures.ok list.ensures
     c.known.ensures refl in
-    let refused = extension_refused m p v qs read c.in_ok-vertices.ensures.fit
+    let refused = extension_refused c.args.ignore m p v qs read c.in_ok-vertices.ensures.fit
     (sym c.reaches.ensures ∙ c.in_default.is) in
-    takes_refused m (a_path p) (Err (Breach Extension)) (Breach Extension) (refl, refl) refused
+    takes_refused c.args.ignore m (a_path p) (Err (Breach Extension)) (Breach Extension) (refl, refl) refused
 
 pub returns-in_err-rings : goal.returns-in_err-rings
 returns-in_err-rings c =
@@ -46,17 +52,18 @@ returns-in_err-rings c =
     let p = c.args.path in
     let v = c.in_ok-stroke.field-0 in
     let list = c.listed-points in
-    let qs = c.deref.result.now in
-    let moved : qs ≡ map (shifted v.at) c.known.result.now = c.deref.ensures.value ∙ c.in_ok-vertices.ensures.value in
+    let qs = c.in_ok-vertices.vertices.items in
+    let moved : qs ≡ map (shifted v.at) c.known.result.now = c.in_ok-vertices.ensures.value in
     let read = read_after m p v list.result c.known.result.now qs c.in_ok-stroke.ensures.ok list.ensures
     c.known.ensures moved in
     let fit = subst (λ (ps : List Point). All FitsPoint ps) (sym moved) c.in_ok-vertices.ensures.fit in
     let x = c.in-Some.start in
     let y = c.in-Some.end in
     let refusal = c.in_err-rings.field-0.0 in
-    let refused = bands_refused m p v qs x y refusal read fit (sym c.reaches.ensures ∙ c.in-Some.is)
+    let refused = bands_refused c.args.ignore m p v qs x y refusal read fit (sym c.reaches.ensures ∙ c.in-Some.is)
     c.in_err-rings.ensures.refused in
-    takes_refused m (a_path p) c.from_residual-in_err-rings.result refusal c.from_residual-in_err-rings.ensures refused
+    takes_refused c.args.ignore m (a_path p) c.from_residual-in_err-rings.result refusal
+    c.from_residual-in_err-rings.ensures refused
 
 pub returns : goal.returns
 returns c =
@@ -64,8 +71,8 @@ returns c =
     let p = c.args.path in
     let v = c.in_ok-stroke.field-0 in
     let list = c.listed-points in
-    let qs = c.deref.result.now in
-    let moved : qs ≡ map (shifted v.at) c.known.result.now = c.deref.ensures.value ∙ c.in_ok-vertices.ensures.value in
+    let qs = c.in_ok-vertices.vertices.items in
+    let moved : qs ≡ map (shifted v.at) c.known.result.now = c.in_ok-vertices.ensures.value in
     let read = read_after m p v list.result c.known.result.now qs c.in_ok-stroke.ensures.ok list.ensures
     c.known.ensures moved in
     let fit = subst (λ (ps : List Point). All FitsPoint ps) (sym moved) c.in_ok-vertices.ensures.fit in
@@ -106,7 +113,7 @@ returns c =
           };
       none = λ earlier s.
           let a = read earlier s in
-          path_none earlier p v qs x y a fit (has_reaches earlier p v x y a.values both) rings.path;
+          path_none c.args.ignore earlier p v qs x y a fit (has_reaches earlier p v x y a.values both) rings.path;
       refused = tt;
       same = tt;
     }

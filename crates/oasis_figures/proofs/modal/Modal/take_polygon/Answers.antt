@@ -1,5 +1,6 @@
 use Rattle.std.proofs.Common.{refl, sym, map}
 use Rattle.lvl_grid.specs.Turn.{shifted}
+use Rattle.lvl_refusal.specs.declared.Cause.TheVariants.{Breach}
 use Rattle.oasis_figures.specs.Modal.{modal, polygon_set, repetition_set}
 use Rattle.oasis_figures.specs.inside.Polygons.{a_polygon}
 use Rattle.oasis_figures.proofs.Figures.{list_kept, repetition_kept}
@@ -8,7 +9,7 @@ use Rattle.oasis_figures.proofs.Taking.{takes_refused}
 use Rattle.oasis_figures.proofs.modal.Modal.take_polygon.Goals as goal
 
 pub returns-in_err-ring : goal.returns-in_err-ring
-returns-in_err-ring c =
+returns-in_err-ring c = λ ignore.
     let m = c.args.self.now in
     let p = c.args.polygon in
     let v = c.in_ok-values.values in
@@ -17,12 +18,12 @@ returns-in_err-ring c =
     let read = read_after m p v list.result c.known.result.now qs c.in_ok-values.ensures.ok list.ensures
     c.known.ensures refl in
     let refusal = c.in_err-ring.field-0.0 in
-    let refused = ring_refused m p v qs refusal read c.in_err-ring.ensures.refused in
-    takes_refused m (a_polygon p) c.from_residual-in_err-ring.result refusal c.from_residual-in_err-ring.ensures
+    let refused = ring_refused ignore m p v qs refusal read c.in_err-ring.ensures.refused in
+    takes_refused ignore m (a_polygon p) c.from_residual-in_err-ring.result refusal c.from_residual-in_err-ring.ensures
     refused
 
 pub returns : goal.returns
-returns c =
+returns c = λ ignore.
     let m = c.args.self.now in
     let p = c.args.polygon in
     let v = c.in_ok-values.values in
@@ -58,7 +59,12 @@ returns c =
             repeated = c.is_some-self.ensures;
             single = s.single;
           };
-      none = λ earlier s. polygon_none earlier p v qs (read earlier s) ring.fit ring.ring;
+      none = λ earlier s. polygon_none ignore earlier p v qs (read earlier s) ring.fit ring.ring;
       refused = tt;
       same = tt;
     }
+
+pub returns-in_err-values : goal.returns-in_err-values
+returns-in_err-values c = λ ignore.
+    takes_refused ignore c.args.self.now (a_polygon c.args.polygon) c.from_residual.result
+    (Breach c.in_err-values.field-0.0) c.from_residual.ensures (c.in_err-values.ensures.err ignore)

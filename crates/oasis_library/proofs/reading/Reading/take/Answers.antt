@@ -15,27 +15,30 @@ returns-in-Cell-clause-kept c = λ rs h.
     c.new.ensures c.in_ok-begin.ensures c.pass-2.ensures.unit c.pass-2.ensures.validation
 
 pub returns-in-Cell-clause-none : goal.returns-in-Cell-clause-none
-returns-in-Cell-clause-none c = λ rs h. subst (KeepsRules rs) (sym c.in-Cell.is) (cell_keeps rs c.in-Cell.name)
+returns-in-Cell-clause-none c = λ rs h. subst (KeepsRules c.args.profile rs) (sym c.in-Cell.is)
+    (cell_keeps c.args.profile rs c.in-Cell.name)
 
 pub add-requires : goal.add-requires
 add-requires c =
     let w = c.requires in (
       since_cell w.0,
       c.args.next,
-      figure_ok c.args.self.now.modal c.take-2.new.self c.args.next c.take-2.result c.of_figure.result
+      (figure_ok c.args.profile.ignore c.args.self.now.modal c.take-2.new.self c.args.next c.take-2.result
+          c.of_figure.result
           c.in_ok-drawn.drawn c.of_figure.ensures c.in_ok-drawn.was
           (record {
             drawn = c.take-2.ensures.drawn;
             places = c.take-2.ensures.places;
             kept = c.take-2.ensures.kept;
             none = c.take-2.ensures.none;
-          }) (since_cell w.0) w.1.modal,
+          }) (since_cell w.0) w.1.modal).0,
     )
 
 pub returns : goal.returns
 returns c =
     let holds = λ (rs : List Record) (h : Holds c.args.self.now rs).
-    figure_ok c.args.self.now.modal c.take-2.new.self c.args.next c.take-2.result c.of_figure.result c.in_ok-drawn.drawn
+    figure_ok c.args.profile.ignore c.args.self.now.modal c.take-2.new.self c.args.next c.take-2.result
+    c.of_figure.result c.in_ok-drawn.drawn
     c.of_figure.ensures c.in_ok-drawn.was
     (record {
       drawn = c.take-2.ensures.drawn;
@@ -49,12 +52,12 @@ returns c =
           other_goes c.args.self.now _ rs c.args.next (is_other c.args.next c.in_default.not-Cell) h c.pass.ensures
           (name_ok c.take.result c.of_name.result c.in_ok-of_name.field-0 c.of_name.ensures c.in_ok-of_name.was
           c.take.ensures.kept (names_in rs) h.names)
-          (holds rs h).stands (c.in_ok-add.ensures (since_cell rs) c.args.next (holds rs h)) c.pass-2.ensures.unit
+          (holds rs h).0.stands (c.in_ok-add.ensures (since_cell rs) c.args.next (holds rs h).0) c.pass-2.ensures.unit
           c.pass-2.ensures.validation;
       none = λ rs h. (
         name_ok c.take.result c.of_name.result c.in_ok-of_name.field-0 c.of_name.ensures c.in_ok-of_name.was
             c.take.ensures.none (names_in rs) h.names,
-        (holds rs h).none,
+        (holds rs h).1,
       );
       room = refl;
     }
