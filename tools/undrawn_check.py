@@ -279,7 +279,7 @@ HINTS = [
     ("oasis", "1F 07 00 08", "CELL", "", "try --ignore names"),
     ("oasis", "0D" + "80" * 10 + "00", "CELL", "", "try --ignore padding"),
     ("oasis", "0D" + "80" * 256 + "00", "CELL", "padding", None),
-    ("oasis", "22", "CELL", "all", "a compressed block: write the file without CBLOCK compression"),
+    ("oasis", "22", "CELL", "all", "try --unpack"),
     ("oasis", "17", "RECTANGLE", "", None),
     ("oasis", "0E 01 41", "CELL", "", "the file has 2 tops: A, TOP: choose one by --top"),
 ]
