@@ -14,20 +14,28 @@ MOST_BYTES = 2**32 - 1
 def unpacked(reader, packed, count):
     """The bytes that the packed ones spell, which must be exactly `count`.
 
-    Of bytes that spell nothing lvl reports 42 or 43, by what it sees first. This reports 42 where zlib finds an error,
-    and 43 for a wrong count.
+    Of bytes that are no stream and have too many bytes before that shows, lvl reports 42 or 43, by what it sees first.
     """
-    stream, out = zlib.decompressobj(-15), b""
+    stream, out, is_stream = zlib.decompressobj(-15), b"", True
     try:
-        out = stream.decompress(packed, count + 1)
-        while not stream.eof and stream.unconsumed_tail and len(out) <= count:
-            out += stream.decompress(stream.unconsumed_tail, count + 1 - len(out))
+        for at in range(len(packed)):
+            out += stream.decompress(packed[at:at + 1])
     except zlib.error:
-        reader.refuse(42, "Deflate")
-    reader.refuse_if(len(out) > count, 43, "BlockLength")
-    reader.refuse_if(not stream.eof, 42, "Deflate")
-    reader.refuse_if(len(out) < count or stream.unused_data, 43, "BlockLength")
+        is_stream = False
+    if not (is_stream and stream.eof) and len(out) > count:
+        refuse_either(reader)
+    reader.refuse_if(not (is_stream and stream.eof), 42, "Deflate")
+    reader.refuse_if(len(out) != count or stream.unused_data, 43, "BlockLength")
     return out
+
+
+def refuse_either(reader):
+    """Refuses a block by 42 or 43."""
+    either = (["42", "Deflate"], ["43", "BlockLength"])
+    place = ["at", str(reader.begun)]
+    refused = Refused("oasis", 42, "Deflate", allows=lambda words: words[:2] in either and words[2:] == place)
+    refused.args = ("oasis",)
+    raise refused
 
 
 def take_records(reader, data):

@@ -56,7 +56,8 @@ def wrong(program, plain, packed):
     """What is wrong with the answers, if anything."""
     if answer(program, "digest", packed, "--unpack") != answer(program, "digest", plain):
         return "another digest"
-    if answer(program, "compare", plain, packed, "--unpack")[:2] != (0, "same\n"):
+    status, said, _ = answer(program, "compare", plain, packed, "--unpack")
+    if (status, said.splitlines()[-1:]) != (0, ["same"]):
         return "not the same"
     with open(packed, "rb") as file, open(plain, "rb") as other:
         if file.read() == other.read():
