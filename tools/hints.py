@@ -13,6 +13,7 @@ The table, from a refusal to its hint:
     oasis  24 Unsupported               5, 6, 19                           try --ignore texts
     oasis  24 Unsupported               11, 12, 30, 31                     try --ignore names
     oasis  24 Unsupported               34                                 try --unpack
+    gds    21 Path, oasis 33 Path       4 RepeatedPoint                    try --ignore points
     cells  6 ManyTops                                                      the first file has 2 tops: A, B:
                                                                            choose one by --top-a
 
@@ -40,6 +41,8 @@ MENDED = {
     },
     ("oasis", 24): {"properties": (7, 8, 9, 10, 28, 29), "texts": (5, 6, 19), "names": (11, 12, 30, 31)},
     ("oasis", 2): {"padding": (None,)},
+    ("gds", 21): {"points": (4,)},
+    ("oasis", 33): {"points": (4,)},
 }
 # By step and number, the refusals by a limit that --large lifts.
 LIFTED = {("gds", 5), ("gds", 26), ("gds", 27), ("oasis", 9), ("oasis", 11), ("oasis", 39), ("cells", 7), ("cells", 8)}
