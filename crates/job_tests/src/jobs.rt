@@ -3,9 +3,8 @@ ghost use Rattle.std.specs.Prelude.{◌≡◌};
 
 use crate::jobs::files::{BLOCK, LABEL, PACKED, PRESSED, SQUARE, TAGGED, TWICE, TWICE_OASIS, TWO};
 use crate::jobs::rows::ROWS;
-use lvl_io::Failure;
 use lvl_io::fake::{Pieces, Sink};
-use lvl_job::{Files, code_of, do_job, do_line};
+use lvl_job::{Files, OpenFault, code_of, do_job, do_line};
 use lvl_line::Job;
 use std::alloc::{AllocError, Global};
 use std::test::Fail;
@@ -37,7 +36,7 @@ impl Files for Held {
 
     ghost opens = { λ _ _ _ _. Unit {0} };
 
-    fn open(&mut self, name: &str) -> Result<Pieces<'static>, Failure> {
+    fn open(&mut self, name: &str) -> Result<Pieces<'static>, OpenFault> {
         self.asked = self.asked.saturating_add(1);
         match name {
             "square" => Ok(pieces(SQUARE)),
@@ -49,7 +48,9 @@ impl Files for Held {
             "pressed" => Ok(pieces(PRESSED)),
             "twice" => Ok(pieces(TWICE)),
             "twice_oasis" => Ok(pieces(TWICE_OASIS)),
-            _ => Err(Failure),
+            "denied" => Err(OpenFault::Denied),
+            "broken" => Err(OpenFault::Other),
+            _ => Err(OpenFault::Missing),
         }
     }
 }

@@ -1,10 +1,10 @@
 //! The files of the system.
 use crate::source::Source;
-use lvl_io::{Counted, Failure};
-use lvl_job::Files;
+use lvl_io::Counted;
+use lvl_job::{Files, OpenFault};
 use lvl_progress::{After, Meter, Watched};
 use std::fs::File;
-use std::io::Stderr;
+use std::io::{ErrorKind, Stderr};
 
 /// What the program does with files, as far as it is shown.
 #[derive(Clone, Copy, PartialEq, Eq)]
@@ -64,17 +64,17 @@ impl<'a> Disk<'a> {
     }
 
     /// Opens the file of a name; `-` is standard input, once.
-    fn source(&mut self, name: &str) -> Result<Source, Failure> {
+    fn source(&mut self, name: &str) -> Result<Source, OpenFault> {
         if name == INPUT {
             if self.is_input_taken {
-                return Err(Failure);
+                return Err(OpenFault::Other);
             }
             self.is_input_taken = true;
             return Ok(Source::Input(self.rt.stdin()));
         }
         match File::open(self.rt, name) {
             Ok(file) => Ok(Source::File(file)),
-            Err(_) => Err(Failure),
+            Err(error) => Err(fault_of(error.kind())),
         }
     }
 
@@ -96,12 +96,21 @@ impl<'a> Disk<'a> {
     }
 }
 
+/// Why a file isn't opened, by what the system says.
+fn fault_of(kind: ErrorKind) -> OpenFault {
+    match kind {
+        ErrorKind::NotFound | ErrorKind::NotADirectory => OpenFault::Missing,
+        ErrorKind::PermissionDenied => OpenFault::Denied,
+        _ => OpenFault::Other,
+    }
+}
+
 impl Files for Disk<'_> {
     type File = Counted<Watched<Source, Stderr>>;
 
     ghost opens = { λ _ _ _ _. Unit {0} };
 
-    fn open(&mut self, name: &str) -> Result<Counted<Watched<Source, Stderr>>, Failure> {
+    fn open(&mut self, name: &str) -> Result<Counted<Watched<Source, Stderr>>, OpenFault> {
         let source = self.source(name)?;
         let meter = self.meter(&source, name);
         Ok(Counted::new(Watched::new(source, meter)))

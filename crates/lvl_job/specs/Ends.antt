@@ -14,6 +14,8 @@ use Rattle.lvl_view.specs.declared.fault.ViewFault.{ViewFault}
 use Rattle.lvl_view.specs.declared.fault.ViewFault.TheVariants.{EmptyWindow, MapText, MapTwice, WindowText}
 use Rattle.lvl_report.specs.Texts.{line}
 use Rattle.lvl_report.specs.Writing.{status_code, AppendsBeginning}
+use Rattle.lvl_job.specs.declared.files.OpenFault.{OpenFault}
+use Rattle.lvl_job.specs.declared.files.OpenFault.TheVariants.{Denied, Missing, Other}
 use Rattle.lvl_job.specs.declared.fault.JobFault.{JobFault}
 use Rattle.lvl_job.specs.declared.fault.JobFault.TheVariants.{BadView, BadIgnore, NotOpened, OutOfMemory, Output}
 use Rattle.lvl_job.specs.declared.fault.JobFault.TheVariants.{BadLine, LongList, UnreadList}
@@ -23,7 +25,7 @@ abbrev pub fault_code : JobFault → ℕ
 fault_code (BadView fault) = 3
 fault_code (BadIgnore fault) = 3
 fault_code (BadLine name n) = 3
-fault_code (NotOpened name) = 2
+fault_code (NotOpened name why) = 2
 fault_code (UnreadList name) = 2
 fault_code (LongList name) = 2
 fault_code OutOfMemory = 2
@@ -45,11 +47,17 @@ view_form EmptyWindow = codes "\n"
 abbrev pub ignore_form : List ℕ
 ignore_form = codes "\nlvl: --ignore takes properties, texts, names, padding, points or all, joined by commas\n"
 
--- why a job has no answer, on one line, and the form of a text that was expected on another
+-- the rest of the line of a file that wasn't opened, and why that is, on a line of its own, if it is known
+abbrev pub open_form : OpenFault → List ℕ
+open_form Missing = codes "\nlvl: no such file\n"
+open_form Denied = codes "\nlvl: permission denied\n"
+open_form Other = codes "\n"
+
+-- why a job has no answer, on one line, and on another the form of a text that was expected, or why a file wasn't opened
 abbrev pub fault_text : JobFault → List ℕ
 fault_text (BadView fault) = codes "lvl: bad view " ++ view_fault fault ++ view_form fault
 fault_text (BadIgnore fault) = codes "lvl: bad ignore " ++ ignore_fault fault ++ ignore_form
-fault_text (NotOpened name) = line (codes "lvl: cannot open " ++ string_bytes name)
+fault_text (NotOpened name why) = codes "lvl: cannot open " ++ string_bytes name ++ open_form why
 fault_text (UnreadList name) = codes "lvl: " ++ string_bytes name ++ codes ": cannot read\n"
 fault_text (LongList name) = codes "lvl: " ++ string_bytes name ++ codes ": too long\n"
 fault_text (BadLine name n) = codes "lvl: " ++ string_bytes name ++ codes ": bad line " ++ decimal n ++ codes "\n"
@@ -93,7 +101,7 @@ abbrev pub is_cut : {A : Type 0} → Result A JobFault → Bool
 is_cut (Ok a) = false
 is_cut (Err (BadView fault)) = false
 is_cut (Err (BadIgnore fault)) = false
-is_cut (Err (NotOpened name)) = false
+is_cut (Err (NotOpened name why)) = false
 is_cut (Err (UnreadList name)) = false
 is_cut (Err (LongList name)) = false
 is_cut (Err (BadLine name n)) = false

@@ -10,9 +10,10 @@ use Rattle.lvl_job.specs.declared.fault.JobFault.{JobFault}
 use Rattle.lvl_job.specs.declared.fault.JobFault.TheVariants.{OutOfMemory}
 use Rattle.lvl_job.specs.Done.{Change, IsDone, IsSaidOn}
 use Rattle.lvl_job.specs.Ends.{end_code, fault_text}
+use Rattle.lvl_job.specs.Opening.{Opened}
 
 -- the words ask for a job; it was done, and this is its exit status
-pub record IsLineDone {S : Type 0} (opens : S → List ℕ → Option (Option (List ℕ)) → S → Type 0)
+pub record IsLineDone {S : Type 0} (opens : S → List ℕ → Opened → S → Type 0)
     (words : List (List ℕ)) (old new : S) (out err : Change) (code : ℕ) : Type 0 where
   pub job : Job
   pub asked : IsJob words job

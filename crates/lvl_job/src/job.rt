@@ -8,7 +8,7 @@ ghost use Rattle.lvl_job.specs.Done.{IsDone, IsOneDone};
 ghost use Rattle.lvl_job.specs.Ends.{end_code, is_cut};
 ghost use Rattle.lvl_job.specs.Jobs.{IsAnswered, IsComparedUnder, IsExplainedUnder, IsFaultOfJob, IsIgnoreAsked};
 ghost use Rattle.lvl_job.specs.Jobs.{IsPairBegun, IsPairWritten, IsProfileAsked, IsViewAsked, has_one_answer};
-ghost use Rattle.lvl_job.specs.Opening.{held};
+ghost use Rattle.lvl_job.specs.Opening.{held_by_job, why_unopened};
 ghost use Rattle.lvl_job.specs.inside.Parts.{IsOneAnswered, IsOneFault, IsPairAnswered, IsPairFault, IsViewFault};
 ghost use Rattle.lvl_job.specs.inside.Parts.{fault_of_run, IsNoIgnore};
 ghost use Rattle.lvl_report.specs.Runs.{IsBegun, IsDigestedBy, IsListedBy, IsShownBy, IsWritten, input};
@@ -32,13 +32,13 @@ use std::alloc::Global;
 
 /// Opens the file of this name.
 pub(crate) fn open<F: Files>(files: &mut F, name: String) -> Result<F::File, JobFault>
-    ensures opened { F.opens files.old (string_bytes name) (held F.File.remaining result) files.new }
+    ensures opened { F.opens files.old (string_bytes name) (held_by_job F.File.remaining result) files.new }
     ensures fresh { IfOk result (λ file. F.File.read_errors file ≡ 0) }
-    ensures missing { IfErr result (λ fault. fault ≡ JobFault.NotOpened name) }
+    ensures missing { IfErr result (λ fault. fault ≡ JobFault.NotOpened name (why_unopened fault)) }
 {
     match files.open(name.as_str()) {
         Ok(file) => Ok(file),
-        Err(_) => Err(JobFault::NotOpened(name)),
+        Err(why) => Err(JobFault::NotOpened(name, why)),
     }
 }
 

@@ -21,7 +21,7 @@
 #![tactic(auto)]
 
 pub use fault::JobFault;
-pub use files::Files;
+pub use files::{Files, OpenFault};
 pub use job::{code_of, do_job};
 pub use line::do_line;
 

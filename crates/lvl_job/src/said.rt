@@ -3,12 +3,14 @@ ghost use Rattle.std.specs.Prelude.{◌≡◌, ◌++◌, codes, decimal, IfErr, 
 ghost use Rattle.std.specs.Prelude.{ℕ, List, Option};
 ghost use Rattle.std.specs.Io.KnownBytes.{Appends};
 ghost use Rattle.lvl_io.specs.Bytes.{CountsFailure, failed};
-ghost use Rattle.lvl_job.specs.Ends.{IsSaid, fault_text, end_text, hint_text, ignore_words, is_cut, said_of, view_form};
+ghost use Rattle.lvl_job.specs.Ends.{IsSaid, fault_text, end_text, hint_text, ignore_words, is_cut, open_form, said_of};
+ghost use Rattle.lvl_job.specs.Ends.{view_form};
 ghost use Rattle.lvl_job.specs.inside.Steps.{IsPut, IsSaidBy, Says};
 ghost use Rattle.lvl_report.specs.Texts.{line};
 ghost use Rattle.lvl_report.specs.Writing.{AppendsBeginning};
 
 use crate::fault::JobFault;
+use crate::files::OpenFault;
 use itoa::Buffer;
 use lvl_io::{Failure, Write};
 use lvl_profile::Ignore;
@@ -94,6 +96,17 @@ fn view_form(fault: ViewFault) -> &'static str
     }
 }
 
+/// What comes after the name of a file that wasn't opened: why that is, on a line of its own, if it is known.
+pub(crate) fn open_form(why: OpenFault) -> &'static str
+    ensures { result.now ≡ open_form why }
+{
+    match why {
+        OpenFault::Missing => "\nlvl: no such file\n",
+        OpenFault::Denied => "\nlvl: permission denied\n",
+        OpenFault::Other => "\n",
+    }
+}
+
 /// Writes that a line of the list in the file of a name is bad.
 fn say_bad_line<E: Write>(err: &mut E, name: &str, number: usize)
     ensures { IsSaid (codes "lvl: " ++ name.now ++ codes ": bad line " ++ decimal number ++ codes "\n")
@@ -140,7 +153,9 @@ pub(crate) fn say<E: Write>(err: &mut E, fault: &JobFault)
             ignore_fault(*fault),
             "\nlvl: --ignore takes properties, texts, names, padding, points or all, joined by commas\n",
         ),
-        JobFault::NotOpened(name) => say_line(err, "lvl: cannot open ", name.as_str()),
+        JobFault::NotOpened(name, why) => {
+            say_parts(err, "lvl: cannot open ", name.as_str(), open_form(*why))
+        }
         JobFault::UnreadList(name) => say_parts(err, "lvl: ", name.as_str(), ": cannot read\n"),
         JobFault::LongList(name) => say_parts(err, "lvl: ", name.as_str(), ": too long\n"),
         JobFault::BadLine(name, line) => say_bad_line(err, name.as_str(), *line),

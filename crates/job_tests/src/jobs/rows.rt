@@ -34,7 +34,7 @@ const WHY_SQUARE: &str =
 const STEPS: &str = "lvl: the grid steps differ: 1 nm in the first file, 2 nm in the second\n";
 
 /// A job, how many files are asked for, the last line of what it writes, what it says, and its status.
-pub static ROWS: [(&str, u8, &str, &str, u8); 62] = [
+pub static ROWS: [(&str, u8, &str, &str, u8); 65] = [
     ("square square - - - - -", 2, "same\n", "", 0),
     ("square two - A - - -", 2, "same\n", "", 0),
     (
@@ -174,9 +174,42 @@ pub static ROWS: [(&str, u8, &str, &str, u8); 62] = [
         TOPS,
         2,
     ),
-    ("digest none - -", 1, "", "lvl: cannot open none\n", 2),
-    ("none two - - - - -", 1, "", "lvl: cannot open none\n", 2),
-    ("two other - - - - -", 2, "", "lvl: cannot open other\n", 2),
+    (
+        "denied - -",
+        1,
+        "",
+        "lvl: cannot open denied\nlvl: permission denied\n",
+        2,
+    ),
+    (
+        "square denied - - - - -",
+        2,
+        "",
+        "lvl: cannot open denied\nlvl: permission denied\n",
+        2,
+    ),
+    ("cells broken -", 1, "", "lvl: cannot open broken\n", 2),
+    (
+        "digest none - -",
+        1,
+        "",
+        "lvl: cannot open none\nlvl: no such file\n",
+        2,
+    ),
+    (
+        "none two - - - - -",
+        1,
+        "",
+        "lvl: cannot open none\nlvl: no such file\n",
+        2,
+    ),
+    (
+        "two other - - - - -",
+        2,
+        "",
+        "lvl: cannot open other\nlvl: no such file\n",
+        2,
+    ),
     ("none two - - 1/0 - -", 0, "", BAD_MAP, 3),
     ("square tagged - - - - properties", 2, "same\n", STEPS, 0),
     ("units square tagged - - - - properties", 2, "", STEPS, 2),
@@ -279,7 +312,13 @@ pub static ROWS: [(&str, u8, &str, &str, u8); 62] = [
         0,
     ),
     ("cells tagged -", 1, UNREAD_FIRST, TRY_PROPERTIES, 2),
-    ("cells none -", 1, "", "lvl: cannot open none\n", 2),
+    (
+        "cells none -",
+        1,
+        "",
+        "lvl: cannot open none\nlvl: no such file\n",
+        2,
+    ),
     ("cells square al", 0, "", BAD_IGNORE, 3),
     ("square - ALL", 0, "", BAD_IGNORE, 3),
     ("digest square - ,", 0, "", BAD_IGNORE, 3),

@@ -8,7 +8,8 @@ pub returns-in-BadIgnore : goal.returns-in-BadIgnore
 returns-in-BadIgnore g c = rw (c.in-BadIgnore.is, sym c.ignore_fault.ensures) c.say_parts-in-BadIgnore.ensures
 
 pub returns-in-NotOpened : goal.returns-in-NotOpened
-returns-in-NotOpened g c = rw (c.in-NotOpened.is, sym c.as_str.ensures.value) c.say_line.ensures
+returns-in-NotOpened g c =
+    rw (c.in-NotOpened.is, sym c.as_str.ensures.value, sym c.open_form.ensures) c.say_parts-in-NotOpened.ensures
 
 pub returns-in-UnreadList : goal.returns-in-UnreadList
 returns-in-UnreadList g c = rw (c.in-UnreadList.is, sym c.as_str-in-UnreadList.ensures.value) c.say_parts-in-UnreadList.ensures
