@@ -15,7 +15,7 @@ use Rattle.lvl_job.specs.declared.fault.JobFault.TheVariants.{BadView, BadIgnore
 use Rattle.lvl_job.specs.declared.fault.JobFault.TheVariants.{BadLine, LongList, UnreadList}
 use Rattle.lvl_job.specs.Ends.{IsSaid, end_text}
 use Rattle.lvl_job.specs.Hashing.{Hash, IsPart, IsPass, IsStopped, items_of, texts_of}
-use Rattle.lvl_job.specs.Jobs.{IsAnswered, IsFaultOfJob, IsIgnoreFault, UnderProfile}
+use Rattle.lvl_job.specs.Jobs.{IsAnswered, IsFaultOfJob, IsIgnoreFault, UnderProfile, only_file}
 use Rattle.lvl_job.specs.Listing.{checked_text, count_unlike, file_of_entry, file_of_name, name_listed, name_unlisted}
 use Rattle.lvl_job.specs.Listing.{ended_with, no_note, summary_text, worst_checked, worst_listed}
 use Rattle.lvl_job.specs.Opening.{Opened}
@@ -36,7 +36,7 @@ pub record IsOneDone {S : Type 0} (opens : S → List ℕ → Opened → S → T
     (out err : Change) (ended : Result Outcome JobFault) : Type 0 where
   pub answered : IfOk ended (IsAnswered opens job old new out.old out.new)
   pub fault : IfErr ended (IsFaultOfJob opens job old new out.old out.new)
-  pub said : IsSaidOn err (end_text ended)
+  pub said : IsSaidOn err (end_text (only_file job) ended)
 
 -- ---- `--list`
 
@@ -71,7 +71,7 @@ pub record IsListDone {S : Type 0} (opens : S → List ℕ → Opened → S → 
   pub listed : IfOk ended (λ outcome. UnderProfile ignored large unpack (λ profile.
       IsListed opens names profile top old new out.old out.new said outcome))
   pub fault : IfErr ended (IsListFault opens names top ignored large unpack old new out.old out.new said)
-  pub all_said : IsSaidOn err (said ++ end_text ended)
+  pub all_said : IsSaidOn err (said ++ end_text None ended)
 
 -- ---- `--check`
 
@@ -139,7 +139,7 @@ pub record IsCheckDone {S : Type 0} (opens : S → List ℕ → Opened → S →
   pub checked : IfOk ended (λ outcome. UnderProfile ignored large unpack (λ profile. OfList opens list old
       (IsChecked opens quiet profile top new out.old out.new said outcome)))
   pub fault : IfErr ended (IsCheckFault opens list quiet top ignored large unpack old new out.old out.new said)
-  pub all_said : IsSaidOn err (said ++ end_text ended)
+  pub all_said : IsSaidOn err (said ++ end_text None ended)
 
 -- what is done for a job
 abbrev pub IsDone : {S : Type 0} → (S → List ℕ → Opened → S → Type 0) → Job → S → S → Change → Change

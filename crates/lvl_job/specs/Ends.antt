@@ -76,25 +76,29 @@ ignore_words i =
     ++ listed (i.properties || i.texts || i.names) i.padding (codes "padding")
     ++ listed (i.properties || i.texts || i.names || i.padding) i.points (codes "points")
 
--- what would mend a refusal, on one line
-abbrev pub hint_text : Hint → List ℕ
-hint_text (IgnoreMore more) = codes "lvl: try --ignore " ++ ignore_words more ++ codes ", or --ignore all\n"
-hint_text LiftLimits = line (codes "lvl: try " ++ codes "--large")
-hint_text Decompress =
-    line (codes "lvl: neither GDSII nor OASIS: " ++ codes "if the file is compressed (gzip), unpack it first")
-hint_text ReadBlocks = line (codes "lvl: try " ++ codes "--unpack")
+-- the front of a line: the name of the only file, if there is one
+abbrev pub front_of_line : Option (List ℕ) → List ℕ
+front_of_line None = codes "lvl: "
+front_of_line (Some name) = codes "lvl: " ++ name ++ codes ": "
 
--- what is written for an answer: its hint, or its line
-abbrev pub said_of : Option Hint → Option (List ℕ) → List ℕ
-said_of (Some hint) text = hint_text hint
-said_of None (Some text) = text
-said_of None None = []
+-- what would mend a refusal
+abbrev pub hint_words : Hint → List ℕ
+hint_words (IgnoreMore more) = codes "try --ignore " ++ ignore_words more ++ codes ", or --ignore all\n"
+hint_words LiftLimits = codes "try --large\n"
+hint_words Decompress = codes "neither GDSII nor OASIS: if the file is compressed (gzip), unpack it first\n"
+hint_words ReadBlocks = codes "try --unpack\n"
+
+-- what is written for an answer: its hint, with the name of the only file if there is one, or its line
+abbrev pub said_of : Option (List ℕ) → Option Hint → Option (List ℕ) → List ℕ
+said_of file (Some hint) text = front_of_line file ++ hint_words hint
+said_of file None (Some text) = text
+said_of file None None = []
 
 -- what a job writes to standard error: the hint of its answer if it has one, or else which cells could be the top or that
--- the grid steps of two files differ; or why there is no answer
-abbrev pub end_text : Result Outcome JobFault → List ℕ
-end_text (Ok outcome) = said_of outcome.hint (option_map (λ text. text.items) outcome.line)
-end_text (Err fault) = fault_text fault
+-- the grid steps of two files differ; or why there is no answer. A job on one file has its name in the hint
+abbrev pub end_text : Option (List ℕ) → Result Outcome JobFault → List ℕ
+end_text file (Ok outcome) = said_of file outcome.hint (option_map (λ text. text.items) outcome.line)
+end_text file (Err fault) = fault_text fault
 
 -- whether the output of a job failed
 abbrev pub is_cut : {A : Type 0} → Result A JobFault → Bool

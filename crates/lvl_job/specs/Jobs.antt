@@ -38,6 +38,13 @@ has_one_answer (ListJob names top ignored is_large unpack) = false
 has_one_answer (Check list quiet top ignored is_large unpack) = false
 has_one_answer job = true
 
+-- the name of the file of a job that has one answer on one file
+abbrev pub only_file : Job → Option (List ℕ)
+only_file (Show file top ignored is_large unpack) = Some (string_bytes file)
+only_file (Digest file top ignored is_large unpack) = Some (string_bytes file)
+only_file (Cells file ignored is_large unpack) = Some (string_bytes file)
+only_file job = None
+
 -- the name of a file in a job, its profile, and the name of its top
 pub record Named : Type 0 where
   pub profile : Profile

@@ -1,10 +1,10 @@
 //! What a job writes to standard error.
 ghost use Rattle.std.specs.Prelude.{◌≡◌, ◌++◌, codes, decimal, IfErr, OnOk, OnErr, option_map};
-ghost use Rattle.std.specs.Prelude.{ℕ, List, Option};
+ghost use Rattle.std.specs.Prelude.{ℕ, List, None, Option, string_bytes};
 ghost use Rattle.std.specs.Io.KnownBytes.{Appends};
 ghost use Rattle.lvl_io.specs.Bytes.{CountsFailure, failed};
-ghost use Rattle.lvl_job.specs.Ends.{IsSaid, fault_text, end_text, hint_text, ignore_words, is_cut, open_form, said_of};
-ghost use Rattle.lvl_job.specs.Ends.{view_form};
+ghost use Rattle.lvl_job.specs.Ends.{IsSaid, fault_text, end_text, front_of_line, hint_words, ignore_words, is_cut};
+ghost use Rattle.lvl_job.specs.Ends.{open_form, said_of, view_form};
 ghost use Rattle.lvl_job.specs.inside.Steps.{IsPut, IsSaidBy, Says};
 ghost use Rattle.lvl_report.specs.Texts.{line};
 ghost use Rattle.lvl_report.specs.Writing.{AppendsBeginning};
@@ -194,42 +194,68 @@ fn ignore_words(ignore: Ignore) -> &'static str
     }
 }
 
-/// Writes what to ignore so that more is read, or that all may be ignored, since more may come.
-fn say_ignore<E: Write>(err: &mut E, more: Ignore)
-    ensures { IsSaid (hint_text (Hint.IgnoreMore more)) (E.contents err.old) (E.contents err.new)
-        (E.write_errors err.old) (E.write_errors err.new) }
+/// Says the front of a line: the name of the only file, if there is one.
+fn say_front<E: Write>(err: &mut E, said: &mut Said, file: &Option<String>)
+    ensures { Says (front_of_line (option_map string_bytes file.now))
+        (record { so_far = said.old; contents = E.contents err.old; errors = E.write_errors err.old })
+        (record { so_far = said.new; contents = E.contents err.new; errors = E.write_errors err.new }) }
 {
-    let mut said = Ok(());
-    say_more(err, &mut said, b"lvl: try --ignore ");
-    say_more(err, &mut said, ignore_words(more).as_bytes());
-    say_more(err, &mut said, b", or --ignore all\n");
-}
-
-/// Writes on one line what would mend a refusal.
-fn say_hint<E: Write>(err: &mut E, hint: Hint)
-    ensures { IsSaid (hint_text hint) (E.contents err.old) (E.contents err.new)
-        (E.write_errors err.old) (E.write_errors err.new) }
-{
-    match hint {
-        Hint::IgnoreMore(more) => say_ignore(err, more),
-        Hint::LiftLimits => say_line(err, "lvl: try ", "--large"),
-        Hint::Decompress => say_line(
-            err,
-            "lvl: neither GDSII nor OASIS: ",
-            "if the file is compressed (gzip), unpack it first",
-        ),
-        Hint::ReadBlocks => say_line(err, "lvl: try ", "--unpack"),
+    say_more(err, said, b"lvl: ");
+    if let Some(name) = file {
+        say_more(err, said, name.as_bytes());
+        say_more(err, said, b": ");
     }
 }
 
-/// Writes on one line what would mend a refusal, if anything would, or else the line of the outcome: which cells could be
-/// the top, or that the grid steps of two files differ. If that fails, nothing more is written.
-pub(crate) fn say_outcome<E: Write>(err: &mut E, outcome: &Outcome)
-    ensures { IsSaid (said_of outcome.now.hint (option_map (λ text. text.items) outcome.now.line))
+/// Says what to ignore so that more is read, or that all may be ignored, since more may come.
+fn say_ignore<E: Write>(err: &mut E, said: &mut Said, more: Ignore)
+    ensures { Says (hint_words (Hint.IgnoreMore more))
+        (record { so_far = said.old; contents = E.contents err.old; errors = E.write_errors err.old })
+        (record { so_far = said.new; contents = E.contents err.new; errors = E.write_errors err.new }) }
+{
+    say_more(err, said, b"try --ignore ");
+    say_more(err, said, ignore_words(more).as_bytes());
+    say_more(err, said, b", or --ignore all\n");
+}
+
+/// Says what would mend a refusal.
+fn say_words<E: Write>(err: &mut E, said: &mut Said, hint: Hint)
+    ensures { Says (hint_words hint)
+        (record { so_far = said.old; contents = E.contents err.old; errors = E.write_errors err.old })
+        (record { so_far = said.new; contents = E.contents err.new; errors = E.write_errors err.new }) }
+{
+    match hint {
+        Hint::IgnoreMore(more) => say_ignore(err, said, more),
+        Hint::LiftLimits => say_more(err, said, b"try --large\n"),
+        Hint::Decompress => say_more(
+            err,
+            said,
+            b"neither GDSII nor OASIS: if the file is compressed (gzip), unpack it first\n",
+        ),
+        Hint::ReadBlocks => say_more(err, said, b"try --unpack\n"),
+    }
+}
+
+/// Writes on one line what would mend a refusal, with the name of the only file, if there is one.
+fn say_hint<E: Write>(err: &mut E, file: &Option<String>, hint: Hint)
+    ensures { IsSaid (front_of_line (option_map string_bytes file.now) ++ hint_words hint)
+        (E.contents err.old) (E.contents err.new) (E.write_errors err.old) (E.write_errors err.new) }
+{
+    let mut said = Ok(());
+    say_front(err, &mut said, file);
+    say_words(err, &mut said, hint);
+}
+
+/// Writes on one line what would mend a refusal, if anything would, with the name of the only file, if there is one; or
+/// else the line of the outcome: which cells could be the top, or that the grid steps of two files differ. If that
+/// fails, nothing more is written.
+pub(crate) fn say_outcome<E: Write>(err: &mut E, file: &Option<String>, outcome: &Outcome)
+    ensures { IsSaid (said_of (option_map string_bytes file.now) outcome.now.hint
+        (option_map (λ text. text.items) outcome.now.line))
         (E.contents err.old) (E.contents err.new) (E.write_errors err.old) (E.write_errors err.new) }
 {
     if let Some(hint) = outcome.hint {
-        return say_hint(err, hint);
+        return say_hint(err, file, hint);
     }
     if let Some(text) = &outcome.line {
         let _ = write_all(err, text);
@@ -241,13 +267,13 @@ pub(crate) fn say_end<E: Write>(err: &mut E, said: &Said, ended: &Result<Outcome
     ensures { (front : List ℕ) (old : Option (List ℕ)) (before : ℕ)
         → IsSaidBy front old before
         (record { so_far = said.now; contents = E.contents err.old; errors = E.write_errors err.old })
-        → IsSaid (front ++ end_text ended.now) old (E.contents err.new) before (E.write_errors err.new) }
+        → IsSaid (front ++ end_text None ended.now) old (E.contents err.new) before (E.write_errors err.new) }
 {
     if said.is_err() {
         return;
     }
     match ended {
-        Ok(outcome) => say_outcome(err, outcome),
+        Ok(outcome) => say_outcome(err, &None, outcome),
         Err(fault) => say(err, fault),
     }
 }

@@ -16,6 +16,9 @@ const UNREAD_SECOND: &str = "refused: second: gds 11 Unsupported 43 at 154\n";
 /// What is said of both.
 const TRY_PROPERTIES: &str = "lvl: try --ignore properties, or --ignore all\n";
 
+/// The same of the only file.
+const TRY_TAGGED: &str = "lvl: tagged: try --ignore properties, or --ignore all\n";
+
 /// What is said of several cells that could be the top of the only file.
 const TOPS: &str = "lvl: the file has 2 tops: A, B: choose one by --top\n";
 
@@ -88,24 +91,30 @@ pub static ROWS: [(&str, u8, &str, &str, u8); 65] = [
         "packed - -",
         1,
         "refused: first: gds 2 BadLength at 0\n",
-        "lvl: neither GDSII nor OASIS: if the file is compressed (gzip), unpack it first\n",
+        "lvl: packed: neither GDSII nor OASIS: if the file is compressed (gzip), unpack it first\n",
         2,
     ),
     (
         "block - padding",
         1,
         "refused: first: oasis 24 Unsupported 34 at 36\n",
-        "lvl: try --unpack\n",
+        "lvl: block: try --unpack\n",
         2,
     ),
     (
         "label - padding",
         1,
         "refused: first: oasis 24 Unsupported 19 at 36\n",
-        "lvl: try --ignore texts,padding, or --ignore all\n",
+        "lvl: label: try --ignore texts,padding, or --ignore all\n",
         2,
     ),
-    ("pressed - padding", 1, IN_BLOCK, "lvl: try --unpack\n", 2),
+    (
+        "pressed - padding",
+        1,
+        IN_BLOCK,
+        "lvl: pressed: try --unpack\n",
+        2,
+    ),
     (
         "unpack pressed - -",
         1,
@@ -142,14 +151,14 @@ pub static ROWS: [(&str, u8, &str, &str, u8); 65] = [
         "unpack label - -",
         1,
         "refused: first: oasis 24 Unsupported 19 at 36\n",
-        "lvl: try --ignore texts, or --ignore all\n",
+        "lvl: label: try --ignore texts, or --ignore all\n",
         2,
     ),
     (
         "twice - -",
         1,
         "refused: first: gds 21 Path 4 RepeatedPoint at 118\n",
-        "lvl: try --ignore points, or --ignore all\n",
+        "lvl: twice: try --ignore points, or --ignore all\n",
         2,
     ),
     (
@@ -163,7 +172,7 @@ pub static ROWS: [(&str, u8, &str, &str, u8); 65] = [
         "digest twice_oasis - properties,padding",
         1,
         "refused: first: oasis 33 Path 4 RepeatedPoint at 36\n",
-        "lvl: try --ignore properties,padding,points, or --ignore all\n",
+        "lvl: twice_oasis: try --ignore properties,padding,points, or --ignore all\n",
         2,
     ),
     ("digest square - -", 1, SQUARE_DIGEST, "", 0),
@@ -289,11 +298,11 @@ pub static ROWS: [(&str, u8, &str, &str, u8); 65] = [
         "tagged - names",
         1,
         UNREAD_FIRST,
-        "lvl: try --ignore properties,names, or --ignore all\n",
+        "lvl: tagged: try --ignore properties,names, or --ignore all\n",
         2,
     ),
     ("digest tagged - all", 1, SQUARE_DIGEST, "", 0),
-    ("digest tagged - -", 1, UNREAD_FIRST, TRY_PROPERTIES, 2),
+    ("digest tagged - -", 1, UNREAD_FIRST, TRY_TAGGED, 2),
     ("none two - - - - property", 0, "", BAD_IGNORE, 3),
     ("square square - - - - all,", 0, "", BAD_IGNORE, 3),
     ("none two - - 1/0 - property", 0, "", BAD_MAP, 3),
@@ -311,7 +320,7 @@ pub static ROWS: [(&str, u8, &str, &str, u8); 65] = [
         "",
         0,
     ),
-    ("cells tagged -", 1, UNREAD_FIRST, TRY_PROPERTIES, 2),
+    ("cells tagged -", 1, UNREAD_FIRST, TRY_TAGGED, 2),
     (
         "cells none -",
         1,
