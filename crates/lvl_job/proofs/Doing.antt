@@ -1,5 +1,5 @@
 -- What a job did, by what its steps did.
-use Rattle.std.proofs.Common.{Bool, ◌≡◌, ℕ, List, Option, Some, None, Result, Ok, Err, IfOk, IfErr, refl, sym, subst}
+use Rattle.std.proofs.Common.{Bool, ◌≡◌, ℕ, List, Option, None, Result, Ok, Err, IfOk, IfErr, refl, sym, subst}
 use Rattle.std.proofs.Common.{option_map}
 use Rattle.std.specs.Io.KnownBytes.{Keeps}
 use Rattle.std.specs.Global.{Global}

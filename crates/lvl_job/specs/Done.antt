@@ -1,6 +1,6 @@
 -- What is done for a job: what it opens, writes and says, and how it ends.
-use Rattle.std.specs.Prelude.{◌≡◌, ◌⊎◌, ◌<◌, ⊤, ℕ, Bool, true, false, List, [], ◌++◌, length, Option, Some, None, Result, IfOk}
-use Rattle.std.specs.Prelude.{IfErr, String, string_bytes, option_map}
+use Rattle.std.specs.Prelude.{◌≡◌, ◌⊎◌, ◌<◌, ⊤, ℕ, Bool, true, false, List, [], ◌++◌, length, Option, Some, None, Result, Ok, Err}
+use Rattle.std.specs.Prelude.{IfOk, IfErr, String, string_bytes, option_map}
 use Rattle.std.specs.Global.{Global}
 use Rattle.std.specs.Io.KnownBytes.{Keeps}
 use Rattle.lvl_io.specs.Bytes.{CountsFailure}

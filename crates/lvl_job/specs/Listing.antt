@@ -1,6 +1,6 @@
 -- What is written and said of the files of a list, and the status that each gives (own rule).
 use Rattle.std.specs.Prelude.{ℕ, ◌==◌, Bool, false, true, ◌&&◌, not, nat_lt, if◌then◌else◌, List, [], ◌∷◌, ◌++◌}
-use Rattle.std.specs.Prelude.{codes, decimal, Option, Some, None, Ok, Err, String, string_bytes, count_by}
+use Rattle.std.specs.Prelude.{codes, decimal, Option, None, Ok, Err, String, string_bytes, count_by}
 use Rattle.std.specs.Str.{bytes_eq}
 use Rattle.std.specs.Global.{Global}
 use Rattle.lvl.specs.declared.digested.Digested.{Digested}

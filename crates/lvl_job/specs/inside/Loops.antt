@@ -1,6 +1,6 @@
 -- What the loops over the files of a list return.
-use Rattle.std.specs.Prelude.{◌≡◌, ◌<◌, ⊤, ℕ, Bool, true, false, List, [], length, Option, Some, None, Result, IfOk, IfErr}
-use Rattle.std.specs.Prelude.{String, string_bytes}
+use Rattle.std.specs.Prelude.{◌≡◌, ◌<◌, ⊤, ℕ, Bool, true, false, List, [], length, Option, Some, Result, Ok, Err}
+use Rattle.std.specs.Prelude.{IfOk, IfErr, String, string_bytes}
 use Rattle.std.specs.Global.{Global}
 use Rattle.lvl_io.specs.Bytes.{CountsFailure}
 use Rattle.lvl_list.specs.List.{IsBadLine, IsList}
