@@ -25,17 +25,18 @@ use Rattle.lvl_job.proofs.Passing.{no_notes}
 use Rattle.lvl_job.proofs.Saying.{keeps_same}
 use Rattle.lvl_job.proofs.Telling.{says_nothing}
 use Rattle.lvl_job.specs.Opening.{Opened}
+use Rattle.lvl_job.specs.declared.files.Look.{Look}
 
 module _ {S : Type 0} (opens : S → List ℕ → Opened → S → Type 0) where
   -- a job with one answer
-  pub one_done : (job : Job) (old new : S) (out err : Change) (r : Result Outcome JobFault) → has_one_answer job ≡ true
-      → IsOneDone opens job old new out err r → IsDone opens job old new out err r
-  one_done (Compare a b c d e f g h i j k) old new out err r one done = done
-  one_done (Show a b c d e) old new out err r one done = done
-  one_done (Digest a b c d e) old new out err r one done = done
-  one_done (Cells a b c d) old new out err r one done = done
-  one_done (ListJob a b c d e) old new out err r one done = cc
-  one_done (Check a b c d e f) old new out err r one done = cc
+  pub one_done : (looks : S → List ℕ → Look → Type 0) (job : Job) (old new : S) (out err : Change) (r : Result Outcome JobFault) → has_one_answer job ≡ true
+      → IsOneDone opens looks job old new out err r → IsDone opens looks job old new out err r
+  one_done looks (Compare a b c d e f g h i j k) old new out err r one done = done
+  one_done looks (Show a b c d e) old new out err r one done = done
+  one_done looks (Digest a b c d e) old new out err r one done = done
+  one_done looks (Cells a b c d) old new out err r one done = done
+  one_done looks (ListJob a b c d e) old new out err r one done = cc
+  one_done looks (Check a b c d e f) old new out err r one done = cc
 
   -- the check of the entries ends with its summary
   pub entries_told : (entries : List Entry) (quiet : Bool) (profile : Profile) (top : Option (List ℕ)) (old new : S)

@@ -1,5 +1,5 @@
 -- What is done for a job: what it opens, writes and says, and how it ends.
-use Rattle.std.specs.Prelude.{◌≡◌, ◌⊎◌, ◌<◌, ⊤, ℕ, Bool, true, false, List, [], ◌++◌, length, Option, Some, None, Result, Ok, Err}
+use Rattle.std.specs.Prelude.{◌≡◌, ◌⊎◌, ◌<◌, ⊤, ℕ, Bool, true, false, List, [], ◌∷◌, ◌++◌, length, Option, Some, None, Result, Ok, Err}
 use Rattle.std.specs.Prelude.{IfOk, IfErr, String, string_bytes, option_map}
 use Rattle.std.specs.Global.{Global}
 use Rattle.std.specs.Io.KnownBytes.{Keeps}
@@ -13,9 +13,10 @@ use Rattle.lvl_report.specs.declared.outcome.Outcome.{Outcome}
 use Rattle.lvl_job.specs.declared.fault.JobFault.{JobFault}
 use Rattle.lvl_job.specs.declared.fault.JobFault.TheVariants.{BadView, BadIgnore, NotOpened, OutOfMemory, Output}
 use Rattle.lvl_job.specs.declared.fault.JobFault.TheVariants.{BadLine, LongList, UnreadList}
-use Rattle.lvl_job.specs.Ends.{IsSaid, end_text}
+use Rattle.lvl_job.specs.Ends.{IsSaid, end_text, is_looked_at, look_text}
+use Rattle.lvl_job.specs.declared.files.Look.{Look}
 use Rattle.lvl_job.specs.Hashing.{Hash, IsPart, IsPass, IsStopped, items_of, texts_of}
-use Rattle.lvl_job.specs.Jobs.{IsAnswered, IsFaultOfJob, IsIgnoreFault, UnderProfile, only_file}
+use Rattle.lvl_job.specs.Jobs.{IsAnswered, IsFaultOfJob, IsIgnoreFault, UnderProfile, files_of}
 use Rattle.lvl_job.specs.Listing.{checked_text, count_unlike, file_of_entry, file_of_name, name_listed, name_unlisted}
 use Rattle.lvl_job.specs.Listing.{ended_with, no_note, summary_text, worst_checked, worst_listed}
 use Rattle.lvl_job.specs.Opening.{Opened}
@@ -31,12 +32,28 @@ pub record Change : Type 0 where
 abbrev pub IsSaidOn : Change → List ℕ → Type 0
 IsSaidOn err text = IsSaid text err.old err.new err.before err.after
 
--- a job that has one answer: it was written, or this is why there is none
-pub record IsOneDone {S : Type 0} (opens : S → List ℕ → Opened → S → Type 0) (job : Job) (old new : S)
-    (out err : Change) (ended : Result Outcome JobFault) : Type 0 where
+-- the files of these names were looked at, and this is said of them
+abbrev pub AreLooks : {S : Type 0} → (S → List ℕ → Look → Type 0) → S → List (List ℕ) → List ℕ → Type 0
+AreLooks looks s [] text = text ≡ []
+AreLooks looks s (name ∷ names) text =
+    (look : Look) × (rest : List ℕ) × looks s name look × AreLooks looks s names rest
+    × (text ≡ look_text name look ++ rest)
+
+-- this is said of the files of a job after its answer: of a refusal that nothing else explains what they are
+abbrev pub IsLookedAt : {S : Type 0} → (S → List ℕ → Look → Type 0) → S → List (List ℕ) → Result Outcome JobFault
+    → List ℕ → Type 0
+IsLookedAt looks s names (Ok outcome) text =
+    (is_looked_at outcome ≡ true → AreLooks looks s names text) × (is_looked_at outcome ≡ false → text ≡ [])
+IsLookedAt looks s names (Err fault) text = text ≡ []
+
+-- a job that has one answer: it was written, or this is why there is none; and what is said after that
+pub record IsOneDone {S : Type 0} (opens : S → List ℕ → Opened → S → Type 0) (looks : S → List ℕ → Look → Type 0)
+    (job : Job) (old new : S) (out err : Change) (ended : Result Outcome JobFault) : Type 0 where
+  pub more : List ℕ
   pub answered : IfOk ended (IsAnswered opens job old new out.old out.new)
   pub fault : IfErr ended (IsFaultOfJob opens job old new out.old out.new)
-  pub said : IsSaidOn err (end_text (only_file job) ended)
+  pub looked : IsLookedAt looks new (files_of job) ended more
+  pub said : IsSaidOn err (end_text (files_of job) ended ++ more)
 
 -- ---- `--list`
 
@@ -71,7 +88,7 @@ pub record IsListDone {S : Type 0} (opens : S → List ℕ → Opened → S → 
   pub listed : IfOk ended (λ outcome. UnderProfile ignored large unpack (λ profile.
       IsListed opens names profile top old new out.old out.new said outcome))
   pub fault : IfErr ended (IsListFault opens names top ignored large unpack old new out.old out.new said)
-  pub all_said : IsSaidOn err (said ++ end_text None ended)
+  pub all_said : IsSaidOn err (said ++ end_text [] ended)
 
 -- ---- `--check`
 
@@ -139,13 +156,13 @@ pub record IsCheckDone {S : Type 0} (opens : S → List ℕ → Opened → S →
   pub checked : IfOk ended (λ outcome. UnderProfile ignored large unpack (λ profile. OfList opens list old
       (IsChecked opens quiet profile top new out.old out.new said outcome)))
   pub fault : IfErr ended (IsCheckFault opens list quiet top ignored large unpack old new out.old out.new said)
-  pub all_said : IsSaidOn err (said ++ end_text None ended)
+  pub all_said : IsSaidOn err (said ++ end_text [] ended)
 
 -- what is done for a job
-abbrev pub IsDone : {S : Type 0} → (S → List ℕ → Opened → S → Type 0) → Job → S → S → Change → Change
-    → Result Outcome JobFault → Type 0
-IsDone opens (ListJob names top ignored large unpack) =
+abbrev pub IsDone : {S : Type 0} → (S → List ℕ → Opened → S → Type 0) → (S → List ℕ → Look → Type 0) → Job → S → S
+    → Change → Change → Result Outcome JobFault → Type 0
+IsDone opens looks (ListJob names top ignored large unpack) =
     IsListDone opens names.items (option_map string_bytes top) ignored large unpack
-IsDone opens (Check list quiet top ignored large unpack) =
+IsDone opens looks (Check list quiet top ignored large unpack) =
     IsCheckDone opens (string_bytes list) quiet (option_map string_bytes top) ignored large unpack
-IsDone opens job = IsOneDone opens job
+IsDone opens looks job = IsOneDone opens looks job

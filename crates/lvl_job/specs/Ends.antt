@@ -7,7 +7,7 @@ use Rattle.std.specs.Prelude.{string_bytes}
 use Rattle.lvl_profile.specs.Ignored.{comma}
 use Rattle.lvl_profile.specs.declared.ignore.Ignore.{Ignore}
 use Rattle.lvl_report.specs.declared.hint.Hint.{Hint}
-use Rattle.lvl_report.specs.declared.hint.Hint.TheVariants.{Decompress, IgnoreMore, LiftLimits, ReadBlocks}
+use Rattle.lvl_report.specs.declared.hint.Hint.TheVariants.{Foreign, IgnoreMore, LiftLimits, ReadBlocks}
 use Rattle.lvl_report.specs.declared.outcome.Outcome.{Outcome}
 use Rattle.lvl_text.specs.Faults.{ignore_fault, view_fault}
 use Rattle.lvl_view.specs.declared.fault.ViewFault.{ViewFault}
@@ -16,6 +16,10 @@ use Rattle.lvl_report.specs.Texts.{line}
 use Rattle.lvl_report.specs.Writing.{status_code, AppendsBeginning}
 use Rattle.lvl_job.specs.declared.files.OpenFault.{OpenFault}
 use Rattle.lvl_job.specs.declared.files.OpenFault.TheVariants.{Denied, Missing, Other}
+use Rattle.lvl_job.specs.declared.files.Look.{Look}
+use Rattle.lvl_job.specs.declared.files.Look.TheVariants.{Directory, Gzip, Plain}
+use Rattle.lvl_report.specs.declared.status.Status.{Status}
+use Rattle.lvl_report.specs.declared.status.Status.TheVariants.{Refused}
 use Rattle.lvl_job.specs.declared.fault.JobFault.{JobFault}
 use Rattle.lvl_job.specs.declared.fault.JobFault.TheVariants.{BadView, BadIgnore, NotOpened, OutOfMemory, Output}
 use Rattle.lvl_job.specs.declared.fault.JobFault.TheVariants.{BadLine, LongList, UnreadList}
@@ -77,28 +81,43 @@ ignore_words i =
     ++ listed (i.properties || i.texts || i.names || i.padding) i.points (codes "points")
 
 -- the front of a line: the name of the only file, if there is one
-abbrev pub front_of_line : Option (List ℕ) → List ℕ
-front_of_line None = codes "lvl: "
-front_of_line (Some name) = codes "lvl: " ++ name ++ codes ": "
+abbrev pub front_of_line : List (List ℕ) → List ℕ
+front_of_line (name ∷ []) = codes "lvl: " ++ name ++ codes ": "
+front_of_line names = codes "lvl: "
 
 -- what would mend a refusal
 abbrev pub hint_words : Hint → List ℕ
 hint_words (IgnoreMore more) = codes "try --ignore " ++ ignore_words more ++ codes ", or --ignore all\n"
 hint_words LiftLimits = codes "try --large\n"
-hint_words Decompress = codes "neither GDSII nor OASIS: if the file is compressed (gzip), unpack it first\n"
+hint_words Foreign = codes "neither GDSII nor OASIS\n"
 hint_words ReadBlocks = codes "try --unpack\n"
 
 -- what is written for an answer: its hint, with the name of the only file if there is one, or its line
-abbrev pub said_of : Option (List ℕ) → Option Hint → Option (List ℕ) → List ℕ
-said_of file (Some hint) text = front_of_line file ++ hint_words hint
-said_of file None (Some text) = text
-said_of file None None = []
+abbrev pub said_of : List (List ℕ) → Option Hint → Option (List ℕ) → List ℕ
+said_of files (Some hint) text = front_of_line files ++ hint_words hint
+said_of files None (Some text) = text
+said_of files None None = []
 
 -- what a job writes to standard error: the hint of its answer if it has one, or else which cells could be the top or that
 -- the grid steps of two files differ; or why there is no answer. A job on one file has its name in the hint
-abbrev pub end_text : Option (List ℕ) → Result Outcome JobFault → List ℕ
-end_text file (Ok outcome) = said_of file outcome.hint (option_map (λ text. text.items) outcome.line)
-end_text file (Err fault) = fault_text fault
+abbrev pub end_text : List (List ℕ) → Result Outcome JobFault → List ℕ
+end_text files (Ok outcome) = said_of files outcome.hint (option_map (λ text. text.items) outcome.line)
+end_text files (Err fault) = fault_text fault
+
+-- what is said of a file that is looked at after a refusal
+abbrev pub look_text : List ℕ → Look → List ℕ
+look_text name Directory = codes "lvl: " ++ name ++ codes " is a directory\n"
+look_text name Gzip = codes "lvl: " ++ name ++ codes " is compressed (gzip): unpack it first\n"
+look_text name Plain = []
+
+-- whether files are looked at after an answer: it is a refusal with no hint, or only that at another format, and no line
+abbrev pub is_unexplained : Status → Option Hint → Option (List ℕ) → Bool
+is_unexplained Refused None None = true
+is_unexplained Refused (Some Foreign) None = true
+is_unexplained status hint text = false
+
+abbrev pub is_looked_at : Outcome → Bool
+is_looked_at o = is_unexplained o.status o.hint (option_map (λ text. text.items) o.line)
 
 -- whether the output of a job failed
 abbrev pub is_cut : {A : Type 0} → Result A JobFault → Bool

@@ -1,5 +1,5 @@
 -- What a job does: which files it opens, in which order, and what it writes.
-use Rattle.std.specs.Prelude.{◌≡◌, ℕ, List, Option, Some, None, Result, Ok, Err, Bool, true, false, ◌||◌, is_some, option_map}
+use Rattle.std.specs.Prelude.{◌≡◌, ℕ, List, [], ◌∷◌, Option, Some, None, Result, Ok, Err, Bool, true, false, ◌||◌, is_some, option_map}
 use Rattle.std.specs.Prelude.{if◌then◌else◌}
 use Rattle.std.specs.Prelude.{◌⊎◌}
 use Rattle.std.specs.Prelude.{String, string_bytes}
@@ -38,12 +38,14 @@ has_one_answer (ListJob names top ignored is_large unpack) = false
 has_one_answer (Check list quiet top ignored is_large unpack) = false
 has_one_answer job = true
 
--- the name of the file of a job that has one answer on one file
-abbrev pub only_file : Job → Option (List ℕ)
-only_file (Show file top ignored is_large unpack) = Some (string_bytes file)
-only_file (Digest file top ignored is_large unpack) = Some (string_bytes file)
-only_file (Cells file ignored is_large unpack) = Some (string_bytes file)
-only_file job = None
+-- the names of the files of a job that has one answer, in their order
+abbrev pub files_of : Job → List (List ℕ)
+files_of (Compare first second top_a top_b map_text window_text ignored is_large unpack why units) =
+    string_bytes first ∷ string_bytes second ∷ []
+files_of (Show file top ignored is_large unpack) = string_bytes file ∷ []
+files_of (Digest file top ignored is_large unpack) = string_bytes file ∷ []
+files_of (Cells file ignored is_large unpack) = string_bytes file ∷ []
+files_of job = []
 
 -- the name of a file in a job, its profile, and the name of its top
 pub record Named : Type 0 where

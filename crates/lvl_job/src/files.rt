@@ -15,6 +15,17 @@ pub enum OpenFault {
     Other,
 }
 
+/// What a file that was refused is.
+#[derive(Clone, Copy, Debug, PartialEq, Eq)]
+pub enum Look {
+    /// A directory.
+    Directory,
+    /// A file that begins as those of gzip do.
+    Gzip,
+    /// Anything else, or it can't be told.
+    Plain,
+}
+
 /// Opens files by name.
 pub trait Files {
     /// A file that is open, as a reader.
@@ -24,8 +35,15 @@ pub trait Files {
     /// they aren't known), or not open the file for this reason, and leave that state.
     ghost opens: { Self → List ℕ → Opened → Self → Type 0 };
 
+    /// What a look at a file may find: in this state, of the file of this name.
+    ghost looks: { Self → List ℕ → Look → Type 0 };
+
     /// Opens the file of a name. Its reader has returned no errors yet.
     fn open(&mut self, name: &str) -> Result<Self::File, OpenFault>
         ensures opened { opens self.old name.now (held Self.File.remaining result) self.new }
         ensures fresh { IfOk result (λ file. Self.File.read_errors file ≡ 0) };
+
+    /// Looks at the file of a name, after it was refused.
+    fn look(&self, name: &str) -> Look
+        ensures { looks self.now name.now result };
 }

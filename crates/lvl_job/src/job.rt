@@ -7,7 +7,7 @@ ghost use Rattle.lvl_io.specs.Bytes.{CountsFailure};
 ghost use Rattle.lvl_job.specs.Done.{IsDone, IsOneDone};
 ghost use Rattle.lvl_job.specs.Ends.{end_code, is_cut};
 ghost use Rattle.lvl_job.specs.Jobs.{IsAnswered, IsComparedUnder, IsExplainedUnder, IsFaultOfJob, IsIgnoreAsked};
-ghost use Rattle.lvl_job.specs.Jobs.{IsPairBegun, IsPairWritten, IsProfileAsked, IsViewAsked, has_one_answer, only_file};
+ghost use Rattle.lvl_job.specs.Jobs.{IsPairBegun, IsPairWritten, IsProfileAsked, IsViewAsked, has_one_answer};
 ghost use Rattle.lvl_job.specs.Opening.{held_by_job, why_unopened};
 ghost use Rattle.lvl_job.specs.inside.Parts.{IsOneAnswered, IsOneFault, IsPairAnswered, IsPairFault, IsViewFault};
 ghost use Rattle.lvl_job.specs.inside.Parts.{fault_of_run, IsNoIgnore};
@@ -19,8 +19,9 @@ ghost use Rattle.lvl_report.specs.Writing.{is_output};
 use crate::fault::JobFault;
 use crate::files::Files;
 use crate::lists::{Asked, do_check, do_list};
+use crate::looked::{paths_of, say_answer};
 use crate::pair::{Pair, compare};
-use crate::said::{say, say_outcome};
+use crate::said::say;
 use lvl::Tops;
 use lvl_io::Write;
 use lvl_line::Job;
@@ -28,7 +29,7 @@ use lvl_profile::{Ignore, Limits, Profile};
 use lvl_refusal::Cause;
 use lvl_report::{Outcome, RunFault, run_cells, run_digest, run_show_by};
 use lvl_view::View;
-use std::alloc::{AllocError, Global};
+use std::alloc::Global;
 
 /// Opens the file of this name.
 pub(crate) fn open<F: Files>(files: &mut F, name: String) -> Result<F::File, JobFault>
@@ -268,18 +269,6 @@ fn perform<F: Files, O: Write>(
     }
 }
 
-/// The name of the file of a job on one file.
-fn only_file(alloc: Global, job: &Job) -> Result<Option<String>, AllocError>
-    ensures { IfOk result (λ name. option_map string_bytes name ≡ only_file job.now) }
-{
-    match job {
-        Job::Show { file, .. } | Job::Digest { file, .. } | Job::Cells { file, .. } => {
-            Ok(Some(String::from_str(alloc, file.as_str())?))
-        }
-        _ => Ok(None),
-    }
-}
-
 /// Does a job that has one answer.
 fn answer<F: Files, O: Write, E: Write>(
     alloc: Global,
@@ -289,7 +278,7 @@ fn answer<F: Files, O: Write, E: Write>(
     err: &mut E,
 ) -> Result<Outcome, JobFault>
     requires { has_one_answer job ≡ true }
-    ensures done { IsOneDone F.opens job files.old files.new
+    ensures done { IsOneDone F.opens F.looks job files.old files.new
         (record {
           old = O.contents out.old;
           new = O.contents out.new;
@@ -304,15 +293,12 @@ fn answer<F: Files, O: Write, E: Write>(
         }) result }
     ensures errors { CountsFailure (O.write_errors out.old) (O.write_errors out.new) (is_cut result) }
 {
-    let Ok(file) = only_file(alloc, &job) else {
+    let Ok(paths) = paths_of(alloc, &job) else {
         say(err, &JobFault::OutOfMemory);
         return Err(JobFault::OutOfMemory);
     };
     let ended = perform(alloc, job, files, out);
-    match &ended {
-        Ok(outcome) => say_outcome(err, &file, outcome),
-        Err(fault) => say(err, fault),
-    }
+    say_answer(files, &paths, &ended, err);
     ended
 }
 
@@ -336,7 +322,7 @@ pub fn do_job<F: Files, O: Write, E: Write>(
     out: &mut O,
     err: &mut E,
 ) -> Result<Outcome, JobFault>
-    ensures done { IsDone F.opens job files.old files.new
+    ensures done { IsDone F.opens F.looks job files.old files.new
         (record {
           old = O.contents out.old;
           new = O.contents out.new;

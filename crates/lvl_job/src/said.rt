@@ -194,19 +194,6 @@ fn ignore_words(ignore: Ignore) -> &'static str
     }
 }
 
-/// Says the front of a line: the name of the only file, if there is one.
-fn say_front<E: Write>(err: &mut E, said: &mut Said, file: &Option<String>)
-    ensures { Says (front_of_line (option_map string_bytes file.now))
-        (record { so_far = said.old; contents = E.contents err.old; errors = E.write_errors err.old })
-        (record { so_far = said.new; contents = E.contents err.new; errors = E.write_errors err.new }) }
-{
-    say_more(err, said, b"lvl: ");
-    if let Some(name) = file {
-        say_more(err, said, name.as_bytes());
-        say_more(err, said, b": ");
-    }
-}
-
 /// Says what to ignore so that more is read, or that all may be ignored, since more may come.
 fn say_ignore<E: Write>(err: &mut E, said: &mut Said, more: Ignore)
     ensures { Says (hint_words (Hint.IgnoreMore more))
@@ -219,7 +206,7 @@ fn say_ignore<E: Write>(err: &mut E, said: &mut Said, more: Ignore)
 }
 
 /// Says what would mend a refusal.
-fn say_words<E: Write>(err: &mut E, said: &mut Said, hint: Hint)
+pub(crate) fn say_words<E: Write>(err: &mut E, said: &mut Said, hint: Hint)
     ensures { Says (hint_words hint)
         (record { so_far = said.old; contents = E.contents err.old; errors = E.write_errors err.old })
         (record { so_far = said.new; contents = E.contents err.new; errors = E.write_errors err.new }) }
@@ -227,53 +214,7 @@ fn say_words<E: Write>(err: &mut E, said: &mut Said, hint: Hint)
     match hint {
         Hint::IgnoreMore(more) => say_ignore(err, said, more),
         Hint::LiftLimits => say_more(err, said, b"try --large\n"),
-        Hint::Decompress => say_more(
-            err,
-            said,
-            b"neither GDSII nor OASIS: if the file is compressed (gzip), unpack it first\n",
-        ),
+        Hint::Foreign => say_more(err, said, b"neither GDSII nor OASIS\n"),
         Hint::ReadBlocks => say_more(err, said, b"try --unpack\n"),
-    }
-}
-
-/// Writes on one line what would mend a refusal, with the name of the only file, if there is one.
-fn say_hint<E: Write>(err: &mut E, file: &Option<String>, hint: Hint)
-    ensures { IsSaid (front_of_line (option_map string_bytes file.now) ++ hint_words hint)
-        (E.contents err.old) (E.contents err.new) (E.write_errors err.old) (E.write_errors err.new) }
-{
-    let mut said = Ok(());
-    say_front(err, &mut said, file);
-    say_words(err, &mut said, hint);
-}
-
-/// Writes on one line what would mend a refusal, if anything would, with the name of the only file, if there is one; or
-/// else the line of the outcome: which cells could be the top, or that the grid steps of two files differ. If that
-/// fails, nothing more is written.
-pub(crate) fn say_outcome<E: Write>(err: &mut E, file: &Option<String>, outcome: &Outcome)
-    ensures { IsSaid (said_of (option_map string_bytes file.now) outcome.now.hint
-        (option_map (λ text. text.items) outcome.now.line))
-        (E.contents err.old) (E.contents err.new) (E.write_errors err.old) (E.write_errors err.new) }
-{
-    if let Some(hint) = outcome.hint {
-        return say_hint(err, file, hint);
-    }
-    if let Some(text) = &outcome.line {
-        let _ = write_all(err, text);
-    }
-}
-
-/// Writes on one line why a job has no answer, or what [`say_outcome`] writes; nothing if a write failed before.
-pub(crate) fn say_end<E: Write>(err: &mut E, said: &Said, ended: &Result<Outcome, JobFault>)
-    ensures { (front : List ℕ) (old : Option (List ℕ)) (before : ℕ)
-        → IsSaidBy front old before
-        (record { so_far = said.now; contents = E.contents err.old; errors = E.write_errors err.old })
-        → IsSaid (front ++ end_text None ended.now) old (E.contents err.new) before (E.write_errors err.new) }
-{
-    if said.is_err() {
-        return;
-    }
-    match ended {
-        Ok(outcome) => say_outcome(err, &None, outcome),
-        Err(fault) => say(err, fault),
     }
 }
