@@ -1,10 +1,11 @@
 //! The files of the system.
 use crate::source::Source;
 use lvl_io::Counted;
-use lvl_job::{Files, OpenFault};
+use lvl_job::{Files, Look, OpenFault};
 use lvl_progress::{After, Meter, Watched};
+use std::fs;
 use std::fs::File;
-use std::io::{ErrorKind, Stderr};
+use std::io::{ErrorKind, Read, Stderr};
 
 /// What the program does with files, as far as it is shown.
 #[derive(Clone, Copy, PartialEq, Eq)]
@@ -40,6 +41,9 @@ pub(crate) struct Disk<'a> {
 
 /// The name of standard input.
 const INPUT: &str = "-";
+
+/// How a file of gzip begins.
+const GZIP: [u8; 2] = [0x1F, 0x8B];
 
 impl<'a> Disk<'a> {
     /// The files of the system, for a command. While they are read, standard error shows how far that
@@ -78,6 +82,15 @@ impl<'a> Disk<'a> {
         }
     }
 
+    /// Whether a file begins as those of gzip do.
+    fn is_gzip(&self, name: &str) -> bool {
+        let mut front = [0; 2];
+        match File::open(self.rt, name) {
+            Ok(mut file) => file.read_exact(&mut front).is_ok() && front == GZIP,
+            Err(_) => false,
+        }
+    }
+
     /// A meter for a file, if it is to be shown how far it is read and there is memory for that.
     fn meter(&mut self, source: &Source, name: &str) -> Option<Meter<Stderr>> {
         if !self.is_shown {
@@ -110,9 +123,22 @@ impl Files for Disk<'_> {
 
     ghost opens = { λ _ _ _ _. Unit {0} };
 
+    ghost looks = { λ _ _ _. Unit {0} };
+
     fn open(&mut self, name: &str) -> Result<Counted<Watched<Source, Stderr>>, OpenFault> {
         let source = self.source(name)?;
         let meter = self.meter(&source, name);
         Ok(Counted::new(Watched::new(source, meter)))
+    }
+
+    fn look(&self, name: &str) -> Look {
+        if name == INPUT {
+            return Look::Plain;
+        }
+        match fs::metadata(self.rt, name) {
+            Ok(data) if data.is_dir() => Look::Directory,
+            Ok(data) if data.is_file() && self.is_gzip(name) => Look::Gzip,
+            _ => Look::Plain,
+        }
     }
 }

@@ -4,7 +4,7 @@ ghost use Rattle.std.specs.Prelude.{◌≡◌};
 use crate::jobs::files::SQUARE;
 use crate::jobs::{Held, given, pieces};
 use lvl_io::fake::{Pieces, Sink};
-use lvl_job::{Files, OpenFault, code_of, do_job};
+use lvl_job::{Files, Look, OpenFault, code_of, do_job};
 use lvl_line::Job;
 use std::alloc::{AllocError, Global};
 use std::test::Fail;
@@ -45,6 +45,8 @@ impl Files for Shelf {
 
     ghost opens = { λ _ _ _ _. Unit {0} };
 
+    ghost looks = { λ _ _ _. Unit {0} };
+
     fn open(&mut self, name: &str) -> Result<Pieces<'static>, OpenFault> {
         match name {
             "list" => {
@@ -57,6 +59,10 @@ impl Files for Shelf {
             }
             _ => self.held.open(name),
         }
+    }
+
+    fn look(&self, name: &str) -> Look {
+        self.held.look(name)
     }
 }
 

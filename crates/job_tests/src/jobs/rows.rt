@@ -37,7 +37,7 @@ const WHY_SQUARE: &str =
 const STEPS: &str = "lvl: the grid steps differ: 1 nm in the first file, 2 nm in the second\n";
 
 /// A job, how many files are asked for, the last line of what it writes, what it says, and its status.
-pub static ROWS: [(&str, u8, &str, &str, u8); 65] = [
+pub static ROWS: [(&str, u8, &str, &str, u8); 71] = [
     ("square square - - - - -", 2, "same\n", "", 0),
     ("square two - A - - -", 2, "same\n", "", 0),
     (
@@ -91,7 +91,7 @@ pub static ROWS: [(&str, u8, &str, &str, u8); 65] = [
         "packed - -",
         1,
         "refused: first: gds 2 BadLength at 0\n",
-        "lvl: packed: neither GDSII nor OASIS: if the file is compressed (gzip), unpack it first\n",
+        "lvl: packed: neither GDSII nor OASIS\nlvl: packed is compressed (gzip): unpack it first\n",
         2,
     ),
     (
@@ -181,6 +181,48 @@ pub static ROWS: [(&str, u8, &str, &str, u8); 65] = [
         1,
         "refused: first: cells 6 ManyTops\n",
         TOPS,
+        2,
+    ),
+    (
+        "square packed - - - - -",
+        2,
+        "refused: second: gds 2 BadLength at 0\n",
+        "lvl: neither GDSII nor OASIS\nlvl: packed is compressed (gzip): unpack it first\n",
+        2,
+    ),
+    (
+        "drawing - -",
+        1,
+        "refused: first: gds 2 BadLength at 0\n",
+        "lvl: drawing: neither GDSII nor OASIS\n",
+        2,
+    ),
+    (
+        "drawing square - - - - -",
+        2,
+        "refused: first: gds 2 BadLength at 0\n",
+        "lvl: neither GDSII nor OASIS\n",
+        2,
+    ),
+    (
+        "folder - -",
+        1,
+        "refused: first: gds 6 Read at 0\n",
+        "lvl: folder is a directory\n",
+        2,
+    ),
+    (
+        "folder folder - - - - -",
+        2,
+        "refused: first: gds 6 Read at 0\n",
+        "lvl: folder is a directory\nlvl: folder is a directory\n",
+        2,
+    ),
+    (
+        "digest folder - all",
+        1,
+        "refused: first: gds 6 Read at 0\n",
+        "lvl: folder is a directory\n",
         2,
     ),
     (
