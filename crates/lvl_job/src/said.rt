@@ -1,11 +1,9 @@
 //! What a job writes to standard error.
-ghost use Rattle.std.specs.Prelude.{◌≡◌, ◌++◌, codes, decimal, IfErr, OnOk, OnErr, option_map};
-ghost use Rattle.std.specs.Prelude.{ℕ, List, None, Option, string_bytes};
+ghost use Rattle.std.specs.Prelude.{◌≡◌, ◌++◌, codes, decimal, IfErr, OnOk, OnErr};
 ghost use Rattle.std.specs.Io.KnownBytes.{Appends};
 ghost use Rattle.lvl_io.specs.Bytes.{CountsFailure, failed};
-ghost use Rattle.lvl_job.specs.Ends.{IsSaid, fault_text, end_text, front_of_line, hint_words, ignore_words, is_cut};
-ghost use Rattle.lvl_job.specs.Ends.{open_form, said_of, view_form};
-ghost use Rattle.lvl_job.specs.inside.Steps.{IsPut, IsSaidBy, Says};
+ghost use Rattle.lvl_job.specs.Ends.{IsSaid, fault_text, hint_words, ignore_words, is_cut, open_form, view_form};
+ghost use Rattle.lvl_job.specs.inside.Steps.{IsPut, Says};
 ghost use Rattle.lvl_report.specs.Texts.{line};
 ghost use Rattle.lvl_report.specs.Writing.{AppendsBeginning};
 
@@ -14,7 +12,7 @@ use crate::files::OpenFault;
 use itoa::Buffer;
 use lvl_io::{Failure, Write};
 use lvl_profile::Ignore;
-use lvl_report::{Hint, Outcome};
+use lvl_report::Hint;
 use lvl_text::{ignore_fault, view_fault};
 use lvl_view::ViewFault;
 
