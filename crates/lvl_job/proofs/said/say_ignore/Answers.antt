@@ -1,4 +1,3 @@
-use Rattle.std.proofs.Common.{sym}
 use Rattle.lvl_job.specs.inside.Steps.{Speaking}
 use Rattle.lvl_job.proofs.Telling.{says_then}
 use Rattle.lvl_job.proofs.said.say_ignore.Goals as goal
