@@ -7,7 +7,7 @@ use Rattle.std.specs.Prelude.{string_bytes}
 use Rattle.lvl_profile.specs.Ignored.{comma}
 use Rattle.lvl_profile.specs.declared.ignore.Ignore.{Ignore}
 use Rattle.lvl_report.specs.declared.hint.Hint.{Hint}
-use Rattle.lvl_report.specs.declared.hint.Hint.TheVariants.{Decompress, IgnoreMore, LiftLimits, ReadBlocks}
+use Rattle.lvl_report.specs.declared.hint.Hint.TheVariants.{Foreign, IgnoreMore, LiftLimits, ReadBlocks}
 use Rattle.lvl_report.specs.declared.outcome.Outcome.{Outcome}
 use Rattle.lvl_text.specs.Faults.{ignore_fault, view_fault}
 use Rattle.lvl_view.specs.declared.fault.ViewFault.{ViewFault}
@@ -85,7 +85,7 @@ front_of_line (Some name) = codes "lvl: " ++ name ++ codes ": "
 abbrev pub hint_words : Hint → List ℕ
 hint_words (IgnoreMore more) = codes "try --ignore " ++ ignore_words more ++ codes ", or --ignore all\n"
 hint_words LiftLimits = codes "try --large\n"
-hint_words Decompress = codes "neither GDSII nor OASIS: if the file is compressed (gzip), unpack it first\n"
+hint_words Foreign = codes "neither GDSII nor OASIS: if the file is compressed (gzip), unpack it first\n"
 hint_words ReadBlocks = codes "try --unpack\n"
 
 -- what is written for an answer: its hint, with the name of the only file if there is one, or its line

@@ -227,7 +227,7 @@ fn say_words<E: Write>(err: &mut E, said: &mut Said, hint: Hint)
     match hint {
         Hint::IgnoreMore(more) => say_ignore(err, said, more),
         Hint::LiftLimits => say_more(err, said, b"try --large\n"),
-        Hint::Decompress => say_more(
+        Hint::Foreign => say_more(
             err,
             said,
             b"neither GDSII nor OASIS: if the file is compressed (gzip), unpack it first\n",

@@ -42,7 +42,7 @@ use Rattle.lvl_report.specs.Texts.{comparison_of}
 use Rattle.lvl_report.specs.Tops.{line_of_one, line_of_two}
 use Rattle.lvl_report.specs.declared.outcome.Outcome.{Outcome}
 use Rattle.lvl_report.specs.declared.hint.Hint.{Hint}
-use Rattle.lvl_report.specs.declared.hint.Hint.TheVariants.{Decompress, IgnoreMore, LiftLimits, ReadBlocks}
+use Rattle.lvl_report.specs.declared.hint.Hint.TheVariants.{Foreign, IgnoreMore, LiftLimits, ReadBlocks}
 
 -- whether records of the kind for which a GDSII file is refused, or points that equal the one before, are read under
 -- the profile
@@ -121,9 +121,9 @@ is_headless fault = false
 abbrev pub cblock : ℕ
 cblock = 34
 
--- a file whose first record has a faulty header is perhaps a compressed file
+-- a file whose first record has a faulty header is perhaps of another format
 abbrev pub of_first : ℕ → GdsKind → Option Hint
-of_first offset (GdsRecord fault) = if (offset == 0) && is_headless fault then Some Decompress else None
+of_first offset (GdsRecord fault) = if (offset == 0) && is_headless fault then Some Foreign else None
 of_first offset kind = None
 
 -- an OASIS file with a CBLOCK, if blocks aren't read

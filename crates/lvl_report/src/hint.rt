@@ -25,9 +25,9 @@ pub enum Hint {
     IgnoreMore(Ignore),
     /// To take the limits for whole chips, [`Limits::LARGE`]: the limit that refuses is higher there.
     LiftLimits,
-    /// To unpack the file: it begins neither with a record of GDSII nor as OASIS does, so it may be
-    /// compressed.
-    Decompress,
+    /// To give another file: it begins neither with a record of GDSII nor as OASIS does, so it may be
+    /// compressed, or of another format.
+    Foreign,
     /// To read the compressed blocks of an OASIS file (CBLOCK).
     ReadBlocks,
 }
@@ -185,7 +185,7 @@ fn of_first(offset: u64, kind: &GdsKind) -> Option<Hint>
     ensures { result ≡ of_first offset kind.now }
 {
     match kind {
-        GdsKind::Record(fault) if offset == 0 && is_headless(*fault) => Some(Hint::Decompress),
+        GdsKind::Record(fault) if offset == 0 && is_headless(*fault) => Some(Hint::Foreign),
         _ => None,
     }
 }
