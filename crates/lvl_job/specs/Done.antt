@@ -39,21 +39,24 @@ AreLooks looks s (name ∷ names) text =
     (look : Look) × (rest : List ℕ) × looks s name look × AreLooks looks s names rest
     × (text ≡ look_text name look ++ rest)
 
--- this is said of the files of a job after its answer: of a refusal that nothing else explains what they are
-abbrev pub IsLookedAt : {S : Type 0} → (S → List ℕ → Look → Type 0) → S → List (List ℕ) → Result Outcome JobFault
+-- what a job on the files of these names writes to standard error: what `end_text` has, and after a refusal that nothing
+-- else explains what the files are
+abbrev pub IsEndText : {S : Type 0} → (S → List ℕ → Look → Type 0) → S → List (List ℕ) → Result Outcome JobFault
     → List ℕ → Type 0
-IsLookedAt looks s names (Ok outcome) text =
-    (is_looked_at outcome ≡ true → AreLooks looks s names text) × (is_looked_at outcome ≡ false → text ≡ [])
-IsLookedAt looks s names (Err fault) text = text ≡ []
+IsEndText looks s names (Ok outcome) text =
+    (is_looked_at outcome ≡ false → text ≡ end_text names (Ok outcome))
+    × (is_looked_at outcome ≡ true → (more : List ℕ) × AreLooks looks s names more
+    × (text ≡ end_text names (Ok outcome) ++ more))
+IsEndText looks s names (Err fault) text = text ≡ end_text names (Err fault)
 
--- a job that has one answer: it was written, or this is why there is none; and what is said after that
+-- a job that has one answer: it was written, or this is why there is none; and this text was said
 pub record IsOneDone {S : Type 0} (opens : S → List ℕ → Opened → S → Type 0) (looks : S → List ℕ → Look → Type 0)
     (job : Job) (old new : S) (out err : Change) (ended : Result Outcome JobFault) : Type 0 where
-  pub more : List ℕ
+  pub text : List ℕ
   pub answered : IfOk ended (IsAnswered opens job old new out.old out.new)
   pub fault : IfErr ended (IsFaultOfJob opens job old new out.old out.new)
-  pub looked : IsLookedAt looks new (files_of job) ended more
-  pub said : IsSaidOn err (end_text (files_of job) ended ++ more)
+  pub text_is : IsEndText looks new (files_of job) ended text
+  pub said : IsSaidOn err text
 
 -- ---- `--list`
 

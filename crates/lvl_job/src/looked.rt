@@ -57,7 +57,8 @@ fn say_front<E: Write>(err: &mut E, said: &mut Said, paths: &Paths)
 {
     match paths {
         Paths::One(name) => say_of(err, said, name.as_str(), ": "),
-        Paths::None | Paths::Two(..) => say_more(err, said, b"lvl: "),
+        Paths::None => say_more(err, said, b"lvl: "),
+        Paths::Two(..) => say_more(err, said, b"lvl: "),
     }
 }
 

@@ -1,8 +1,8 @@
 -- What is said of files that are looked at again.
-use Rattle.std.specs.Prelude.{ℕ, List, [], ◌∷◌, ◌++◌, Option, Result, string_bytes}
+use Rattle.std.specs.Prelude.{ℕ, List, [], ◌∷◌, Option, Result, string_bytes}
 use Rattle.lvl_report.specs.declared.outcome.Outcome.{Outcome}
-use Rattle.lvl_job.specs.Done.{AreLooks, IsLookedAt}
-use Rattle.lvl_job.specs.Ends.{IsSaid, end_text, look_text}
+use Rattle.lvl_job.specs.Done.{AreLooks, IsEndText}
+use Rattle.lvl_job.specs.Ends.{IsSaid, look_text}
 use Rattle.lvl_job.specs.declared.fault.JobFault.{JobFault}
 use Rattle.lvl_job.specs.declared.files.Look.{Look}
 use Rattle.lvl_job.specs.declared.looked.Paths.{Paths}
@@ -27,4 +27,4 @@ IsToldOf looks s names a b = (text : List ℕ) × AreLooks looks s names text ×
 abbrev pub IsAnswerSaid : {S : Type 0} → (S → List ℕ → Look → Type 0) → S → List (List ℕ) → Result Outcome JobFault
     → Option (List ℕ) → Option (List ℕ) → ℕ → ℕ → Type 0
 IsAnswerSaid looks s names ended old new before after =
-    (more : List ℕ) × IsLookedAt looks s names ended more × IsSaid (end_text names ended ++ more) old new before after
+    (text : List ℕ) × IsEndText looks s names ended text × IsSaid text old new before after
