@@ -127,10 +127,10 @@ limits_asked is_large = if is_large then large else standard
 
 -- the profile has the set that a text of what is ignored gives and the limits that are asked for, and reads compressed
 -- blocks if that is asked for
-pub record IsProfileAsked (text : Option (List ℕ)) (is_large unpack : Bool) (profile : Profile) : Type 0 where
+pub record IsProfileAsked (text : Option (List ℕ)) (is_large is_unpacked : Bool) (profile : Profile) : Type 0 where
   pub ignore : IsIgnoreAsked text profile.ignore
   pub limits : profile.limits ≡ limits_asked is_large
-  pub unpack : profile.unpack ≡ unpack
+  pub unpack : profile.unpack ≡ is_unpacked
 
 -- Holds is true of the profile that is asked for
 pub record UnderProfile (ignored : Option (String Global)) (is_large unpack : Bool) (Holds : Profile → Type 0)

@@ -1,5 +1,5 @@
 //! What a job writes to standard error.
-ghost use Rattle.std.specs.Prelude.{◌≡◌, ◌++◌, codes, decimal, IfErr, OnOk, OnErr};
+ghost use Rattle.std.specs.Prelude.{◌≡◌, ◌++◌, false, true, codes, decimal, IfErr, OnOk, OnErr};
 ghost use Rattle.std.specs.Io.KnownBytes.{Appends};
 ghost use Rattle.lvl_io.specs.Bytes.{CountsFailure, failed};
 ghost use Rattle.lvl_job.specs.Ends.{IsSaid, fault_text, hint_words, ignore_words, is_cut, open_form, view_form};
@@ -162,8 +162,9 @@ pub(crate) fn say<E: Write>(err: &mut E, fault: &JobFault)
     }
 }
 
-/// What is ignored, as words joined by commas.
-fn ignore_words(ignore: Ignore) -> &'static str
+/// What is ignored, as words joined by commas; points of paths aren't.
+fn words_but_points(ignore: Ignore) -> &'static str
+    requires { ignore.points ≡ false }
     ensures { result.now ≡ ignore_words ignore }
 {
     let Ignore {
@@ -171,6 +172,7 @@ fn ignore_words(ignore: Ignore) -> &'static str
         texts,
         names,
         padding,
+        ..
     } = ignore;
     match (properties, texts, names, padding) {
         (false, false, false, false) => "",
@@ -189,6 +191,49 @@ fn ignore_words(ignore: Ignore) -> &'static str
         (true, true, false, true) => "properties,texts,padding",
         (true, true, true, false) => "properties,texts,names",
         (true, true, true, true) => "properties,texts,names,padding",
+    }
+}
+
+/// What is ignored, as words joined by commas; points of paths are.
+fn words_and_points(ignore: Ignore) -> &'static str
+    requires { ignore.points ≡ true }
+    ensures { result.now ≡ ignore_words ignore }
+{
+    let Ignore {
+        properties,
+        texts,
+        names,
+        padding,
+        ..
+    } = ignore;
+    match (properties, texts, names, padding) {
+        (false, false, false, false) => "points",
+        (false, false, false, true) => "padding,points",
+        (false, false, true, false) => "names,points",
+        (false, false, true, true) => "names,padding,points",
+        (false, true, false, false) => "texts,points",
+        (false, true, false, true) => "texts,padding,points",
+        (false, true, true, false) => "texts,names,points",
+        (false, true, true, true) => "texts,names,padding,points",
+        (true, false, false, false) => "properties,points",
+        (true, false, false, true) => "properties,padding,points",
+        (true, false, true, false) => "properties,names,points",
+        (true, false, true, true) => "properties,names,padding,points",
+        (true, true, false, false) => "properties,texts,points",
+        (true, true, false, true) => "properties,texts,padding,points",
+        (true, true, true, false) => "properties,texts,names,points",
+        (true, true, true, true) => "properties,texts,names,padding,points",
+    }
+}
+
+/// What is ignored, as words joined by commas.
+fn ignore_words(ignore: Ignore) -> &'static str
+    ensures { result.now ≡ ignore_words ignore }
+{
+    if ignore.points {
+        words_and_points(ignore)
+    } else {
+        words_but_points(ignore)
     }
 }
 
