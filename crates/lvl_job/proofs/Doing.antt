@@ -176,7 +176,7 @@ module _ {S : Type 0} (opens : S → List ℕ → Opened → S → Type 0) where
         → IfErr r (IsFaultOfJob opens (Show file top ignored is_large unpack) old new from to)
     shown_fault old new from to =
         fault_of_one IsShownBy text_of_shown (Show file top ignored is_large unpack) profile file top old new from to
-        (λ name e o. record { profile = profile; asked = given; holds = (e, o) })
+        (λ name reason e o. record { profile = profile; asked = given; holds = (e, o) })
         (λ h. record { profile = profile; asked = given; holds = h })
 
     pub digested_fault : (old new : S) (from to : Option (List ℕ)) (r : Result Outcome JobFault)
@@ -184,7 +184,7 @@ module _ {S : Type 0} (opens : S → List ℕ → Opened → S → Type 0) where
         → IfErr r (IsFaultOfJob opens (Digest file top ignored is_large unpack) old new from to)
     digested_fault old new from to =
         fault_of_one IsDigestedBy text_of_digested (Digest file top ignored is_large unpack) profile file top old new from to
-        (λ name e o. record { profile = profile; asked = given; holds = (e, o) })
+        (λ name reason e o. record { profile = profile; asked = given; holds = (e, o) })
         (λ h. record { profile = profile; asked = given; holds = h })
 
   module _ (file : String Global) (ignored : Option (String Global)) (is_large unpack : Bool) (profile : Profile)
@@ -201,7 +201,7 @@ module _ {S : Type 0} (opens : S → List ℕ → Opened → S → Type 0) where
         → IfErr r (IsFaultOfJob opens (Cells file ignored is_large unpack) old new from to)
     cells_fault old new from to =
         fault_of_one IsListedBy text_of_list (Cells file ignored is_large unpack) profile file None old new from to
-        (λ name e o. record { profile = profile; asked = given; holds = (e, o) })
+        (λ name reason e o. record { profile = profile; asked = given; holds = (e, o) })
         (λ h. record { profile = profile; asked = given; holds = h })
 
   pub view_fault : (first second : String Global) (top_a top_b map_text window_text ignored : Option (String Global))
@@ -211,7 +211,7 @@ module _ {S : Type 0} (opens : S → List ℕ → Opened → S → Type 0) where
   view_fault first second top_a top_b map_text window_text ignored is_large unpack why units old from (BadView fault) h =
       (h, refl, keeps_same from)
   view_fault first second top_a top_b map_text window_text ignored is_large unpack why units old from (BadIgnore fault) h = absurd h
-  view_fault first second top_a top_b map_text window_text ignored is_large unpack why units old from (NotOpened name why) h = absurd h
+  view_fault first second top_a top_b map_text window_text ignored is_large unpack why units old from (NotOpened name reason) h = absurd h
   view_fault first second top_a top_b map_text window_text ignored is_large unpack why units old from (UnreadList name) h = absurd h
   view_fault first second top_a top_b map_text window_text ignored is_large unpack why units old from (LongList name) h = absurd h
   view_fault first second top_a top_b map_text window_text ignored is_large unpack why units old from (BadLine name n) h = absurd h

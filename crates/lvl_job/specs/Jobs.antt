@@ -217,16 +217,16 @@ IsCut opens job old new from to = ⊥
 -- the file of this name is the first in the job that could not be opened, and why
 abbrev pub IsNotOpened : {S : Type 0} → (S → List ℕ → Opened → S → Type 0) → Job → S → S → List ℕ
     → OpenFault → Type 0
-IsNotOpened opens (Compare first second top_a top_b map_text window_text ignored is_large unpack why units) old new name why =
+IsNotOpened opens (Compare first second top_a top_b map_text window_text ignored is_large unpack why units) old new name reason =
     UnderView map_text window_text (λ _. UnderProfile ignored is_large unpack (λ _.
-    IsMissing opens old new (string_bytes first) (string_bytes second) name why))
-IsNotOpened opens (Show file top ignored is_large unpack) old new name why =
-    UnderProfile ignored is_large unpack (λ _. (name ≡ string_bytes file) × opens old name (Err why) new)
-IsNotOpened opens (Digest file top ignored is_large unpack) old new name why =
-    UnderProfile ignored is_large unpack (λ _. (name ≡ string_bytes file) × opens old name (Err why) new)
-IsNotOpened opens (Cells file ignored is_large unpack) old new name why =
-    UnderProfile ignored is_large unpack (λ _. (name ≡ string_bytes file) × opens old name (Err why) new)
-IsNotOpened opens job old new name why = ⊥
+    IsMissing opens old new (string_bytes first) (string_bytes second) name reason))
+IsNotOpened opens (Show file top ignored is_large unpack) old new name reason =
+    UnderProfile ignored is_large unpack (λ _. (name ≡ string_bytes file) × opens old name (Err reason) new)
+IsNotOpened opens (Digest file top ignored is_large unpack) old new name reason =
+    UnderProfile ignored is_large unpack (λ _. (name ≡ string_bytes file) × opens old name (Err reason) new)
+IsNotOpened opens (Cells file ignored is_large unpack) old new name reason =
+    UnderProfile ignored is_large unpack (λ _. (name ≡ string_bytes file) × opens old name (Err reason) new)
+IsNotOpened opens job old new name reason = ⊥
 
 -- why the texts of a map and a window give no view; a job on one file has no such texts
 abbrev pub IsBadView : Job → ViewFault → Type 0

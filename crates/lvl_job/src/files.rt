@@ -28,6 +28,8 @@ pub enum Look {
 
 /// Opens files by name.
 pub trait Files {
+    ghost use Rattle.lvl_job.specs.declared.files.Look.{Look};
+
     /// A file that is open, as a reader.
     type File: Read + Drop;
 

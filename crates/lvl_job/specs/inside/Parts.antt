@@ -51,8 +51,8 @@ abbrev pub IsPairFault : {S : Type 0} → (S → List ℕ → Opened → S → T
     → Option PlainView → Named → Named → S → S → Option (List ℕ) → Option (List ℕ) → JobFault → Type 0
 IsPairFault opens units why view a b old new from to (BadView fault) = ⊥
 IsPairFault opens units why view a b old new from to (BadIgnore fault) = ⊥
-IsPairFault opens units why view a b old new from to (NotOpened name why) =
-    IsMissing opens old new a.name b.name (string_bytes name) why × Keeps from to
+IsPairFault opens units why view a b old new from to (NotOpened name reason) =
+    IsMissing opens old new a.name b.name (string_bytes name) reason × Keeps from to
 IsPairFault opens units why view a b old new from to (UnreadList name) = ⊥
 IsPairFault opens units why view a b old new from to (LongList name) = ⊥
 IsPairFault opens units why view a b old new from to (BadLine name n) = ⊥

@@ -21,7 +21,7 @@ pub returns-in-BadLine : goal.returns-in-BadLine
 returns-in-BadLine g c = rw (c.in-BadLine.is, sym c.as_str-in-BadLine.ensures.value) c.say_bad_line.ensures
 
 pub returns-in-OutOfMemory : goal.returns-in-OutOfMemory
-returns-in-OutOfMemory g c = rw c.in-OutOfMemory.is c.say_line-in-OutOfMemory.ensures
+returns-in-OutOfMemory g c = rw c.in-OutOfMemory.is c.say_line.ensures
 
 pub returns-in-Output : goal.returns-in-Output
 returns-in-Output g c = rw c.in-Output.is c.say_line-in-Output.ensures

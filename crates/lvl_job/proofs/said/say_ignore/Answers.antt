@@ -26,4 +26,4 @@ returns g c =
     } in
     let first = says_then _ _ start one two c.say_more.ensures c.say_more-2.ensures in
     let all = says_then _ _ start two three first c.say_more-3.ensures in
-    rw c.ignore_words.ensures at all
+    rw (c.as_bytes.ensures.value, c.ignore_words.ensures) at all
