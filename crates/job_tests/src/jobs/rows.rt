@@ -37,7 +37,7 @@ const WHY_SQUARE: &str =
 const STEPS: &str = "lvl: the grid steps differ: 1 nm in the first file, 2 nm in the second\n";
 
 /// A job, how many files are asked for, the last line of what it writes, what it says, and its status.
-pub static ROWS: [(&str, u8, &str, &str, u8); 71] = [
+pub(super) static ROWS: [(&str, u8, &str, &str, u8); 71] = [
     ("square square - - - - -", 2, "same\n", "", 0),
     ("square two - A - - -", 2, "same\n", "", 0),
     (

@@ -3,7 +3,7 @@ use crate::lines::Asks;
 use clap::error::ErrorKind;
 
 /// A line, and what it asks for.
-pub static LINES: [(&str, Asks<'static>); 78] = [
+pub(super) static LINES: [(&str, Asks<'static>); 78] = [
     ("lvl compare a b", Asks::Compare("a", "b", None, None)),
     (
         "lvl compare a b --top-a X --top-b Y",
