@@ -1,11 +1,12 @@
 //! Jobs over files that are held in memory.
 ghost use Rattle.std.specs.Prelude.{◌≡◌};
 
-use crate::jobs::files::{BLOCK, LABEL, PACKED, PRESSED, SQUARE, TAGGED, TWICE, TWICE_OASIS, TWO};
+use crate::jobs::files::{
+    BLOCK, DRAWING, LABEL, PACKED, PRESSED, SQUARE, TAGGED, TWICE, TWICE_OASIS, TWO,
+};
 use crate::jobs::rows::ROWS;
-use lvl_io::Failure;
 use lvl_io::fake::{Pieces, Sink};
-use lvl_job::{Files, code_of, do_job, do_line};
+use lvl_job::{Files, Look, OpenFault, code_of, do_job, do_line};
 use lvl_line::Job;
 use std::alloc::{AllocError, Global};
 use std::test::Fail;
@@ -26,6 +27,18 @@ fn pieces(bytes: &'static [u8]) -> Pieces<'static>
     }
 }
 
+/// A file that can't be read, and has not failed.
+fn unreadable() -> Pieces<'static>
+    ensures { result.errors ≡ 0 }
+{
+    Pieces {
+        rest: b"",
+        most: 7,
+        failures: 1,
+        errors: 0,
+    }
+}
+
 /// The files of this module, by their names in small letters, and how many times one was asked for.
 #[derive(Drop)]
 struct Held {
@@ -37,7 +50,9 @@ impl Files for Held {
 
     ghost opens = { λ _ _ _ _. Unit {0} };
 
-    fn open(&mut self, name: &str) -> Result<Pieces<'static>, Failure> {
+    ghost looks = { λ _ _ _. Unit {0} };
+
+    fn open(&mut self, name: &str) -> Result<Pieces<'static>, OpenFault> {
         self.asked = self.asked.saturating_add(1);
         match name {
             "square" => Ok(pieces(SQUARE)),
@@ -49,7 +64,19 @@ impl Files for Held {
             "pressed" => Ok(pieces(PRESSED)),
             "twice" => Ok(pieces(TWICE)),
             "twice_oasis" => Ok(pieces(TWICE_OASIS)),
-            _ => Err(Failure),
+            "drawing" => Ok(pieces(DRAWING)),
+            "folder" => Ok(unreadable()),
+            "denied" => Err(OpenFault::Denied),
+            "broken" => Err(OpenFault::Other),
+            _ => Err(OpenFault::Missing),
+        }
+    }
+
+    fn look(&self, name: &str) -> Look {
+        match name {
+            "packed" => Look::Gzip,
+            "folder" => Look::Directory,
+            _ => Look::Plain,
         }
     }
 }

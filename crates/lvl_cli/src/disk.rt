@@ -1,10 +1,11 @@
 //! The files of the system.
 use crate::source::Source;
-use lvl_io::{Counted, Failure};
-use lvl_job::Files;
+use lvl_io::Counted;
+use lvl_job::{Files, Look, OpenFault};
 use lvl_progress::{After, Meter, Watched};
+use std::fs;
 use std::fs::File;
-use std::io::Stderr;
+use std::io::{ErrorKind, Read, Stderr};
 
 /// What the program does with files, as far as it is shown.
 #[derive(Clone, Copy, PartialEq, Eq)]
@@ -41,6 +42,9 @@ pub(crate) struct Disk<'a> {
 /// The name of standard input.
 const INPUT: &str = "-";
 
+/// How a file of gzip begins.
+const GZIP: [u8; 2] = [0x1F, 0x8B];
+
 impl<'a> Disk<'a> {
     /// The files of the system, for a command. While they are read, standard error shows how far that
     /// is, if that is asked for.
@@ -64,17 +68,26 @@ impl<'a> Disk<'a> {
     }
 
     /// Opens the file of a name; `-` is standard input, once.
-    fn source(&mut self, name: &str) -> Result<Source, Failure> {
+    fn source(&mut self, name: &str) -> Result<Source, OpenFault> {
         if name == INPUT {
             if self.is_input_taken {
-                return Err(Failure);
+                return Err(OpenFault::Other);
             }
             self.is_input_taken = true;
             return Ok(Source::Input(self.rt.stdin()));
         }
         match File::open(self.rt, name) {
             Ok(file) => Ok(Source::File(file)),
-            Err(_) => Err(Failure),
+            Err(error) => Err(fault_of(error.kind())),
+        }
+    }
+
+    /// Whether a file begins as those of gzip do.
+    fn is_gzip(&self, name: &str) -> bool {
+        let mut front = [0; 2];
+        match File::open(self.rt, name) {
+            Ok(mut file) => file.read_exact(&mut front).is_ok() && front == GZIP,
+            Err(_) => false,
         }
     }
 
@@ -96,14 +109,36 @@ impl<'a> Disk<'a> {
     }
 }
 
+/// Why a file isn't opened, by what the system says.
+fn fault_of(kind: ErrorKind) -> OpenFault {
+    match kind {
+        ErrorKind::NotFound | ErrorKind::NotADirectory => OpenFault::Missing,
+        ErrorKind::PermissionDenied => OpenFault::Denied,
+        _ => OpenFault::Other,
+    }
+}
+
 impl Files for Disk<'_> {
     type File = Counted<Watched<Source, Stderr>>;
 
     ghost opens = { λ _ _ _ _. Unit {0} };
 
-    fn open(&mut self, name: &str) -> Result<Counted<Watched<Source, Stderr>>, Failure> {
+    ghost looks = { λ _ _ _. Unit {0} };
+
+    fn open(&mut self, name: &str) -> Result<Counted<Watched<Source, Stderr>>, OpenFault> {
         let source = self.source(name)?;
         let meter = self.meter(&source, name);
         Ok(Counted::new(Watched::new(source, meter)))
+    }
+
+    fn look(&self, name: &str) -> Look {
+        if name == INPUT {
+            return Look::Plain;
+        }
+        match fs::metadata(self.rt, name) {
+            Ok(data) if data.is_dir() => Look::Directory,
+            Ok(data) if data.is_file() && self.is_gzip(name) => Look::Gzip,
+            _ => Look::Plain,
+        }
     }
 }

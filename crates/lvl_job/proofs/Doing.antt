@@ -1,5 +1,5 @@
 -- What a job did, by what its steps did.
-use Rattle.std.proofs.Common.{Bool, ◌≡◌, ℕ, List, Option, Some, None, Result, Ok, Err, IfOk, IfErr, refl, sym, subst}
+use Rattle.std.proofs.Common.{Bool, ◌≡◌, ℕ, List, Option, None, Result, Ok, Err, IfOk, IfErr, refl, sym, subst}
 use Rattle.std.proofs.Common.{option_map}
 use Rattle.std.specs.Io.KnownBytes.{Keeps}
 use Rattle.std.specs.Global.{Global}
@@ -25,14 +25,16 @@ use Rattle.lvl_job.specs.Jobs.{named, OfOne, OfTwo}
 use Rattle.lvl_job.specs.inside.Parts.{IsNoIgnore, IsOneAnswered, IsOneFault, IsPairAnswered, IsPairFault, IsViewFault}
 use Rattle.lvl_job.specs.inside.Parts.{fault_of_run}
 use Rattle.lvl_job.proofs.Saying.{keeps_same}
+use Rattle.lvl_job.specs.Opening.{Opened}
+use Rattle.lvl_job.specs.declared.files.OpenFault.{OpenFault}
 
 -- a run with this fault
 abbrev pub failed_run : RunFault → Result Outcome RunFault
 failed_run fault = Err fault
 
-module _ {S : Type 0} (opens : S → List ℕ → Option (Option (List ℕ)) → S → Type 0) where
+module _ {S : Type 0} (opens : S → List ℕ → Opened → S → Type 0) where
   pub of_one : (old new : S) (a : Named) (xs left : Option (List ℕ)) (e after : ℕ) (Holds : Input → Type 0)
-      → opens old a.name (Some xs) new → e ≡ 0 → Holds (input a.profile xs left e after a.top)
+      → opens old a.name (Ok xs) new → e ≡ 0 → Holds (input a.profile xs left e after a.top)
       → OfOne opens old new a Holds
   of_one old new a xs left e after Holds opened fresh holds = record {
     bytes = xs;
@@ -43,7 +45,7 @@ module _ {S : Type 0} (opens : S → List ℕ → Option (Option (List ℕ)) →
 
   pub of_two : (old between new : S) (a b : Named) (xs ys left rest : Option (List ℕ)) (e f after later : ℕ)
       (Holds : Input → Input → Type 0)
-      → opens old a.name (Some xs) between → opens between b.name (Some ys) new → e ≡ 0 → f ≡ 0
+      → opens old a.name (Ok xs) between → opens between b.name (Ok ys) new → e ≡ 0 → f ≡ 0
       → Holds (input a.profile xs left e after a.top) (input b.profile ys rest f later b.top)
       → OfTwo opens old new a b Holds
   of_two old between new a b xs ys left rest e f after later Holds first second fresh new_too holds = record {
@@ -91,7 +93,8 @@ module _ {S : Type 0} (opens : S → List ℕ → Option (Option (List ℕ)) →
     -- a job on one file, by why the file isn't opened and how its answer is cut off
     fault_of_one : (job : Job) (profile : Profile) (file : String Global) (top : Option (String Global)) (old new : S)
         (from to : Option (List ℕ))
-        → ((name : List ℕ) → name ≡ string_bytes file → opens old name None new → IsNotOpened opens job old new name)
+        → ((name : List ℕ) (why : OpenFault) → name ≡ string_bytes file → opens old name (Err why) new
+        → IsNotOpened opens job old new name why)
         → (OfOne opens old new (named profile file top) (λ a. IsBegun (IsAnswerOf a) text from to)
         → IsCut opens job old new from to)
         → (r : Result Outcome JobFault)
@@ -104,7 +107,7 @@ module _ {S : Type 0} (opens : S → List ℕ → Option (Option (List ℕ)) →
             → IsFaultOfJob opens job old new from to fault
         go (BadView fault) h = absurd h
         go (BadIgnore fault) h = absurd h
-        go (NotOpened name) h = (missing (string_bytes name) h.0 h.1, h.2)
+        go (NotOpened name why) h = (missing (string_bytes name) why h.0 h.1, h.2)
         go (UnreadList name) h = absurd h
         go (LongList name) h = absurd h
         go (BadLine name n) h = absurd h
@@ -140,7 +143,7 @@ module _ {S : Type 0} (opens : S → List ℕ → Option (Option (List ℕ)) →
             → IsFaultOfJob opens (Compare first second top_a top_b map_text window_text ignored is_large unpack why units) old new from to fault
         go (BadView fault) h = absurd h
         go (BadIgnore fault) h = absurd h
-        go (NotOpened name) h = (both h.0, h.1)
+        go (NotOpened name why) h = (both h.0, h.1)
         go (UnreadList name) h = absurd h
         go (LongList name) h = absurd h
         go (BadLine name n) h = absurd h
@@ -173,7 +176,7 @@ module _ {S : Type 0} (opens : S → List ℕ → Option (Option (List ℕ)) →
         → IfErr r (IsFaultOfJob opens (Show file top ignored is_large unpack) old new from to)
     shown_fault old new from to =
         fault_of_one IsShownBy text_of_shown (Show file top ignored is_large unpack) profile file top old new from to
-        (λ name e o. record { profile = profile; asked = given; holds = (e, o) })
+        (λ name reason e o. record { profile = profile; asked = given; holds = (e, o) })
         (λ h. record { profile = profile; asked = given; holds = h })
 
     pub digested_fault : (old new : S) (from to : Option (List ℕ)) (r : Result Outcome JobFault)
@@ -181,7 +184,7 @@ module _ {S : Type 0} (opens : S → List ℕ → Option (Option (List ℕ)) →
         → IfErr r (IsFaultOfJob opens (Digest file top ignored is_large unpack) old new from to)
     digested_fault old new from to =
         fault_of_one IsDigestedBy text_of_digested (Digest file top ignored is_large unpack) profile file top old new from to
-        (λ name e o. record { profile = profile; asked = given; holds = (e, o) })
+        (λ name reason e o. record { profile = profile; asked = given; holds = (e, o) })
         (λ h. record { profile = profile; asked = given; holds = h })
 
   module _ (file : String Global) (ignored : Option (String Global)) (is_large unpack : Bool) (profile : Profile)
@@ -198,7 +201,7 @@ module _ {S : Type 0} (opens : S → List ℕ → Option (Option (List ℕ)) →
         → IfErr r (IsFaultOfJob opens (Cells file ignored is_large unpack) old new from to)
     cells_fault old new from to =
         fault_of_one IsListedBy text_of_list (Cells file ignored is_large unpack) profile file None old new from to
-        (λ name e o. record { profile = profile; asked = given; holds = (e, o) })
+        (λ name reason e o. record { profile = profile; asked = given; holds = (e, o) })
         (λ h. record { profile = profile; asked = given; holds = h })
 
   pub view_fault : (first second : String Global) (top_a top_b map_text window_text ignored : Option (String Global))
@@ -208,7 +211,7 @@ module _ {S : Type 0} (opens : S → List ℕ → Option (Option (List ℕ)) →
   view_fault first second top_a top_b map_text window_text ignored is_large unpack why units old from (BadView fault) h =
       (h, refl, keeps_same from)
   view_fault first second top_a top_b map_text window_text ignored is_large unpack why units old from (BadIgnore fault) h = absurd h
-  view_fault first second top_a top_b map_text window_text ignored is_large unpack why units old from (NotOpened name) h = absurd h
+  view_fault first second top_a top_b map_text window_text ignored is_large unpack why units old from (NotOpened name reason) h = absurd h
   view_fault first second top_a top_b map_text window_text ignored is_large unpack why units old from (UnreadList name) h = absurd h
   view_fault first second top_a top_b map_text window_text ignored is_large unpack why units old from (LongList name) h = absurd h
   view_fault first second top_a top_b map_text window_text ignored is_large unpack why units old from (BadLine name n) h = absurd h
@@ -221,7 +224,7 @@ module _ {S : Type 0} (opens : S → List ℕ → Option (Option (List ℕ)) →
       → IsFaultOfJob opens job old old from from fault
   no_ignore job text old from (BadView fault) bad h = absurd h
   no_ignore job text old from (BadIgnore fault) bad h = (bad h, refl, keeps_same from)
-  no_ignore job text old from (NotOpened name) bad h = absurd h
+  no_ignore job text old from (NotOpened name why) bad h = absurd h
   no_ignore job text old from (UnreadList name) bad h = absurd h
   no_ignore job text old from (LongList name) bad h = absurd h
   no_ignore job text old from (BadLine name n) bad h = absurd h

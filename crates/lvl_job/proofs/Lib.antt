@@ -3,3 +3,4 @@ pub mod Doing
 pub mod Telling
 pub mod Passing
 pub mod Listed
+pub mod Looking

@@ -24,17 +24,19 @@ use Rattle.lvl_job.specs.inside.Told.{IsCheckTold, IsEntriesTold, IsListTold, Is
 use Rattle.lvl_job.proofs.Passing.{no_notes}
 use Rattle.lvl_job.proofs.Saying.{keeps_same}
 use Rattle.lvl_job.proofs.Telling.{says_nothing}
+use Rattle.lvl_job.specs.Opening.{Opened}
+use Rattle.lvl_job.specs.declared.files.Look.{Look}
 
-module _ {S : Type 0} (opens : S → List ℕ → Option (Option (List ℕ)) → S → Type 0) where
+module _ {S : Type 0} (opens : S → List ℕ → Opened → S → Type 0) where
   -- a job with one answer
-  pub one_done : (job : Job) (old new : S) (out err : Change) (r : Result Outcome JobFault) → has_one_answer job ≡ true
-      → IsOneDone opens job old new out err r → IsDone opens job old new out err r
-  one_done (Compare a b c d e f g h i j k) old new out err r one done = done
-  one_done (Show a b c d e) old new out err r one done = done
-  one_done (Digest a b c d e) old new out err r one done = done
-  one_done (Cells a b c d) old new out err r one done = done
-  one_done (ListJob a b c d e) old new out err r one done = cc
-  one_done (Check a b c d e f) old new out err r one done = cc
+  pub one_done : (looks : S → List ℕ → Look → Type 0) (job : Job) (old new : S) (out err : Change) (r : Result Outcome JobFault) → has_one_answer job ≡ true
+      → IsOneDone opens looks job old new out err r → IsDone opens looks job old new out err r
+  one_done looks (Compare a b c d e f g h i j k) old new out err r one done = done
+  one_done looks (Show a b c d e) old new out err r one done = done
+  one_done looks (Digest a b c d e) old new out err r one done = done
+  one_done looks (Cells a b c d) old new out err r one done = done
+  one_done looks (ListJob a b c d e) old new out err r one done = cc
+  one_done looks (Check a b c d e f) old new out err r one done = cc
 
   -- the check of the entries ends with its summary
   pub entries_told : (entries : List Entry) (quiet : Bool) (profile : Profile) (top : Option (List ℕ)) (old new : S)
@@ -81,7 +83,7 @@ module _ {S : Type 0} (opens : S → List ℕ → Option (Option (List ℕ)) →
     list_fault names old new from to said Output h = record { profile = profile; asked = asked; holds = h }
     list_fault names old new from to said (BadView f) h = absurd h
     list_fault names old new from to said (BadIgnore f) h = absurd h
-    list_fault names old new from to said (NotOpened name) h = absurd h
+    list_fault names old new from to said (NotOpened name why) h = absurd h
     list_fault names old new from to said (UnreadList name) h = absurd h
     list_fault names old new from to said (LongList name) h = absurd h
     list_fault names old new from to said (BadLine name n) h = absurd h
@@ -138,7 +140,7 @@ module _ {S : Type 0} (opens : S → List ℕ → Option (Option (List ℕ)) →
       }
       check_fault old mid new from to said entries (BadView f) read h = absurd h
       check_fault old mid new from to said entries (BadIgnore f) read h = absurd h
-      check_fault old mid new from to said entries (NotOpened name) read h = absurd h
+      check_fault old mid new from to said entries (NotOpened name why) read h = absurd h
       check_fault old mid new from to said entries (UnreadList name) read h = absurd h
       check_fault old mid new from to said entries (LongList name) read h = absurd h
       check_fault old mid new from to said entries (BadLine name n) read h = absurd h
@@ -177,7 +179,7 @@ module _ {S : Type 0} (opens : S → List ℕ → Option (Option (List ℕ)) →
       no_entries : (old new : S) (from : Option (List ℕ)) (f : JobFault)
           → IsNoEntries opens list profile.limits.file old new f
           → IsCheckFault opens list quiet top ignored large unpack old new from from [] f
-      no_entries old new from (NotOpened name) h = (h.0, h.1, keeps_same from, refl)
+      no_entries old new from (NotOpened name why) h = (h.0, h.1, keeps_same from, refl)
       no_entries old new from (UnreadList name) h = (h.0, h.1, keeps_same from, refl)
       no_entries old new from (LongList name) h =
           (h.0, record { profile = profile; asked = asked; holds = h.1 }, keeps_same from, refl)

@@ -16,6 +16,7 @@ use Rattle.lvl_job.specs.Listing.{no_note, worse, worst}
 use Rattle.lvl_list.specs.declared.entry.Entry.{Entry}
 use Rattle.lvl_job.specs.inside.Loops.{IsLoopFault}
 use Rattle.lvl_job.specs.inside.Steps.{IsPut}
+use Rattle.lvl_job.specs.Opening.{Opened}
 
 module _ {X : Type 0} where
   -- the texts, and one more
@@ -45,7 +46,7 @@ module _ {X : Type 0} where
   worst_more status first [] x h = refl
   worst_more status first (p ∷ ps) x h = worst_more status (worse first (status p.0 p.1)) ps x h
 
-  module _ {S : Type 0} (opens : S → List ℕ → Option (Option (List ℕ)) → S → Type 0) (file : X → Named) where
+  module _ {S : Type 0} (opens : S → List ℕ → Opened → S → Type 0) (file : X → Named) where
     hashed_more : (done : List (X × Hash)) (old mid new : S) (x : X) (h : Hash) → AreHashed opens file old mid done
         → IsHashed opens (file x) mid new h → AreHashed opens file old new (done ++ (x, h) ∷ [])
     hashed_more [] old mid new x h same one = (new, subst (λ s. IsHashed opens (file x) s new h) same one, refl)
@@ -91,7 +92,7 @@ module _ {X : Type 0} where
       }
       loop_fault note items old mid new from m to done x h rest (BadView fault) order pass one put = absurd put
       loop_fault note items old mid new from m to done x h rest (BadIgnore fault) order pass one put = absurd put
-      loop_fault note items old mid new from m to done x h rest (NotOpened name) order pass one put = absurd put
+      loop_fault note items old mid new from m to done x h rest (NotOpened name why) order pass one put = absurd put
       loop_fault note items old mid new from m to done x h rest (UnreadList name) order pass one put = absurd put
       loop_fault note items old mid new from m to done x h rest (LongList name) order pass one put = absurd put
       loop_fault note items old mid new from m to done x h rest (BadLine name n) order pass one put = absurd put

@@ -14,6 +14,12 @@ use Rattle.lvl_view.specs.declared.fault.ViewFault.{ViewFault}
 use Rattle.lvl_view.specs.declared.fault.ViewFault.TheVariants.{EmptyWindow, MapText, MapTwice, WindowText}
 use Rattle.lvl_report.specs.Texts.{line}
 use Rattle.lvl_report.specs.Writing.{status_code, AppendsBeginning}
+use Rattle.lvl_job.specs.declared.files.OpenFault.{OpenFault}
+use Rattle.lvl_job.specs.declared.files.OpenFault.TheVariants.{Denied, Missing, Other}
+use Rattle.lvl_job.specs.declared.files.Look.{Look}
+use Rattle.lvl_job.specs.declared.files.Look.TheVariants.{Directory, Gzip, Plain}
+use Rattle.lvl_report.specs.declared.status.Status.{Status}
+use Rattle.lvl_report.specs.declared.status.Status.TheVariants.{Refused}
 use Rattle.lvl_job.specs.declared.fault.JobFault.{JobFault}
 use Rattle.lvl_job.specs.declared.fault.JobFault.TheVariants.{BadView, BadIgnore, NotOpened, OutOfMemory, Output}
 use Rattle.lvl_job.specs.declared.fault.JobFault.TheVariants.{BadLine, LongList, UnreadList}
@@ -23,7 +29,7 @@ abbrev pub fault_code : JobFault → ℕ
 fault_code (BadView fault) = 3
 fault_code (BadIgnore fault) = 3
 fault_code (BadLine name n) = 3
-fault_code (NotOpened name) = 2
+fault_code (NotOpened name why) = 2
 fault_code (UnreadList name) = 2
 fault_code (LongList name) = 2
 fault_code OutOfMemory = 2
@@ -45,11 +51,17 @@ view_form EmptyWindow = codes "\n"
 abbrev pub ignore_form : List ℕ
 ignore_form = codes "\nlvl: --ignore takes properties, texts, names, padding, points or all, joined by commas\n"
 
--- why a job has no answer, on one line, and the form of a text that was expected on another
+-- the rest of the line of a file that wasn't opened, and why that is, on a line of its own, if it is known
+abbrev pub open_form : OpenFault → List ℕ
+open_form Missing = codes "\nlvl: no such file\n"
+open_form Denied = codes "\nlvl: permission denied\n"
+open_form Other = codes "\n"
+
+-- why a job has no answer, on one line, and on another the form of a text that was expected, or why a file wasn't opened
 abbrev pub fault_text : JobFault → List ℕ
 fault_text (BadView fault) = codes "lvl: bad view " ++ view_fault fault ++ view_form fault
 fault_text (BadIgnore fault) = codes "lvl: bad ignore " ++ ignore_fault fault ++ ignore_form
-fault_text (NotOpened name) = line (codes "lvl: cannot open " ++ string_bytes name)
+fault_text (NotOpened name why) = codes "lvl: cannot open " ++ string_bytes name ++ open_form why
 fault_text (UnreadList name) = codes "lvl: " ++ string_bytes name ++ codes ": cannot read\n"
 fault_text (LongList name) = codes "lvl: " ++ string_bytes name ++ codes ": too long\n"
 fault_text (BadLine name n) = codes "lvl: " ++ string_bytes name ++ codes ": bad line " ++ decimal n ++ codes "\n"
@@ -68,32 +80,51 @@ ignore_words i =
     ++ listed (i.properties || i.texts || i.names) i.padding (codes "padding")
     ++ listed (i.properties || i.texts || i.names || i.padding) i.points (codes "points")
 
--- what would mend a refusal, on one line
-abbrev pub hint_text : Hint → List ℕ
-hint_text (IgnoreMore more) = codes "lvl: try --ignore " ++ ignore_words more ++ codes ", or --ignore all\n"
-hint_text LiftLimits = line (codes "lvl: try " ++ codes "--large")
-hint_text Foreign =
-    line (codes "lvl: neither GDSII nor OASIS: " ++ codes "if the file is compressed (gzip), unpack it first")
-hint_text ReadBlocks = line (codes "lvl: try " ++ codes "--unpack")
+-- the front of a line: the name of the only file, if there is one
+abbrev pub front_of_line : List (List ℕ) → List ℕ
+front_of_line (name ∷ []) = codes "lvl: " ++ name ++ codes ": "
+front_of_line names = codes "lvl: "
 
--- what is written for an answer: its hint, or its line
-abbrev pub said_of : Option Hint → Option (List ℕ) → List ℕ
-said_of (Some hint) text = hint_text hint
-said_of None (Some text) = text
-said_of None None = []
+-- what would mend a refusal
+abbrev pub hint_words : Hint → List ℕ
+hint_words (IgnoreMore more) = codes "try --ignore " ++ ignore_words more ++ codes ", or --ignore all\n"
+hint_words LiftLimits = codes "try --large\n"
+hint_words Foreign = codes "neither GDSII nor OASIS\n"
+hint_words ReadBlocks = codes "try --unpack\n"
+
+-- what is written for an answer: its hint, with the name of the only file if there is one, or its line
+abbrev pub said_of : List (List ℕ) → Option Hint → Option (List ℕ) → List ℕ
+said_of files (Some hint) text = front_of_line files ++ hint_words hint
+said_of files None (Some text) = text
+said_of files None None = []
 
 -- what a job writes to standard error: the hint of its answer if it has one, or else which cells could be the top or that
--- the grid steps of two files differ; or why there is no answer
-abbrev pub end_text : Result Outcome JobFault → List ℕ
-end_text (Ok outcome) = said_of outcome.hint (option_map (λ text. text.items) outcome.line)
-end_text (Err fault) = fault_text fault
+-- the grid steps of two files differ; or why there is no answer. A job on one file has its name in the hint
+abbrev pub end_text : List (List ℕ) → Result Outcome JobFault → List ℕ
+end_text files (Ok outcome) = said_of files outcome.hint (option_map (λ text. text.items) outcome.line)
+end_text files (Err fault) = fault_text fault
+
+-- what is said of a file that is looked at after a refusal
+abbrev pub look_text : List ℕ → Look → List ℕ
+look_text name Directory = codes "lvl: " ++ name ++ codes " is a directory\n"
+look_text name Gzip = codes "lvl: " ++ name ++ codes " is compressed (gzip): unpack it first\n"
+look_text name Plain = []
+
+-- whether files are looked at after an answer: it is a refusal with no hint, or only that at another format, and no line
+abbrev pub is_unexplained : Status → Option Hint → Option (List ℕ) → Bool
+is_unexplained Refused None None = true
+is_unexplained Refused (Some Foreign) None = true
+is_unexplained status hint text = false
+
+abbrev pub is_looked_at : Outcome → Bool
+is_looked_at o = is_unexplained o.status o.hint (option_map (λ text. text.items) o.line)
 
 -- whether the output of a job failed
 abbrev pub is_cut : {A : Type 0} → Result A JobFault → Bool
 is_cut (Ok a) = false
 is_cut (Err (BadView fault)) = false
 is_cut (Err (BadIgnore fault)) = false
-is_cut (Err (NotOpened name)) = false
+is_cut (Err (NotOpened name why)) = false
 is_cut (Err (UnreadList name)) = false
 is_cut (Err (LongList name)) = false
 is_cut (Err (BadLine name n)) = false

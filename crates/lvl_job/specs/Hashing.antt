@@ -1,24 +1,26 @@
 -- Files that are hashed one after another, with a text that is written for each (own rule).
-use Rattle.std.specs.Prelude.{◌≡◌, ℕ, List, [], ◌∷◌, ◌++◌, map, flat_map, Option, Some, None, Result}
+use Rattle.std.specs.Prelude.{◌≡◌, ℕ, List, [], ◌∷◌, ◌++◌, map, flat_map, Option, Result, Ok, Err}
 use Rattle.std.specs.Io.KnownBytes.{Appends}
 use Rattle.lvl.specs.declared.digested.Digested.{Digested}
 use Rattle.lvl.specs.declared.verdict.Refusal.{Refusal}
 use Rattle.lvl_report.specs.Runs.{IsDigestedBy}
 use Rattle.lvl_report.specs.Writing.{AppendsBeginning}
 use Rattle.lvl_job.specs.Jobs.{Named, OfOne}
+use Rattle.lvl_job.specs.Opening.{Opened}
+use Rattle.lvl_job.specs.declared.files.OpenFault.{OpenFault}
 
--- what became of a file: the answer of its digest, or None if it couldn't be opened
+-- what became of a file: the answer of its digest, or why it couldn't be opened
 abbrev pub Hash : Type 0
-Hash = Option (Result Digested Refusal)
+Hash = Result (Result Digested Refusal) OpenFault
 
 -- the file was opened and read once, with this answer, or it couldn't be opened
-abbrev pub IsHashed : {S : Type 0} → (S → List ℕ → Option (Option (List ℕ)) → S → Type 0) → Named → S → S → Hash
+abbrev pub IsHashed : {S : Type 0} → (S → List ℕ → Opened → S → Type 0) → Named → S → S → Hash
     → Type 0
-IsHashed opens a old new None = opens old a.name None new
-IsHashed opens a old new (Some answer) = OfOne opens old new a (λ x. IsDigestedBy x answer)
+IsHashed opens a old new (Err why) = opens old a.name (Err why) new
+IsHashed opens a old new (Ok answer) = OfOne opens old new a (λ x. IsDigestedBy x answer)
 
 -- the files of these items were hashed in this order, each once, and no other file was opened
-abbrev pub AreHashed : {S X : Type 0} → (S → List ℕ → Option (Option (List ℕ)) → S → Type 0) → (X → Named) → S → S
+abbrev pub AreHashed : {S X : Type 0} → (S → List ℕ → Opened → S → Type 0) → (X → Named) → S → S
     → List (X × Hash) → Type 0
 AreHashed opens file old new [] = new ≡ old
 AreHashed opens file old new (p ∷ ps) =
@@ -33,13 +35,13 @@ abbrev pub texts_of : {X : Type 0} → (X → Hash → List ℕ) → List (X × 
 texts_of text done = flat_map (λ p. text p.0 p.1) done
 
 -- the files of these items were hashed, and the text of each was written
-pub record IsPass {S X : Type 0} (opens : S → List ℕ → Option (Option (List ℕ)) → S → Type 0) (file : X → Named)
+pub record IsPass {S X : Type 0} (opens : S → List ℕ → Opened → S → Type 0) (file : X → Named)
     (text : X → Hash → List ℕ) (old new : S) (from to : Option (List ℕ)) (done : List (X × Hash)) : Type 0 where
   pub hashed : AreHashed opens file old new done
   pub whole : Appends from to (texts_of text done)
 
 -- the files of the first of these items were hashed, their texts written and what is said of them said; the rest wasn't
-pub record IsPart {S X : Type 0} (opens : S → List ℕ → Option (Option (List ℕ)) → S → Type 0) (file : X → Named)
+pub record IsPart {S X : Type 0} (opens : S → List ℕ → Opened → S → Type 0) (file : X → Named)
     (text note : X → Hash → List ℕ) (items : List X) (old : S) (from to : Option (List ℕ)) (said : List ℕ) : Type 0 where
   pub done : List (X × Hash)
   pub rest : List X
@@ -49,7 +51,7 @@ pub record IsPart {S X : Type 0} (opens : S → List ℕ → Option (Option (Lis
   pub said_is : said ≡ texts_of note done
 
 -- after such a part one file more was hashed, and a beginning of its text was written; nothing was said of it
-pub record IsStopped {S X : Type 0} (opens : S → List ℕ → Option (Option (List ℕ)) → S → Type 0) (file : X → Named)
+pub record IsStopped {S X : Type 0} (opens : S → List ℕ → Opened → S → Type 0) (file : X → Named)
     (text note : X → Hash → List ℕ) (items : List X) (old new : S) (from to : Option (List ℕ)) (said : List ℕ)
     : Type 0 where
   pub between : S

@@ -1,5 +1,5 @@
 -- What a job does: which files it opens, in which order, and what it writes.
-use Rattle.std.specs.Prelude.{◌≡◌, ℕ, List, Option, Some, None, Result, Bool, true, false, ◌||◌, is_some, option_map}
+use Rattle.std.specs.Prelude.{◌≡◌, ℕ, List, [], ◌∷◌, Option, Some, None, Result, Ok, Err, Bool, true, false, ◌||◌, is_some, option_map}
 use Rattle.std.specs.Prelude.{if◌then◌else◌}
 use Rattle.std.specs.Prelude.{◌⊎◌}
 use Rattle.std.specs.Prelude.{String, string_bytes}
@@ -27,6 +27,8 @@ use Rattle.lvl_view.specs.Views.{PlainView, IsViewOf, IsFaultOf, IsWhole}
 use Rattle.lvl_job.specs.declared.fault.JobFault.{JobFault}
 use Rattle.lvl_job.specs.declared.fault.JobFault.TheVariants.{BadView, BadIgnore, NotOpened, OutOfMemory, Output}
 use Rattle.lvl_job.specs.declared.fault.JobFault.TheVariants.{BadLine, LongList, UnreadList}
+use Rattle.lvl_job.specs.Opening.{Opened}
+use Rattle.lvl_job.specs.declared.files.OpenFault.{OpenFault}
 
 -- What a job on a list does is in Done.antt.
 
@@ -35,6 +37,15 @@ abbrev pub has_one_answer : Job → Bool
 has_one_answer (ListJob names top ignored is_large unpack) = false
 has_one_answer (Check list quiet top ignored is_large unpack) = false
 has_one_answer job = true
+
+-- the names of the files of a job that has one answer, in their order
+abbrev pub files_of : Job → List (List ℕ)
+files_of (Compare first second top_a top_b map_text window_text ignored is_large unpack why units) =
+    string_bytes first ∷ string_bytes second ∷ []
+files_of (Show file top ignored is_large unpack) = string_bytes file ∷ []
+files_of (Digest file top ignored is_large unpack) = string_bytes file ∷ []
+files_of (Cells file ignored is_large unpack) = string_bytes file ∷ []
+files_of job = []
 
 -- the name of a file in a job, its profile, and the name of its top
 pub record Named : Type 0 where
@@ -56,38 +67,38 @@ abbrev pub reader_of : Profile → Option (List ℕ) → Left → Option (List �
 reader_of profile bytes left top = input profile bytes left.bytes 0 left.errors top
 
 -- the file was opened, and Holds is true of its reader; no other file was opened
-pub record OfOne {S : Type 0} (opens : S → List ℕ → Option (Option (List ℕ)) → S → Type 0) (old new : S) (a : Named)
+pub record OfOne {S : Type 0} (opens : S → List ℕ → Opened → S → Type 0) (old new : S) (a : Named)
     (Holds : Input → Type 0) : Type 0 where
   pub bytes : Option (List ℕ)
   pub left : Left
-  pub opened : opens old a.name (Some bytes) new
+  pub opened : opens old a.name (Ok bytes) new
   pub holds : Holds (reader_of a.profile bytes left a.top)
 
 -- both files were opened, `a` before `b`, and Holds is true of their readers; no other file was opened
-pub record OfTwo {S : Type 0} (opens : S → List ℕ → Option (Option (List ℕ)) → S → Type 0) (old new : S) (a b : Named)
+pub record OfTwo {S : Type 0} (opens : S → List ℕ → Opened → S → Type 0) (old new : S) (a b : Named)
     (Holds : Input → Input → Type 0) : Type 0 where
   pub first : Option (List ℕ)
   pub second : Option (List ℕ)
   pub between : S
   pub first_left : Left
   pub second_left : Left
-  pub first_opened : opens old a.name (Some first) between
-  pub second_opened : opens between b.name (Some second) new
+  pub first_opened : opens old a.name (Ok first) between
+  pub second_opened : opens between b.name (Ok second) new
   pub holds : Holds (reader_of a.profile first first_left a.top) (reader_of b.profile second second_left b.top)
 
--- the first file was opened, but then the second could not be
-pub record IsSecondMissing {S : Type 0} (opens : S → List ℕ → Option (Option (List ℕ)) → S → Type 0) (old new : S)
-    (a b : List ℕ) : Type 0 where
+-- the first file was opened, but then the second could not be, and why
+pub record IsSecondMissing {S : Type 0} (opens : S → List ℕ → Opened → S → Type 0) (old new : S)
+    (a b : List ℕ) (why : OpenFault) : Type 0 where
   pub first : Option (List ℕ)
   pub between : S
-  pub first_opened : opens old a (Some first) between
-  pub second_missing : opens between b None new
+  pub first_opened : opens old a (Ok first) between
+  pub second_missing : opens between b (Err why) new
 
--- the file of this name could not be opened; if it is `a`, the job didn't try to open `b`
-abbrev pub IsMissing : {S : Type 0} → (S → List ℕ → Option (Option (List ℕ)) → S → Type 0) → S → S → List ℕ
-    → List ℕ → List ℕ → Type 0
-IsMissing opens old new a b name =
-    ((name ≡ a) × opens old a None new) ⊎ ((name ≡ b) × IsSecondMissing opens old new a b)
+-- the file of this name could not be opened, and why; if it is `a`, the job didn't try to open `b`
+abbrev pub IsMissing : {S : Type 0} → (S → List ℕ → Opened → S → Type 0) → S → S → List ℕ
+    → List ℕ → List ℕ → OpenFault → Type 0
+IsMissing opens old new a b name why =
+    ((name ≡ a) × opens old a (Err why) new) ⊎ ((name ≡ b) × IsSecondMissing opens old new a b why)
 
 -- whether a map or a window is given
 abbrev pub asks_view : Option (List ℕ) → Option (List ℕ) → Bool
@@ -167,7 +178,7 @@ IsPairBegun false true view a b from to = IsBegun (IsExplainedUnder view a b) te
 IsPairBegun true why view a b from to = IsBegun (IsMeasuredUnder why view a b) text_of_measured from to
 
 -- the answer to a job was written, and the job ends as it does for this answer
-abbrev pub IsAnswered : {S : Type 0} → (S → List ℕ → Option (Option (List ℕ)) → S → Type 0) → Job → S → S
+abbrev pub IsAnswered : {S : Type 0} → (S → List ℕ → Opened → S → Type 0) → Job → S → S
     → Option (List ℕ) → Option (List ℕ) → Outcome → Type 0
 IsAnswered opens (Compare first second top_a top_b map_text window_text ignored is_large unpack why units) old new from to
     outcome =
@@ -186,7 +197,7 @@ IsAnswered opens (Cells file ignored is_large unpack) old new from to outcome =
 IsAnswered opens job old new from to outcome = ⊥
 
 -- a beginning of the answer to a job was written
-abbrev pub IsCut : {S : Type 0} → (S → List ℕ → Option (Option (List ℕ)) → S → Type 0) → Job → S → S
+abbrev pub IsCut : {S : Type 0} → (S → List ℕ → Opened → S → Type 0) → Job → S → S
     → Option (List ℕ) → Option (List ℕ) → Type 0
 IsCut opens (Compare first second top_a top_b map_text window_text ignored is_large unpack why units) old new from to =
     UnderView map_text window_text (λ view. UnderProfile ignored is_large unpack (λ profile.
@@ -203,19 +214,19 @@ IsCut opens (Cells file ignored is_large unpack) old new from to =
     OfOne opens old new (named profile file None) (λ a. IsBegun (IsListedBy a) text_of_list from to))
 IsCut opens job old new from to = ⊥
 
--- the file of this name is the first in the job that could not be opened
-abbrev pub IsNotOpened : {S : Type 0} → (S → List ℕ → Option (Option (List ℕ)) → S → Type 0) → Job → S → S → List ℕ
-    → Type 0
-IsNotOpened opens (Compare first second top_a top_b map_text window_text ignored is_large unpack why units) old new name =
+-- the file of this name is the first in the job that could not be opened, and why
+abbrev pub IsNotOpened : {S : Type 0} → (S → List ℕ → Opened → S → Type 0) → Job → S → S → List ℕ
+    → OpenFault → Type 0
+IsNotOpened opens (Compare first second top_a top_b map_text window_text ignored is_large unpack why units) old new name reason =
     UnderView map_text window_text (λ _. UnderProfile ignored is_large unpack (λ _.
-    IsMissing opens old new (string_bytes first) (string_bytes second) name))
-IsNotOpened opens (Show file top ignored is_large unpack) old new name =
-    UnderProfile ignored is_large unpack (λ _. (name ≡ string_bytes file) × opens old name None new)
-IsNotOpened opens (Digest file top ignored is_large unpack) old new name =
-    UnderProfile ignored is_large unpack (λ _. (name ≡ string_bytes file) × opens old name None new)
-IsNotOpened opens (Cells file ignored is_large unpack) old new name =
-    UnderProfile ignored is_large unpack (λ _. (name ≡ string_bytes file) × opens old name None new)
-IsNotOpened opens job old new name = ⊥
+    IsMissing opens old new (string_bytes first) (string_bytes second) name reason))
+IsNotOpened opens (Show file top ignored is_large unpack) old new name reason =
+    UnderProfile ignored is_large unpack (λ _. (name ≡ string_bytes file) × opens old name (Err reason) new)
+IsNotOpened opens (Digest file top ignored is_large unpack) old new name reason =
+    UnderProfile ignored is_large unpack (λ _. (name ≡ string_bytes file) × opens old name (Err reason) new)
+IsNotOpened opens (Cells file ignored is_large unpack) old new name reason =
+    UnderProfile ignored is_large unpack (λ _. (name ≡ string_bytes file) × opens old name (Err reason) new)
+IsNotOpened opens job old new name reason = ⊥
 
 -- why the texts of a map and a window give no view; a job on one file has no such texts
 abbrev pub IsBadView : Job → ViewFault → Type 0
@@ -233,12 +244,12 @@ IsBadIgnore (Cells file ignored is_large unpack) = IsIgnoreFault (option_map str
 IsBadIgnore job = ⊥
 
 -- the fault is true: if a text is bad, no file was opened; and unless the output failed, nothing was written
-abbrev pub IsFaultOfJob : {S : Type 0} → (S → List ℕ → Option (Option (List ℕ)) → S → Type 0) → Job → S → S
+abbrev pub IsFaultOfJob : {S : Type 0} → (S → List ℕ → Opened → S → Type 0) → Job → S → S
     → Option (List ℕ) → Option (List ℕ) → JobFault → Type 0
 IsFaultOfJob opens job old new from to (BadView fault) = IsBadView job fault × (new ≡ old) × Keeps from to
 IsFaultOfJob opens job old new from to (BadIgnore fault) = IsBadIgnore job × (new ≡ old) × Keeps from to
-IsFaultOfJob opens job old new from to (NotOpened name) =
-    IsNotOpened opens job old new (string_bytes name) × Keeps from to
+IsFaultOfJob opens job old new from to (NotOpened name why) =
+    IsNotOpened opens job old new (string_bytes name) why × Keeps from to
 IsFaultOfJob opens job old new from to (UnreadList name) = ⊥
 IsFaultOfJob opens job old new from to (LongList name) = ⊥
 IsFaultOfJob opens job old new from to (BadLine name n) = ⊥

@@ -8,16 +8,18 @@ use Rattle.lvl_line.specs.declared.job.LineFault.TheVariants as line_fault
 use Rattle.lvl_report.specs.declared.outcome.Outcome.{Outcome}
 use Rattle.lvl_job.specs.declared.fault.JobFault.{JobFault}
 use Rattle.lvl_job.specs.declared.fault.JobFault.TheVariants.{OutOfMemory}
+use Rattle.lvl_job.specs.declared.files.Look.{Look}
 use Rattle.lvl_job.specs.Done.{Change, IsDone, IsSaidOn}
 use Rattle.lvl_job.specs.Ends.{end_code, fault_text}
+use Rattle.lvl_job.specs.Opening.{Opened}
 
 -- the words ask for a job; it was done, and this is its exit status
-pub record IsLineDone {S : Type 0} (opens : S → List ℕ → Option (Option (List ℕ)) → S → Type 0)
+pub record IsLineDone {S : Type 0} (opens : S → List ℕ → Opened → S → Type 0) (looks : S → List ℕ → Look → Type 0)
     (words : List (List ℕ)) (old new : S) (out err : Change) (code : ℕ) : Type 0 where
   pub job : Job
   pub asked : IsJob words job
   pub ended : Result Outcome JobFault
-  pub done : IsDone opens job old new out err ended
+  pub done : IsDone opens looks job old new out err ended
   pub status : code ≡ end_code ended
 
 -- what is written to standard error if the line is refused; the text of `clap`'s error is left open

@@ -1,6 +1,6 @@
 -- What is written and said of the files of a list, and the status that each gives (own rule).
 use Rattle.std.specs.Prelude.{ℕ, ◌==◌, Bool, false, true, ◌&&◌, not, nat_lt, if◌then◌else◌, List, [], ◌∷◌, ◌++◌}
-use Rattle.std.specs.Prelude.{codes, decimal, Option, Some, None, Ok, Err, String, string_bytes, count_by}
+use Rattle.std.specs.Prelude.{codes, decimal, Option, None, Ok, Err, String, string_bytes, count_by}
 use Rattle.std.specs.Str.{bytes_eq}
 use Rattle.std.specs.Global.{Global}
 use Rattle.lvl.specs.declared.digested.Digested.{Digested}
@@ -13,6 +13,7 @@ use Rattle.lvl_report.specs.declared.status.Status.TheVariants.{Same, Differ, Sh
 use Rattle.lvl_report.specs.Texts.{line, refusal_text}
 use Rattle.lvl_report.specs.Writing.{status_code}
 use Rattle.lvl_text.specs.Gds.{hex}
+use Rattle.lvl_job.specs.Ends.{open_form}
 use Rattle.lvl_job.specs.Jobs.{Named}
 use Rattle.lvl_job.specs.Hashing.{Hash}
 
@@ -28,16 +29,16 @@ file_of_name profile top name = record { profile = profile; name = string_bytes 
 
 -- what is written of a file: the line of a list if it has a digest
 abbrev pub listed_text : List ℕ → Hash → List ℕ
-listed_text name (Some (Ok digested)) = entry_text (digits_of digested) name
-listed_text name (Some (Err refusal)) = []
-listed_text name None = []
+listed_text name (Ok (Ok digested)) = entry_text (digits_of digested) name
+listed_text name (Ok (Err refusal)) = []
+listed_text name (Err why) = []
 
 -- what is said of it: why it has no digest
 abbrev pub unlisted_text : List ℕ → Hash → List ℕ
-unlisted_text name (Some (Ok digested)) = []
-unlisted_text name (Some (Err refusal)) =
+unlisted_text name (Ok (Ok digested)) = []
+unlisted_text name (Ok (Err refusal)) =
     codes "lvl: " ++ name_text name ++ codes ": " ++ line (refusal_text refusal)
-unlisted_text name None = line (codes "lvl: cannot open " ++ name_text name)
+unlisted_text name (Err why) = codes "lvl: cannot open " ++ name_text name ++ open_form why
 
 abbrev pub name_listed : String Global → Hash → List ℕ
 name_listed name hash = listed_text (string_bytes name) hash
@@ -47,9 +48,9 @@ name_unlisted name hash = unlisted_text (string_bytes name) hash
 
 -- the status of a file
 abbrev pub listed_status : Hash → Status
-listed_status (Some (Ok digested)) = Shown
-listed_status (Some (Err refusal)) = Refused
-listed_status None = Refused
+listed_status (Ok (Ok digested)) = Shown
+listed_status (Ok (Err refusal)) = Refused
+listed_status (Err why) = Refused
 
 -- ---- `--check`
 
@@ -59,9 +60,9 @@ file_of_entry profile top e = record { profile = profile; name = string_bytes e.
 
 -- the status of a file: whether its digest is the one that the list has
 abbrev pub checked_status : Entry → Hash → Status
-checked_status e (Some (Ok digested)) = if bytes_eq e.digits.items (digits_of digested) then Same else Differ
-checked_status e (Some (Err refusal)) = Refused
-checked_status e None = Refused
+checked_status e (Ok (Ok digested)) = if bytes_eq e.digits.items (digits_of digested) then Same else Differ
+checked_status e (Ok (Err refusal)) = Refused
+checked_status e (Err why) = Refused
 
 abbrev pub is_same : Status → Bool
 is_same Same = true
@@ -69,9 +70,9 @@ is_same status = false
 
 -- what is written of a file after its name
 abbrev pub checked_words : Status → Hash → List ℕ
-checked_words status (Some (Ok digested)) = if is_same status then codes ": same\n" else codes ": differs\n"
-checked_words status (Some (Err refusal)) = codes ": " ++ line (refusal_text refusal)
-checked_words status None = codes ": cannot open\n"
+checked_words status (Ok (Ok digested)) = if is_same status then codes ": same\n" else codes ": differs\n"
+checked_words status (Ok (Err refusal)) = codes ": " ++ line (refusal_text refusal)
+checked_words status (Err why) = codes ": cannot open\n"
 
 -- what is written of a file; with `--quiet` nothing if it is the same
 abbrev pub checked_text : Bool → Entry → Hash → List ℕ

@@ -38,8 +38,9 @@ pub(crate) fn read_entries<F: Files>(
         IsEntries F.opens (string_bytes list) files.old files.new entries.items) }
     ensures fault { IfErr result (IsNoEntries F.opens (string_bytes list) limit files.old files.new) }
 {
-    let Ok(mut file) = files.open(list.as_str()) else {
-        return Err(JobFault::NotOpened(list));
+    let mut file = match files.open(list.as_str()) {
+        Ok(file) => file,
+        Err(why) => return Err(JobFault::NotOpened(list, why)),
     };
     let text = match read_text(alloc, &mut file, limit) {
         Ok(text) => text,

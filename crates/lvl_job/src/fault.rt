@@ -2,6 +2,7 @@
 ghost use Rattle.std.specs.Prelude.{◌≡◌};
 ghost use Rattle.lvl_job.specs.Ends.{fault_code};
 
+use crate::files::OpenFault;
 use lvl_profile::IgnoreFault;
 use lvl_view::ViewFault;
 use std::alloc::AllocError;
@@ -13,8 +14,8 @@ pub enum JobFault {
     BadView(ViewFault),
     /// The text of what is ignored gives no set. No file was opened.
     BadIgnore(IgnoreFault),
-    /// The file of this name can't be opened.
-    NotOpened(String),
+    /// The file of this name can't be opened, and why.
+    NotOpened(String, OpenFault),
     /// A read of the list in the file of this name failed. None of the files that it names was opened.
     UnreadList(String),
     /// The list in the file of this name has more bytes than a file may have. None of the files that it names
@@ -38,7 +39,7 @@ impl JobFault {
     {
         match self {
             JobFault::BadView(_) | JobFault::BadIgnore(_) | JobFault::BadLine(..) => 3,
-            JobFault::NotOpened(_) | JobFault::UnreadList(_) | JobFault::LongList(_) => 2,
+            JobFault::NotOpened(..) | JobFault::UnreadList(_) | JobFault::LongList(_) => 2,
             JobFault::OutOfMemory => 2,
             JobFault::Output => 4,
         }

@@ -2,13 +2,13 @@
 ghost use Rattle.std.specs.Prelude.{option_copied};
 ghost use Rattle.lvl_job.specs.Hashing.{IsHashed};
 
-use crate::files::Files;
+use crate::files::{Files, OpenFault};
 use lvl::{Digested, Refusal, digest_file};
 use lvl_profile::Profile;
 use std::alloc::Global;
 
-/// What became of a file: the answer of its digest; `None` if it can't be opened.
-pub(crate) type Hash = Option<Result<Digested, Refusal>>;
+/// What became of a file: the answer of its digest, or why it can't be opened.
+pub(crate) type Hash = Result<Result<Digested, Refusal>, OpenFault>;
 
 /// Opens the file of a name, and hashes what it draws.
 pub(crate) fn hash_file<F: Files>(
@@ -22,7 +22,7 @@ pub(crate) fn hash_file<F: Files>(
         files.old files.new result }
 {
     match files.open(name) {
-        Ok(mut file) => Some(digest_file(alloc, &mut file, top, profile)),
-        Err(_) => None,
+        Ok(mut file) => Ok(digest_file(alloc, &mut file, top, profile)),
+        Err(why) => Err(why),
     }
 }

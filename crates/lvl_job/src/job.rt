@@ -8,7 +8,7 @@ ghost use Rattle.lvl_job.specs.Done.{IsDone, IsOneDone};
 ghost use Rattle.lvl_job.specs.Ends.{end_code, is_cut};
 ghost use Rattle.lvl_job.specs.Jobs.{IsAnswered, IsComparedUnder, IsExplainedUnder, IsFaultOfJob, IsIgnoreAsked};
 ghost use Rattle.lvl_job.specs.Jobs.{IsPairBegun, IsPairWritten, IsProfileAsked, IsViewAsked, has_one_answer};
-ghost use Rattle.lvl_job.specs.Opening.{held};
+ghost use Rattle.lvl_job.specs.Opening.{held_by_job, why_unopened};
 ghost use Rattle.lvl_job.specs.inside.Parts.{IsOneAnswered, IsOneFault, IsPairAnswered, IsPairFault, IsViewFault};
 ghost use Rattle.lvl_job.specs.inside.Parts.{fault_of_run, IsNoIgnore};
 ghost use Rattle.lvl_report.specs.Runs.{IsBegun, IsDigestedBy, IsListedBy, IsShownBy, IsWritten, input};
@@ -19,8 +19,9 @@ ghost use Rattle.lvl_report.specs.Writing.{is_output};
 use crate::fault::JobFault;
 use crate::files::Files;
 use crate::lists::{Asked, do_check, do_list};
+use crate::looked::{paths_of, say_answer};
 use crate::pair::{Pair, compare};
-use crate::said::{say, say_outcome};
+use crate::said::say;
 use lvl::Tops;
 use lvl_io::Write;
 use lvl_line::Job;
@@ -32,13 +33,13 @@ use std::alloc::Global;
 
 /// Opens the file of this name.
 pub(crate) fn open<F: Files>(files: &mut F, name: String) -> Result<F::File, JobFault>
-    ensures opened { F.opens files.old (string_bytes name) (held F.File.remaining result) files.new }
+    ensures opened { F.opens files.old (string_bytes name) (held_by_job F.File.remaining result) files.new }
     ensures fresh { IfOk result (λ file. F.File.read_errors file ≡ 0) }
-    ensures missing { IfErr result (λ fault. fault ≡ JobFault.NotOpened name) }
+    ensures missing { IfErr result (λ fault. fault ≡ JobFault.NotOpened name (why_unopened fault)) }
 {
     match files.open(name.as_str()) {
         Ok(file) => Ok(file),
-        Err(_) => Err(JobFault::NotOpened(name)),
+        Err(why) => Err(JobFault::NotOpened(name, why)),
     }
 }
 
@@ -277,7 +278,7 @@ fn answer<F: Files, O: Write, E: Write>(
     err: &mut E,
 ) -> Result<Outcome, JobFault>
     requires { has_one_answer job ≡ true }
-    ensures done { IsOneDone F.opens job files.old files.new
+    ensures done { IsOneDone F.opens F.looks job files.old files.new
         (record {
           old = O.contents out.old;
           new = O.contents out.new;
@@ -292,19 +293,22 @@ fn answer<F: Files, O: Write, E: Write>(
         }) result }
     ensures errors { CountsFailure (O.write_errors out.old) (O.write_errors out.new) (is_cut result) }
 {
+    let Ok(paths) = paths_of(alloc, &job) else {
+        say(err, &JobFault::OutOfMemory);
+        return Err(JobFault::OutOfMemory);
+    };
     let ended = perform(alloc, job, files, out);
-    match &ended {
-        Ok(outcome) => say_outcome(err, outcome),
-        Err(fault) => say(err, fault),
-    }
+    say_answer(files, &paths, &ended, err);
     ended
 }
 
 /// Does a job: reads the texts of its view and of what is ignored, takes the limits that it asks for,
 /// opens its files by `files`, the first before the second, and writes its answer to `out`. If there is
-/// no answer, it writes one line to `err` that says why; if the answer is a refusal that something would mend, one line
-/// that says what; if it is a refusal since several cells could be the top, one line that names these; and if it is a
-/// verdict on files whose grid steps differ, or if they aren't compared since these must agree, one line that says so.
+/// no answer, it writes one line to `err` that says why, and some reasons on a second one; if the answer is a refusal
+/// that something would mend, one line that says what, with the name of the only file; if it is a refusal since several
+/// cells could be the top, one line that names these; and if it is a verdict on files whose grid steps differ, or if
+/// they aren't compared since these must agree, one line that says so. After a refusal that none of these lines
+/// explains, its files are looked at, and one line is written for each that is a directory or gzipped.
 ///
 /// It writes an answer that [`run_by`], [`run_view_by`], [`run_why`], [`run_measured`], [`run_show_by`],
 /// [`run_digest`] or [`run_cells`] may write for these files.
@@ -320,7 +324,7 @@ pub fn do_job<F: Files, O: Write, E: Write>(
     out: &mut O,
     err: &mut E,
 ) -> Result<Outcome, JobFault>
-    ensures done { IsDone F.opens job files.old files.new
+    ensures done { IsDone F.opens F.looks job files.old files.new
         (record {
           old = O.contents out.old;
           new = O.contents out.new;

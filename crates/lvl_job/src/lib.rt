@@ -21,7 +21,7 @@
 #![tactic(auto)]
 
 pub use fault::JobFault;
-pub use files::Files;
+pub use files::{Files, Look, OpenFault};
 pub use job::{code_of, do_job};
 pub use line::do_line;
 
@@ -33,6 +33,7 @@ mod job;
 mod line;
 mod listing;
 mod lists;
+mod looked;
 mod pair;
 mod said;
 mod texts;

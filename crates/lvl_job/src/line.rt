@@ -42,7 +42,7 @@ pub fn do_line<'a, F: Files, O: Write, E: Write>(
     out: &mut O,
     err: &mut E,
 ) -> u8
-    ensures { IsLineDone F.opens (map (λ s. s.now) words.entry.now) files.old files.new
+    ensures { IsLineDone F.opens F.looks (map (λ s. s.now) words.entry.now) files.old files.new
         (record {
           old = O.contents out.old;
           new = O.contents out.new;

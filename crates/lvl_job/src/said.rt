@@ -1,18 +1,18 @@
 //! What a job writes to standard error.
-ghost use Rattle.std.specs.Prelude.{◌≡◌, ◌++◌, false, true, codes, decimal, IfErr, OnOk, OnErr, option_map};
-ghost use Rattle.std.specs.Prelude.{ℕ, List, Option};
+ghost use Rattle.std.specs.Prelude.{◌≡◌, ◌++◌, false, true, codes, decimal, IfErr, OnOk, OnErr};
 ghost use Rattle.std.specs.Io.KnownBytes.{Appends};
 ghost use Rattle.lvl_io.specs.Bytes.{CountsFailure, failed};
-ghost use Rattle.lvl_job.specs.Ends.{IsSaid, fault_text, end_text, hint_text, ignore_words, is_cut, said_of, view_form};
-ghost use Rattle.lvl_job.specs.inside.Steps.{IsPut, IsSaidBy, Says};
+ghost use Rattle.lvl_job.specs.Ends.{IsSaid, fault_text, hint_words, ignore_words, is_cut, open_form, view_form};
+ghost use Rattle.lvl_job.specs.inside.Steps.{IsPut, Says};
 ghost use Rattle.lvl_report.specs.Texts.{line};
 ghost use Rattle.lvl_report.specs.Writing.{AppendsBeginning};
 
 use crate::fault::JobFault;
+use crate::files::OpenFault;
 use itoa::Buffer;
 use lvl_io::{Failure, Write};
 use lvl_profile::Ignore;
-use lvl_report::{Hint, Outcome};
+use lvl_report::Hint;
 use lvl_text::{ignore_fault, view_fault};
 use lvl_view::ViewFault;
 
@@ -94,6 +94,17 @@ fn view_form(fault: ViewFault) -> &'static str
     }
 }
 
+/// What comes after the name of a file that wasn't opened: why that is, on a line of its own, if it is known.
+pub(crate) fn open_form(why: OpenFault) -> &'static str
+    ensures { result.now ≡ open_form why }
+{
+    match why {
+        OpenFault::Missing => "\nlvl: no such file\n",
+        OpenFault::Denied => "\nlvl: permission denied\n",
+        OpenFault::Other => "\n",
+    }
+}
+
 /// Writes that a line of the list in the file of a name is bad.
 fn say_bad_line<E: Write>(err: &mut E, name: &str, number: usize)
     ensures { IsSaid (codes "lvl: " ++ name.now ++ codes ": bad line " ++ decimal number ++ codes "\n")
@@ -140,7 +151,9 @@ pub(crate) fn say<E: Write>(err: &mut E, fault: &JobFault)
             ignore_fault(*fault),
             "\nlvl: --ignore takes properties, texts, names, padding, points or all, joined by commas\n",
         ),
-        JobFault::NotOpened(name) => say_line(err, "lvl: cannot open ", name.as_str()),
+        JobFault::NotOpened(name, why) => {
+            say_parts(err, "lvl: cannot open ", name.as_str(), open_form(*why))
+        }
         JobFault::UnreadList(name) => say_parts(err, "lvl: ", name.as_str(), ": cannot read\n"),
         JobFault::LongList(name) => say_parts(err, "lvl: ", name.as_str(), ": too long\n"),
         JobFault::BadLine(name, line) => say_bad_line(err, name.as_str(), *line),
@@ -224,60 +237,27 @@ fn ignore_words(ignore: Ignore) -> &'static str
     }
 }
 
-/// Writes what to ignore so that more is read, or that all may be ignored, since more may come.
-fn say_ignore<E: Write>(err: &mut E, more: Ignore)
-    ensures { IsSaid (hint_text (Hint.IgnoreMore more)) (E.contents err.old) (E.contents err.new)
-        (E.write_errors err.old) (E.write_errors err.new) }
+/// Says what to ignore so that more is read, or that all may be ignored, since more may come.
+fn say_ignore<E: Write>(err: &mut E, said: &mut Said, more: Ignore)
+    ensures { Says (hint_words (Hint.IgnoreMore more))
+        (record { so_far = said.old; contents = E.contents err.old; errors = E.write_errors err.old })
+        (record { so_far = said.new; contents = E.contents err.new; errors = E.write_errors err.new }) }
 {
-    let mut said = Ok(());
-    say_more(err, &mut said, b"lvl: try --ignore ");
-    say_more(err, &mut said, ignore_words(more).as_bytes());
-    say_more(err, &mut said, b", or --ignore all\n");
+    say_more(err, said, b"try --ignore ");
+    say_more(err, said, ignore_words(more).as_bytes());
+    say_more(err, said, b", or --ignore all\n");
 }
 
-/// Writes on one line what would mend a refusal.
-fn say_hint<E: Write>(err: &mut E, hint: Hint)
-    ensures { IsSaid (hint_text hint) (E.contents err.old) (E.contents err.new)
-        (E.write_errors err.old) (E.write_errors err.new) }
+/// Says what would mend a refusal.
+pub(crate) fn say_words<E: Write>(err: &mut E, said: &mut Said, hint: Hint)
+    ensures { Says (hint_words hint)
+        (record { so_far = said.old; contents = E.contents err.old; errors = E.write_errors err.old })
+        (record { so_far = said.new; contents = E.contents err.new; errors = E.write_errors err.new }) }
 {
     match hint {
-        Hint::IgnoreMore(more) => say_ignore(err, more),
-        Hint::LiftLimits => say_line(err, "lvl: try ", "--large"),
-        Hint::Foreign => say_line(
-            err,
-            "lvl: neither GDSII nor OASIS: ",
-            "if the file is compressed (gzip), unpack it first",
-        ),
-        Hint::ReadBlocks => say_line(err, "lvl: try ", "--unpack"),
-    }
-}
-
-/// Writes on one line what would mend a refusal, if anything would, or else the line of the outcome: which cells could be
-/// the top, or that the grid steps of two files differ. If that fails, nothing more is written.
-pub(crate) fn say_outcome<E: Write>(err: &mut E, outcome: &Outcome)
-    ensures { IsSaid (said_of outcome.now.hint (option_map (λ text. text.items) outcome.now.line))
-        (E.contents err.old) (E.contents err.new) (E.write_errors err.old) (E.write_errors err.new) }
-{
-    if let Some(hint) = outcome.hint {
-        return say_hint(err, hint);
-    }
-    if let Some(text) = &outcome.line {
-        let _ = write_all(err, text);
-    }
-}
-
-/// Writes on one line why a job has no answer, or what [`say_outcome`] writes; nothing if a write failed before.
-pub(crate) fn say_end<E: Write>(err: &mut E, said: &Said, ended: &Result<Outcome, JobFault>)
-    ensures { (front : List ℕ) (old : Option (List ℕ)) (before : ℕ)
-        → IsSaidBy front old before
-        (record { so_far = said.now; contents = E.contents err.old; errors = E.write_errors err.old })
-        → IsSaid (front ++ end_text ended.now) old (E.contents err.new) before (E.write_errors err.new) }
-{
-    if said.is_err() {
-        return;
-    }
-    match ended {
-        Ok(outcome) => say_outcome(err, outcome),
-        Err(fault) => say(err, fault),
+        Hint::IgnoreMore(more) => say_ignore(err, said, more),
+        Hint::LiftLimits => say_more(err, said, b"try --large\n"),
+        Hint::Foreign => say_more(err, said, b"neither GDSII nor OASIS\n"),
+        Hint::ReadBlocks => say_more(err, said, b"try --unpack\n"),
     }
 }

@@ -4,6 +4,7 @@ ghost use Rattle.lvl_job.specs.Listing.{checked_status, checked_text, checked_wo
 ghost use Rattle.lvl_job.specs.Listing.{listed_text, summary_line, summary_text, unlisted_text, worse};
 
 use crate::hash::Hash;
+use crate::said::open_form;
 use lvl::Digested;
 use lvl_list::{Entry, push_line, push_name};
 use lvl_report::{Status, form_digest};
@@ -28,7 +29,7 @@ pub(crate) fn listed_text(alloc: Global, name: &str, hash: &Hash) -> Result<Vec<
     ensures { IfOk result (λ text. text.items ≡ listed_text name.now hash.now) }
 {
     let mut text = Vec::new(alloc);
-    if let Some(Ok(digested)) = hash {
+    if let Ok(Ok(digested)) = hash {
         let digits = digits_of(alloc, digested)?;
         push_line(&mut text, &digits, name.as_bytes())?;
     }
@@ -41,18 +42,18 @@ pub(crate) fn unlisted_text(alloc: Global, name: &str, hash: &Hash) -> Result<Ve
 {
     let mut text = Vec::new(alloc);
     match hash {
-        Some(Ok(_)) => {}
-        Some(answer) => {
+        Ok(Ok(_)) => {}
+        Ok(answer) => {
             text.extend_from_slice(b"lvl: ")?;
             push_name(&mut text, name.as_bytes())?;
             text.extend_from_slice(b": ")?;
             let refusal = form_digest(alloc, answer)?;
             text.extend_from_slice(&refusal)?;
         }
-        None => {
+        Err(why) => {
             text.extend_from_slice(b"lvl: cannot open ")?;
             push_name(&mut text, name.as_bytes())?;
-            text.push(b'\n')?;
+            text.extend_from_slice(open_form(*why).as_bytes())?;
         }
     }
     Ok(text)
@@ -63,7 +64,7 @@ pub(crate) fn listed_status(hash: &Hash) -> Status
     ensures { result ≡ listed_status hash.now }
 {
     match hash {
-        Some(Ok(_)) => Status::Shown,
+        Ok(Ok(_)) => Status::Shown,
         _ => Status::Refused,
     }
 }
@@ -76,7 +77,7 @@ pub(crate) fn checked_status(
 ) -> Result<Status, AllocError>
     ensures { IfOk result (λ status. status ≡ checked_status entry.now hash.now) }
 {
-    let Some(Ok(digested)) = hash else {
+    let Ok(Ok(digested)) = hash else {
         return Ok(Status::Refused);
     };
     let digits = digits_of(alloc, digested)?;
@@ -104,14 +105,14 @@ fn push_words(
     ensures { OnOk result (text.new.items ≡ text.old.items ++ checked_words status hash.now) }
 {
     match hash {
-        Some(Ok(_)) if is_same(status) => text.extend_from_slice(b": same\n"),
-        Some(Ok(_)) => text.extend_from_slice(b": differs\n"),
-        Some(answer) => {
+        Ok(Ok(_)) if is_same(status) => text.extend_from_slice(b": same\n"),
+        Ok(Ok(_)) => text.extend_from_slice(b": differs\n"),
+        Ok(answer) => {
             text.extend_from_slice(b": ")?;
             let refusal = form_digest(alloc, answer)?;
             text.extend_from_slice(&refusal)
         }
-        None => text.extend_from_slice(b": cannot open\n"),
+        Err(_) => text.extend_from_slice(b": cannot open\n"),
     }
 }
 

@@ -29,6 +29,9 @@ pub const TWO: &[u8] = b"\
 /// How a gzip file begins.
 pub const PACKED: &[u8] = b"\x1F\x8B\x08\0\0\0\0\0\0\x03";
 
+/// How a CIF file may begin.
+pub const DRAWING: &[u8] = b"DS 1 1 1;\n";
+
 /// An OASIS file with a CBLOCK in the cell T.
 pub const BLOCK: &[u8] =
     b"%SEMI-OASIS\r\n\x01\x031.0\0\x01\0\0\0\0\0\0\0\0\0\0\0\0\0\x0E\x01T\x22\0\0\0";

@@ -3,9 +3,8 @@ ghost use Rattle.std.specs.Prelude.{◌≡◌};
 
 use crate::jobs::files::SQUARE;
 use crate::jobs::{Held, given, pieces};
-use lvl_io::Failure;
 use lvl_io::fake::{Pieces, Sink};
-use lvl_job::{Files, code_of, do_job};
+use lvl_job::{Files, Look, OpenFault, code_of, do_job};
 use lvl_line::Job;
 use std::alloc::{AllocError, Global};
 use std::test::Fail;
@@ -46,7 +45,9 @@ impl Files for Shelf {
 
     ghost opens = { λ _ _ _ _. Unit {0} };
 
-    fn open(&mut self, name: &str) -> Result<Pieces<'static>, Failure> {
+    ghost looks = { λ _ _ _. Unit {0} };
+
+    fn open(&mut self, name: &str) -> Result<Pieces<'static>, OpenFault> {
         match name {
             "list" => {
                 self.held.asked = self.held.asked.saturating_add(1);
@@ -58,6 +59,10 @@ impl Files for Shelf {
             }
             _ => self.held.open(name),
         }
+    }
+
+    fn look(&self, name: &str) -> Look {
+        self.held.look(name)
     }
 }
 
@@ -131,7 +136,7 @@ const BAD: &[u8] =
     b"cfc0bc7fd8a84f10bc2892f2c74e75073d5463f896d47d97244a7b12a9635572  square\ncfc0bc7fd8a84f10bc2892f2c74e75073d5463f896d47d97244a7b12a9635572 square\n";
 
 /// A list, a job, how many files it asks for, what it writes and says, and its status.
-static ROWS: [(&[u8], &str, u8, &str, &str, u8); 20] = [
+static ROWS: [(&[u8], &str, u8, &str, &str, u8); 21] = [
     (
         b"",
         "list - - square",
@@ -145,7 +150,7 @@ static ROWS: [(&[u8], &str, u8, &str, &str, u8); 20] = [
         "list - - square none two a\\b\n",
         4,
         "cfc0bc7fd8a84f10bc2892f2c74e75073d5463f896d47d97244a7b12a9635572  square\n\\cfc0bc7fd8a84f10bc2892f2c74e75073d5463f896d47d97244a7b12a9635572  a\\\\b\\n\n",
-        "lvl: cannot open none\nlvl: two: refused: first: cells 6 ManyTops\n",
+        "lvl: cannot open none\nlvl: no such file\nlvl: two: refused: first: cells 6 ManyTops\n",
         2,
     ),
     (
@@ -161,10 +166,18 @@ static ROWS: [(&[u8], &str, u8, &str, &str, u8); 20] = [
         "list - - x\\y",
         1,
         "",
-        "lvl: cannot open \\x\\\\y\n",
+        "lvl: cannot open \\x\\\\y\nlvl: no such file\n",
         2,
     ),
     (b"", "list - property square", 0, "", BAD_IGNORE, 3),
+    (
+        b"",
+        "list - - denied broken",
+        2,
+        "",
+        "lvl: cannot open denied\nlvl: permission denied\nlvl: cannot open broken\n",
+        2,
+    ),
     (
         b"",
         "unpack list - - pressed",

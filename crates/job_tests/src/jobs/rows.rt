@@ -16,6 +16,9 @@ const UNREAD_SECOND: &str = "refused: second: gds 11 Unsupported 43 at 154\n";
 /// What is said of both.
 const TRY_PROPERTIES: &str = "lvl: try --ignore properties, or --ignore all\n";
 
+/// The same of the only file.
+const TRY_TAGGED: &str = "lvl: tagged: try --ignore properties, or --ignore all\n";
+
 /// What is said of several cells that could be the top of the only file.
 const TOPS: &str = "lvl: the file has 2 tops: A, B: choose one by --top\n";
 
@@ -34,7 +37,7 @@ const WHY_SQUARE: &str =
 const STEPS: &str = "lvl: the grid steps differ: 1 nm in the first file, 2 nm in the second\n";
 
 /// A job, how many files are asked for, the last line of what it writes, what it says, and its status.
-pub(super) static ROWS: [(&str, u8, &str, &str, u8); 62] = [
+pub(super) static ROWS: [(&str, u8, &str, &str, u8); 71] = [
     ("square square - - - - -", 2, "same\n", "", 0),
     ("square two - A - - -", 2, "same\n", "", 0),
     (
@@ -88,24 +91,30 @@ pub(super) static ROWS: [(&str, u8, &str, &str, u8); 62] = [
         "packed - -",
         1,
         "refused: first: gds 2 BadLength at 0\n",
-        "lvl: neither GDSII nor OASIS: if the file is compressed (gzip), unpack it first\n",
+        "lvl: packed: neither GDSII nor OASIS\nlvl: packed is compressed (gzip): unpack it first\n",
         2,
     ),
     (
         "block - padding",
         1,
         "refused: first: oasis 24 Unsupported 34 at 36\n",
-        "lvl: try --unpack\n",
+        "lvl: block: try --unpack\n",
         2,
     ),
     (
         "label - padding",
         1,
         "refused: first: oasis 24 Unsupported 19 at 36\n",
-        "lvl: try --ignore texts,padding, or --ignore all\n",
+        "lvl: label: try --ignore texts,padding, or --ignore all\n",
         2,
     ),
-    ("pressed - padding", 1, IN_BLOCK, "lvl: try --unpack\n", 2),
+    (
+        "pressed - padding",
+        1,
+        IN_BLOCK,
+        "lvl: pressed: try --unpack\n",
+        2,
+    ),
     (
         "unpack pressed - -",
         1,
@@ -142,14 +151,14 @@ pub(super) static ROWS: [(&str, u8, &str, &str, u8); 62] = [
         "unpack label - -",
         1,
         "refused: first: oasis 24 Unsupported 19 at 36\n",
-        "lvl: try --ignore texts, or --ignore all\n",
+        "lvl: label: try --ignore texts, or --ignore all\n",
         2,
     ),
     (
         "twice - -",
         1,
         "refused: first: gds 21 Path 4 RepeatedPoint at 118\n",
-        "lvl: try --ignore points, or --ignore all\n",
+        "lvl: twice: try --ignore points, or --ignore all\n",
         2,
     ),
     (
@@ -163,7 +172,7 @@ pub(super) static ROWS: [(&str, u8, &str, &str, u8); 62] = [
         "digest twice_oasis - properties,padding",
         1,
         "refused: first: oasis 33 Path 4 RepeatedPoint at 36\n",
-        "lvl: try --ignore properties,padding,points, or --ignore all\n",
+        "lvl: twice_oasis: try --ignore properties,padding,points, or --ignore all\n",
         2,
     ),
     ("digest square - -", 1, SQUARE_DIGEST, "", 0),
@@ -174,9 +183,84 @@ pub(super) static ROWS: [(&str, u8, &str, &str, u8); 62] = [
         TOPS,
         2,
     ),
-    ("digest none - -", 1, "", "lvl: cannot open none\n", 2),
-    ("none two - - - - -", 1, "", "lvl: cannot open none\n", 2),
-    ("two other - - - - -", 2, "", "lvl: cannot open other\n", 2),
+    (
+        "square packed - - - - -",
+        2,
+        "refused: second: gds 2 BadLength at 0\n",
+        "lvl: neither GDSII nor OASIS\nlvl: packed is compressed (gzip): unpack it first\n",
+        2,
+    ),
+    (
+        "drawing - -",
+        1,
+        "refused: first: gds 2 BadLength at 0\n",
+        "lvl: drawing: neither GDSII nor OASIS\n",
+        2,
+    ),
+    (
+        "drawing square - - - - -",
+        2,
+        "refused: first: gds 2 BadLength at 0\n",
+        "lvl: neither GDSII nor OASIS\n",
+        2,
+    ),
+    (
+        "folder - -",
+        1,
+        "refused: first: gds 6 Read at 0\n",
+        "lvl: folder is a directory\n",
+        2,
+    ),
+    (
+        "folder folder - - - - -",
+        2,
+        "refused: first: gds 6 Read at 0\n",
+        "lvl: folder is a directory\nlvl: folder is a directory\n",
+        2,
+    ),
+    (
+        "digest folder - all",
+        1,
+        "refused: first: gds 6 Read at 0\n",
+        "lvl: folder is a directory\n",
+        2,
+    ),
+    (
+        "denied - -",
+        1,
+        "",
+        "lvl: cannot open denied\nlvl: permission denied\n",
+        2,
+    ),
+    (
+        "square denied - - - - -",
+        2,
+        "",
+        "lvl: cannot open denied\nlvl: permission denied\n",
+        2,
+    ),
+    ("cells broken -", 1, "", "lvl: cannot open broken\n", 2),
+    (
+        "digest none - -",
+        1,
+        "",
+        "lvl: cannot open none\nlvl: no such file\n",
+        2,
+    ),
+    (
+        "none two - - - - -",
+        1,
+        "",
+        "lvl: cannot open none\nlvl: no such file\n",
+        2,
+    ),
+    (
+        "two other - - - - -",
+        2,
+        "",
+        "lvl: cannot open other\nlvl: no such file\n",
+        2,
+    ),
     ("none two - - 1/0 - -", 0, "", BAD_MAP, 3),
     ("square tagged - - - - properties", 2, "same\n", STEPS, 0),
     ("units square tagged - - - - properties", 2, "", STEPS, 2),
@@ -256,11 +340,11 @@ pub(super) static ROWS: [(&str, u8, &str, &str, u8); 62] = [
         "tagged - names",
         1,
         UNREAD_FIRST,
-        "lvl: try --ignore properties,names, or --ignore all\n",
+        "lvl: tagged: try --ignore properties,names, or --ignore all\n",
         2,
     ),
     ("digest tagged - all", 1, SQUARE_DIGEST, "", 0),
-    ("digest tagged - -", 1, UNREAD_FIRST, TRY_PROPERTIES, 2),
+    ("digest tagged - -", 1, UNREAD_FIRST, TRY_TAGGED, 2),
     ("none two - - - - property", 0, "", BAD_IGNORE, 3),
     ("square square - - - - all,", 0, "", BAD_IGNORE, 3),
     ("none two - - 1/0 - property", 0, "", BAD_MAP, 3),
@@ -278,8 +362,14 @@ pub(super) static ROWS: [(&str, u8, &str, &str, u8); 62] = [
         "",
         0,
     ),
-    ("cells tagged -", 1, UNREAD_FIRST, TRY_PROPERTIES, 2),
-    ("cells none -", 1, "", "lvl: cannot open none\n", 2),
+    ("cells tagged -", 1, UNREAD_FIRST, TRY_TAGGED, 2),
+    (
+        "cells none -",
+        1,
+        "",
+        "lvl: cannot open none\nlvl: no such file\n",
+        2,
+    ),
     ("cells square al", 0, "", BAD_IGNORE, 3),
     ("square - ALL", 0, "", BAD_IGNORE, 3),
     ("digest square - ,", 0, "", BAD_IGNORE, 3),

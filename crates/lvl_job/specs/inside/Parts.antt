@@ -1,5 +1,5 @@
 -- What the steps of a job return.
-use Rattle.std.specs.Prelude.{◌≡◌, ⊤, ℕ, Bool, List, Option, None}
+use Rattle.std.specs.Prelude.{◌≡◌, ⊤, ℕ, Bool, List, Option, Err}
 use Rattle.std.specs.Prelude.{string_bytes}
 use Rattle.std.specs.Io.KnownBytes.{Keeps}
 use Rattle.lvl_report.specs.declared.outcome.Outcome.{Outcome}
@@ -11,12 +11,13 @@ use Rattle.lvl_job.specs.declared.fault.JobFault.{JobFault}
 use Rattle.lvl_job.specs.declared.fault.JobFault.TheVariants.{BadView, BadIgnore, NotOpened, OutOfMemory, Output}
 use Rattle.lvl_job.specs.declared.fault.JobFault.TheVariants.{BadLine, LongList, UnreadList}
 use Rattle.lvl_job.specs.Jobs.{IsIgnoreFault, IsMissing, IsPairBegun, IsPairWritten, Named, OfOne, OfTwo}
+use Rattle.lvl_job.specs.Opening.{Opened}
 
 -- why two texts give no view
 abbrev pub IsViewFault : Option (List ℕ) → Option (List ℕ) → JobFault → Type 0
 IsViewFault map_text window_text (BadView fault) = IsFaultOf map_text window_text fault
 IsViewFault map_text window_text (BadIgnore fault) = ⊥
-IsViewFault map_text window_text (NotOpened name) = ⊥
+IsViewFault map_text window_text (NotOpened name why) = ⊥
 IsViewFault map_text window_text (UnreadList name) = ⊥
 IsViewFault map_text window_text (LongList name) = ⊥
 IsViewFault map_text window_text (BadLine name n) = ⊥
@@ -27,7 +28,7 @@ IsViewFault map_text window_text Output = ⊥
 abbrev pub IsNoIgnore : Option (List ℕ) → JobFault → Type 0
 IsNoIgnore text (BadView fault) = ⊥
 IsNoIgnore text (BadIgnore fault) = IsIgnoreFault text
-IsNoIgnore text (NotOpened name) = ⊥
+IsNoIgnore text (NotOpened name why) = ⊥
 IsNoIgnore text (UnreadList name) = ⊥
 IsNoIgnore text (LongList name) = ⊥
 IsNoIgnore text (BadLine name n) = ⊥
@@ -40,18 +41,18 @@ fault_of_run RunOutput = Output
 fault_of_run RunOutOfMemory = OutOfMemory
 
 -- the answer to a comparison under a view was written
-abbrev pub IsPairAnswered : {S : Type 0} → (S → List ℕ → Option (Option (List ℕ)) → S → Type 0) → Bool → Bool
+abbrev pub IsPairAnswered : {S : Type 0} → (S → List ℕ → Opened → S → Type 0) → Bool → Bool
     → Option PlainView → Named → Named → S → S → Option (List ℕ) → Option (List ℕ) → Outcome → Type 0
 IsPairAnswered opens units why view a b old new from to outcome =
     OfTwo opens old new a b (λ x y. IsPairWritten units why view a.profile x y from to outcome)
 
 -- why a comparison under a view has no answer
-abbrev pub IsPairFault : {S : Type 0} → (S → List ℕ → Option (Option (List ℕ)) → S → Type 0) → Bool → Bool
+abbrev pub IsPairFault : {S : Type 0} → (S → List ℕ → Opened → S → Type 0) → Bool → Bool
     → Option PlainView → Named → Named → S → S → Option (List ℕ) → Option (List ℕ) → JobFault → Type 0
 IsPairFault opens units why view a b old new from to (BadView fault) = ⊥
 IsPairFault opens units why view a b old new from to (BadIgnore fault) = ⊥
-IsPairFault opens units why view a b old new from to (NotOpened name) =
-    IsMissing opens old new a.name b.name (string_bytes name) × Keeps from to
+IsPairFault opens units why view a b old new from to (NotOpened name reason) =
+    IsMissing opens old new a.name b.name (string_bytes name) reason × Keeps from to
 IsPairFault opens units why view a b old new from to (UnreadList name) = ⊥
 IsPairFault opens units why view a b old new from to (LongList name) = ⊥
 IsPairFault opens units why view a b old new from to (BadLine name n) = ⊥
@@ -60,20 +61,20 @@ IsPairFault opens units why view a b old new from to Output =
     OfTwo opens old new a b (λ x y. IsPairBegun units why view x y from to)
 
 -- the answer of a run on one file was written
-abbrev pub IsOneAnswered : {S X : Type 0} → (S → List ℕ → Option (Option (List ℕ)) → S → Type 0)
+abbrev pub IsOneAnswered : {S X : Type 0} → (S → List ℕ → Opened → S → Type 0)
     → (Input → X → Type 0) → (X → List ℕ) → (X → Outcome → Type 0)
     → Named → S → S → Option (List ℕ) → Option (List ℕ) → Outcome → Type 0
 IsOneAnswered opens IsAnswerOf text Ends a old new from to outcome =
     OfOne opens old new a (λ x. IsWritten (IsAnswerOf x) text Ends from to outcome)
 
 -- why a run on one file has no answer
-abbrev pub IsOneFault : {S X : Type 0} → (S → List ℕ → Option (Option (List ℕ)) → S → Type 0)
+abbrev pub IsOneFault : {S X : Type 0} → (S → List ℕ → Opened → S → Type 0)
     → (Input → X → Type 0) → (X → List ℕ)
     → Named → S → S → Option (List ℕ) → Option (List ℕ) → JobFault → Type 0
 IsOneFault opens IsAnswerOf text a old new from to (BadView fault) = ⊥
 IsOneFault opens IsAnswerOf text a old new from to (BadIgnore fault) = ⊥
-IsOneFault opens IsAnswerOf text a old new from to (NotOpened name) =
-    (string_bytes name ≡ a.name) × opens old (string_bytes name) None new × Keeps from to
+IsOneFault opens IsAnswerOf text a old new from to (NotOpened name why) =
+    (string_bytes name ≡ a.name) × opens old (string_bytes name) (Err why) new × Keeps from to
 IsOneFault opens IsAnswerOf text a old new from to (UnreadList name) = ⊥
 IsOneFault opens IsAnswerOf text a old new from to (LongList name) = ⊥
 IsOneFault opens IsAnswerOf text a old new from to (BadLine name n) = ⊥

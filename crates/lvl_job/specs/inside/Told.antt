@@ -12,9 +12,10 @@ use Rattle.lvl_job.specs.inside.Loops.{IsLoopFault}
 use Rattle.lvl_job.specs.Done.{IsCheckFault, IsChecked, IsListFault, IsListed, OfList}
 use Rattle.lvl_job.specs.Jobs.{UnderProfile}
 use Rattle.lvl_job.specs.inside.Steps.{Says, Speaking}
+use Rattle.lvl_job.specs.Opening.{Opened}
 
 -- the files were listed, or this is why not all of them were; and this was said
-pub record IsListTold {S : Type 0} (opens : S → List ℕ → Option (Option (List ℕ)) → S → Type 0)
+pub record IsListTold {S : Type 0} (opens : S → List ℕ → Opened → S → Type 0)
     (names : List (String Global)) (top : Option (List ℕ)) (ignored : Option (String Global)) (large unpack : Bool)
     (old new : S) (from to : Option (List ℕ)) (a b : Speaking) (r : Result Outcome JobFault) : Type 0 where
   pub said : List ℕ
@@ -29,7 +30,7 @@ IsSummary tally all a b (Ok outcome) = (outcome ≡ ended_with tally.status) × 
 IsSummary tally all a b (Err fault) = (fault ≡ OutOfMemory) × (b ≡ a)
 
 -- the files of the entries were checked, or this is why not all of them were; and this was said
-pub record IsEntriesTold {S : Type 0} (opens : S → List ℕ → Option (Option (List ℕ)) → S → Type 0)
+pub record IsEntriesTold {S : Type 0} (opens : S → List ℕ → Opened → S → Type 0)
     (entries : List Entry) (quiet : Bool) (profile : Profile) (top : Option (List ℕ)) (old new : S)
     (from to : Option (List ℕ)) (a b : Speaking) (r : Result Outcome JobFault) : Type 0 where
   pub said : List ℕ
@@ -39,7 +40,7 @@ pub record IsEntriesTold {S : Type 0} (opens : S → List ℕ → Option (Option
   pub told : Says said a b
 
 -- the files of a list were checked, or this is why not all of them were; and this was said
-pub record IsCheckTold {S : Type 0} (opens : S → List ℕ → Option (Option (List ℕ)) → S → Type 0) (list : List ℕ)
+pub record IsCheckTold {S : Type 0} (opens : S → List ℕ → Opened → S → Type 0) (list : List ℕ)
     (quiet : Bool) (top : Option (List ℕ)) (ignored : Option (String Global)) (large unpack : Bool)
     (old new : S) (from to : Option (List ℕ)) (a b : Speaking) (r : Result Outcome JobFault) : Type 0 where
   pub said : List ℕ

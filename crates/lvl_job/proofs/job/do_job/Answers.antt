@@ -13,6 +13,6 @@ pub returns-in_default : goal.returns-in_default
 returns-in_default g c =
     let one : has_one_answer c.args.job ≡ true = search rules in
     record {
-      done = one_done g.F.Files.opens c.args.job _ _ _ _ _ one c.answer.ensures.done;
+      done = one_done g.F.Files.opens g.F.Files.looks c.args.job _ _ _ _ _ one c.answer.ensures.done;
       errors = c.answer.ensures.errors;
     }
