@@ -377,6 +377,11 @@ def digest(read, data, top, ignore=NOTHING):
     return Answer({0}, head + "\n" + lines.rstrip("\n"), None, "")
 
 
+def said(answer, files):
+    """The answer with all that is said of files, each with its name and bytes."""
+    return answer._replace(hint=hints.said(answer.hint, files)) if answer.statuses == {2} else answer
+
+
 def agrees(answer, status, output, errors):
     if status not in answer.statuses or errors != answer.hint:
         return False

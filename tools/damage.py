@@ -257,11 +257,13 @@ def runs_of(names, words, files, tops, text, unpack):
     given = (["--ignore", text] if text else []) + ["--unpack"] * unpack
     top = ["--top", tops[0]] if tops[0] else []
     how = read_unpacked if unpack else read
-    return [
+    runs = [
         (["compare", *names, *words, *given], answers.compare(how, *files, tops, ignore)),
         (["show", names[0], *top, *given], answers.show(how, files[0], tops[0], ignore)),
         (["digest", names[0], *top, *given], answers.digest(how, files[0], tops[0], ignore)),
     ]
+    named = list(zip(names, files))
+    return [(line, answers.said(answer, named if line[0] == "compare" else named[:1])) for line, answer in runs]
 
 
 def judged(asked, rng, names):

@@ -3,8 +3,8 @@
 The table, from a refusal to its hint:
 
     step   number and name              and                                hint
-    gds    2 BadLength, 3 BadDataType,  at 0                               neither GDSII nor OASIS: if the file
-           4 UnknownRecord                                                 is compressed (gzip), unpack it first
+    gds    2 BadLength, 3 BadDataType,  at 0                               neither GDSII nor OASIS
+           4 UnknownRecord
     gds    11 Unsupported               43, 44, 35                         try --ignore properties
     gds    11 Unsupported               57, 58, 59, 31, 32, 34, 54, 52,    try --ignore names
                                         38, 47
@@ -24,7 +24,9 @@ The table, from a refusal to its hint:
     cells  7 TooManyPlacements,                                            try --large
            8 TooManyRings
 
-Each begins with `lvl: `. The one on tops has the first eight names in file order, and then `..` if there are more; it
+Each begins with `lvl: `, and then has the name of the file if there is only one, as `lvl: chip.gds: try --large`; the
+one on tops doesn't. After a refusal that has none of these lines, or only `neither GDSII nor OASIS`, each file that
+begins as those of gzip do has a line, `lvl: chip.gds is compressed (gzip): unpack it first`. The one on tops has the first eight names in file order, and then `..` if there are more; it
 names --top-a or --top-b, by the side, or of show and digest `the file` and --top. If other words were given, a hint
 to --ignore has them too, in the order properties, texts, names, padding, points, since the option can be given only
 once, and goes on `, or --ignore all`. If the word itself was given, there is no hint.
@@ -47,6 +49,9 @@ MENDED = {
 # By step and number, the refusals by a limit that --large lifts.
 LIFTED = {("gds", 5), ("gds", 26), ("gds", 27), ("oasis", 9), ("oasis", 11), ("oasis", 39), ("cells", 7), ("cells", 8)}
 LIFT = "lvl: try --large\n"
+FOREIGN = "lvl: neither GDSII nor OASIS\n"
+# How a file of gzip begins.
+GZIP = b"\x1F\x8B"
 
 
 def word_of(step, number, value):
@@ -71,6 +76,19 @@ def tops(names, option):
     return "lvl: the %s has %d tops: %s: choose one by %s\n" % (which, len(names), named, option)
 
 
+def named(hint, name):
+    """The hint at the only file of a line, which has its name. The line on tops has none."""
+    return hint if hint.startswith("lvl: the file ") else hint.replace("lvl: ", "lvl: %s: " % name, 1)
+
+
+def said(hint, files):
+    """All that is said after a refusal of files, each with its name and bytes, from the hint."""
+    text = named(hint, files[0][0]) if len(files) == 1 else hint
+    looked = files if hint in ("", FOREIGN) else []
+    return text + "".join("lvl: %s is compressed (gzip): unpack it first\n" % name
+                          for name, data in looked if data[:2] == GZIP)
+
+
 def hint(refused, option, given):
     """The text on standard error, from the refusal of a file, the option that names its top, and the words of
     --ignore that were given."""
@@ -82,7 +100,7 @@ def hint(refused, option, given):
     if word is not None and word not in given:
         return "lvl: try --ignore %s, or --ignore all\n" % ",".join(each for each in WORDS if each in (*given, word))
     if refused.step == "gds" and refused.number in (2, 3, 4) and refused.at == 0:
-        return "lvl: neither GDSII nor OASIS: if the file is compressed (gzip), unpack it first\n"
+        return FOREIGN
     if fault == ("oasis", 24) and value == 34:
         return "lvl: try --unpack\n"
     if fault == ("cells", 6):

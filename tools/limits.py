@@ -307,6 +307,8 @@ def is_right(program, case, folder, has_hints):
     hint = hints.tops(["%07d" % at for at in range(CELLS)], "--top") if last.endswith("ManyTops") else ""
     if hints.is_lifted(last) and "--large" not in case.words and "oasis list" not in case.what:
         hint = hints.LIFT
+    if len(names) == 1:
+        hint = hints.named(hint, names[0])
     errors = hint if has_hints else ""
     right = (done.status, done.output, done.errors) == (status, "\n".join(case.answer) + "\n", errors)
     last = done.output.rstrip("\n").split("\n")[-1] if done.output else done.errors.strip()

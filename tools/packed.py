@@ -63,7 +63,7 @@ def wrong(program, plain, packed):
         if file.read() == other.read():
             return None
     status, _, said = answer(program, "digest", packed)
-    return None if (status, said) == (2, "lvl: try --unpack\n") else "read without --unpack"
+    return None if (status, said) == (2, "lvl: %s: try --unpack\n" % packed) else "read without --unpack"
 
 
 def sources(asked):

@@ -15,6 +15,7 @@ sys.dont_write_bytecode = True
 
 import answers
 import gds_reader
+import hints
 import oasis_reader
 import options
 from assembler import OASIS_END, padded_end, record, short, unsigned, xy
@@ -37,9 +38,10 @@ OASIS = {
 ALL = "properties,texts,names,padding"
 
 BAD_IGNORE = (
-    "lvl: bad ignore 1 IgnoreText\nlvl: --ignore takes properties, texts, names, padding or all, joined by commas\n"
+    "lvl: bad ignore 1 IgnoreText\n"
+    "lvl: --ignore takes properties, texts, names, padding, points or all, joined by commas\n"
 )
-PACKED = "neither GDSII nor OASIS: if the file is compressed (gzip), unpack it first"
+FOREIGN = "neither GDSII nor OASIS"
 # What is added before which record, the words of --ignore, and the answer. The offsets are by docs/FORMATS.md: in
 # square.gds BGNLIB 6, LIBNAME 34, UNITS 40, BGNSTR 60, STRNAME 88, BOUNDARY 96, LAYER 100, XY 112, ENDEL 156,
 # ENDSTR 160, ENDLIB 164; in square.oas START 13, CELL 34, RECTANGLE 39, END 47.
@@ -251,7 +253,8 @@ END_ROWS = [
 # The texts of --ignore, and their sets.
 TEXTS = [
     ("properties", {"properties"}), ("texts,names", {"texts", "names"}), ("padding,padding", {"padding"}),
-    ("names,all", {"properties", "texts", "names", "padding"}), ("all", {"properties", "texts", "names", "padding"}),
+    ("names,all", {"properties", "texts", "names", "padding", "points"}), ("points,texts", {"points", "texts"}),
+    ("all", {"properties", "texts", "names", "padding", "points"}),
     ("", None), (",", None), ("texts,", None), (" texts", None), ("Texts", None), ("text", None), ("none", None),
 ]
 # Of a refusal: the format, what is added before which record, the words of --ignore, and the hint.
@@ -264,10 +267,10 @@ HINTS = [
     ("gds", "00063602 0001", "UNITS", "", "try --ignore names"),
     ("gds", "00063602 0001", "UNITS", "names", None),
     ("gds", "00041500", "ENDSTR", "", None),
-    ("gds", "1F8B0800", "HEADER", "", PACKED),
-    ("gds", "1F8B0800", "HEADER", "all", PACKED),
+    ("gds", "1F8B0800", "HEADER", "", FOREIGN),
+    ("gds", "1F8B0800", "HEADER", "all", FOREIGN),
     ("gds", "1F8B0800", "ENDEL", "", None),
-    ("gds", "1F8D0800", "HEADER", "", PACKED),
+    ("gds", "1F8D0800", "HEADER", "", FOREIGN),
     ("gds", "00040700 001C0502" + "00" * 24 + "00060606 4100", "ENDSTR", "",
      "the file has 2 tops: TOP, A: choose one by --top"),
     ("oasis", "1D", "CELL", "", "try --ignore properties"),
@@ -308,13 +311,14 @@ def second(form, data, words):
 
 
 def first(program, data, words):
-    """The last line that the program prints, and what it writes to standard error."""
+    """The last line that the program prints, and what it writes to standard error, with NAME for the file's name."""
     with tempfile.NamedTemporaryFile() as file:
         file.write(data)
         file.flush()
         given = ["--ignore", words] if words else []
         done = subprocess.run([program, "show", file.name, *given], capture_output=True)
-    return done.stdout.decode("latin-1").rstrip("\n").split("\n")[-1], done.stderr.decode("latin-1")
+    said = done.stderr.decode("latin-1").replace(file.name, "NAME")
+    return done.stdout.decode("latin-1").rstrip("\n").split("\n")[-1], said
 
 
 def checked(what, found, expected):
@@ -340,7 +344,8 @@ def hinted(program):
         what = "the hint for %s with --ignore %s" % (data.hex(), words)
         yield checked(what, second(form, data, words).hint, expected)
         if program:
-            yield checked("by the program, " + what, first(program, data, words)[1], expected)
+            said = hints.said(expected, [("NAME", data)])
+            yield checked("by the program, " + what, first(program, data, words)[1], said)
 
 
 def texts(program):
@@ -349,7 +354,7 @@ def texts(program):
         if program:
             words_of_line = [program, "show", "/missing/file", "--ignore=" + text]
             bad = subprocess.run(words_of_line, capture_output=True, text=True)
-            said = BAD_IGNORE if words is None else "lvl: cannot open /missing/file\n"
+            said = BAD_IGNORE if words is None else "lvl: cannot open /missing/file\nlvl: no such file\n"
             expected = "", said, 3 if words is None else 2
             yield checked("--ignore=%s" % text, (bad.stdout, bad.stderr, bad.returncode), expected)
 
