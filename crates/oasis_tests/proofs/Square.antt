@@ -267,7 +267,7 @@ next profile rs id t r fields u e f =
 
 -- some things ignored, within the standard limits
 abbrev ignoring : Ignore → Profile
-ignoring ignore = record { ignore = ignore; limits = standard }
+ignoring ignore = record { ignore = ignore; limits = standard; unpack = false }
 
 spelled : (ignore : Ignore) → SpellsAll (oasis (ignoring ignore)) [] file square
 spelled ignore = let profile = ignoring ignore in (
