@@ -16,10 +16,10 @@ use lvl_refusal::Cause;
 use std::alloc::{AllocError, Global};
 
 /// How many bytes are unpacked at a time.
-const PIECE: usize = 4096;
+const PIECE: usize = 1024;
 
-/// How many bytes a block may have that is kept unpacked, 4 MB. A longer one is unpacked twice.
-const MOST_KEPT: u64 = 1 << 22;
+/// How many bytes a block may have that is kept unpacked, 16 MB. A longer one is unpacked twice.
+const MOST_KEPT: u64 = 1 << 24;
 
 /// Unpacks one block after another, in memory that is allocated with the first of them.
 #[derive(Drop)]
@@ -120,7 +120,7 @@ fn keep_bytes(
 
 impl Block {
     /// A reader of the bytes of the block, which may have at most `room`. All of them are unpacked before, to test the
-    /// block. At most 4 MB are then kept; a longer block is unpacked again as it is read.
+    /// block. At most 16 MB are then kept; a longer block is unpacked again as it is read.
     pub fn unpack(
         &self,
         alloc: Global,
