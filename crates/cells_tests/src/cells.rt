@@ -1,10 +1,9 @@
 //! What the check says of small libraries.
 use crate::libraries::library;
-use crate::words::{check_text, cut};
+use crate::words::{check_text, cut, holds, rows_hold};
 use lvl_cells::{CellFault, Checked, check};
 use lvl_refusal::Cause;
 use std::alloc::{AllocError, Global};
-use std::process::Abort;
 use std::test::Fail;
 
 /// A name, after a space.
@@ -92,33 +91,25 @@ fn checked_text(alloc: Global, cells: &str, top: &str) -> Result<String, Fail> {
     let library = library(alloc, cells)?;
     let top = (!top.is_empty()).then_some(top.as_bytes());
     let answer = check(alloc, library, top);
-    Ok(text_of(alloc, &answer)?)
+    text_of(alloc, &answer).map_err(Fail::from)
 }
 
 /// Whether the check says of the library of a row what the row says.
-fn row_is_checked(alloc: Global, row: &str) -> Result<bool, Fail> {
+pub(crate) fn row_is_checked(alloc: Global, row: &str) -> Result<bool, Fail> {
     let (_, row) = cut(row, " |");
     let (cells, row) = cut(row, " |");
     let (top, want) = cut(row, "| ");
     Ok(checked_text(alloc, cells, top.trim())?.as_str() == want)
 }
 
-/// Checks rows as those of `SOUNDNESS`.
-pub(crate) fn check_rows(rt: &impl Abort, alloc: Global, rows: &str) -> Result<(), Fail> {
-    for row in rows.lines() {
-        assert!(rt; row_is_checked(alloc, row)?, "{row}");
-    }
-    Ok(())
-}
-
 #[test]
 fn soundness(rt: HostRuntime) -> Result<(), Fail> {
-    check_rows(&rt, rt.alloc(), SOUNDNESS)
+    rows_hold(rt.alloc(), SOUNDNESS, row_is_checked)
 }
 
 /// A diamond without its side: D is placed by A and B, and B by A.
 fn three_cells(alloc: Global) -> Result<Checked, Fail> {
-    Ok(check(alloc, library(alloc, "D; A B D; B D")?, None)?)
+    check(alloc, library(alloc, "D; A B D; B D")?, None).map_err(Fail::from)
 }
 
 /// Whether these are three cells, of which the top is the second, and B is before D.
@@ -161,21 +152,27 @@ fn targets_of_references(rt: HostRuntime) -> Result<(), Fail> {
 }
 
 /// Whether a library with the cell `top` as its top places its cells this often.
-fn are_placed(rooted: &Option<Checked>, top: usize, times: &[u64]) -> bool {
-    match rooted {
-        Some(rooted) => rooted.top() == top
-            && rooted.times() == times
-            && rooted.order() == [1, 2, 0].as_slice(),
-        None => false,
+fn are_placed(
+    rooted: Result<Option<Checked>, AllocError>,
+    top: usize,
+    times: &[u64],
+) -> Result<bool, Fail> {
+    match rooted? {
+        Some(rooted) => Ok(
+            rooted.top() == top
+                && rooted.times() == times
+                && rooted.order() == [1, 2, 0].as_slice(),
+        ),
+        None => Ok(false),
     }
 }
 
 /// Whether the three cells have any of them as their top, and no fourth.
-fn are_rooted(alloc: Global, checked: &Checked) -> Result<bool, AllocError> {
+fn are_rooted(alloc: Global, checked: &Checked) -> Result<bool, Fail> {
     Ok(
-        are_placed(&checked.rooted(alloc, 0)?, 0, &[1, 0, 0])
-            && are_placed(&checked.rooted(alloc, 1)?, 1, &[2, 1, 1])
-            && are_placed(&checked.rooted(alloc, 2)?, 2, &[1, 0, 1])
+        are_placed(checked.rooted(alloc, 0), 0, &[1, 0, 0])?
+            && are_placed(checked.rooted(alloc, 1), 1, &[2, 1, 1])?
+            && are_placed(checked.rooted(alloc, 2), 2, &[1, 0, 1])?
             && checked.rooted(alloc, 3)?.is_none(),
     )
 }
@@ -185,8 +182,7 @@ fn are_rooted(alloc: Global, checked: &Checked) -> Result<bool, AllocError> {
 fn another_top_growths(rt: HostRuntime) -> Result<(), Fail> {
     let alloc = rt.alloc();
     let checked = three_cells(alloc)?;
-    assert!(rt; are_rooted(alloc, &checked)?);
-    Ok(())
+    holds(are_rooted(alloc, &checked))
 }
 
 /// The cells of a library, and what the check says.

@@ -1,6 +1,6 @@
 //! How many rings libraries place on each Layer.
 use crate::libraries::library;
-use crate::words::{check_text, cut};
+use crate::words::{check_text, cut, rows_hold};
 use lvl_cells::{Checked, check};
 use lvl_count::{LayerRings, rings_by_layer};
 use lvl_names::Layer;
@@ -14,13 +14,13 @@ const METAL: Layer = Layer {
 
 /// The library of a text, checked for the top `T`.
 fn checked(alloc: Global, text: &str) -> Result<Checked, Fail> {
-    Ok(check(alloc, library(alloc, text)?, Some(b"T"))?)
+    check(alloc, library(alloc, text)?, Some(b"T")).map_err(Fail::from)
 }
 
 /// How many rings the library of a text places on each Layer.
 fn rings(alloc: Global, text: &str) -> Result<Vec<LayerRings>, Fail> {
     let checked = checked(alloc, text)?;
-    Ok(rings_by_layer(alloc, &checked)?)
+    rings_by_layer(alloc, &checked).map_err(Fail::from)
 }
 
 fn add_count(alloc: Global, line: &mut String, count: &LayerRings) -> Result<(), AllocError> {
@@ -40,7 +40,7 @@ fn line_of(alloc: Global, counts: &[LayerRings]) -> Result<String, AllocError> {
 
 fn counted(alloc: Global, text: &str) -> Result<String, Fail> {
     let counts = rings(alloc, text)?;
-    Ok(line_of(alloc, &counts)?)
+    line_of(alloc, &counts).map_err(Fail::from)
 }
 
 /// What a library is, the library, and how many rings its top places on each Layer.
@@ -68,10 +68,7 @@ fn row_is_counted(alloc: Global, row: &str) -> Result<bool, Fail> {
 
 #[test]
 fn counts(rt: HostRuntime) -> Result<(), Fail> {
-    for row in COUNTS.lines() {
-        assert!(rt; row_is_counted(rt.alloc(), row)?, "{row}");
-    }
-    Ok(())
+    rows_hold(rt.alloc(), COUNTS, row_is_counted)
 }
 
 #[test]
@@ -83,7 +80,7 @@ fn counts_of_a_layer(rt: HostRuntime) -> Result<(), Fail> {
         layer: METAL,
         rings: 6,
     };
-    assert_eq!(rt; counts.as_slice(), [metal].as_slice());
+    assert!(rt; counts.as_slice() == [metal].as_slice());
     Ok(())
 }
 

@@ -20,12 +20,14 @@ fn lattice(text: &str) -> Result<Offsets, Fail> {
     let (columns, rows) = cut(text, "x");
     let right = Point { x: 9, y: 0 };
     let up = Point { x: 0, y: 9 };
-    Ok(Offsets::lattice(right, columns.parse::<u64>()?, up, rows.parse::<u64>()?).ok_or("shifts")?)
+    Offsets::lattice(right, columns.parse::<u64>()?, up, rows.parse::<u64>()?)
+        .ok_or("shifts")
+        .map_err(Fail::from)
 }
 
 /// A unit square.
 pub(crate) fn square(alloc: Global) -> Result<Ring, Fail> {
-    Ok(Ring::rectangle(alloc, ORIGIN, Point { x: 1, y: 1 })?)
+    Ring::rectangle(alloc, ORIGIN, Point { x: 1, y: 1 }).map_err(Fail::from)
 }
 
 /// As many unit squares as the word says.
@@ -56,7 +58,9 @@ fn placing(alloc: Global, word: &str) -> Result<Reference, Fail> {
     let (name, places) = cut(word, "*");
     let shifts = lattice(places)?;
     let name = Name::of(alloc, name.as_bytes())?;
-    Ok(Reference::new(name, false, Turn::R0, ORIGIN, shifts).ok_or("places")?)
+    Reference::new(name, false, Turn::R0, ORIGIN, shifts)
+        .ok_or("places")
+        .map_err(Fail::from)
 }
 
 fn add_reference(alloc: Global, cells: &mut Builder, word: &str) -> Result<(), Fail> {

@@ -1,7 +1,7 @@
 //! Libraries that place as much as a library may, or one more, and libraries of many cells.
-use crate::cells::{check_rows, text_of};
+use crate::cells::{self, text_of};
 use crate::libraries::add_cell;
-use crate::words::cut;
+use crate::words::{cut, is_text, rows_hold};
 use lvl_cells::{Builder, Library, check};
 use std::alloc::{AllocError, Global};
 use std::test::Fail;
@@ -21,7 +21,7 @@ one ring more | TOP A*16x1 1/0:1*1x1; A 1/0:1*1024x1024 | | TooManyRings
 
 #[test]
 fn limits(rt: HostRuntime) -> Result<(), Fail> {
-    check_rows(&rt, rt.alloc(), LIMITS)
+    rows_hold(rt.alloc(), LIMITS, cells::row_is_checked)
 }
 
 /// The cell of that number in a chain of `length` cells: it places the next once or twice, and the last draws one
@@ -65,27 +65,24 @@ doubling-deep | 200 2 | TooManyPlacements
 deep-chain | 65536 1 | top 4294967295
 ";
 
-/// What the check says of a chain.
-fn chain_text(alloc: Global, numbers: &str) -> Result<String, Fail> {
+/// Whether the check says this of a chain.
+fn is_checked(alloc: Global, numbers: &str, want: &str) -> Result<bool, Fail> {
     let (length, times) = cut(numbers, " ");
     let library = chain(alloc, length.parse::<u32>()?, times.parse::<u32>()?)?;
     let answer = check(alloc, library, None);
-    Ok(text_of(alloc, &answer)?)
+    is_text(text_of(alloc, &answer), want)
 }
 
 /// Whether the check says of the chain of a row what the row says.
 fn row_is_checked(alloc: Global, row: &str) -> Result<bool, Fail> {
     let (_, numbers) = cut(row, " | ");
     let (numbers, want) = cut(numbers, " | ");
-    Ok(chain_text(alloc, numbers)?.as_str() == want)
+    is_checked(alloc, numbers, want)
 }
 
 #[test]
 fn chains(rt: HostRuntime) -> Result<(), Fail> {
-    for row in CHAINS.lines() {
-        assert!(rt; row_is_checked(rt.alloc(), row)?, "{row}");
-    }
-    Ok(())
+    rows_hold(rt.alloc(), CHAINS, row_is_checked)
 }
 
 /// The name of the cell of that number: in the order of names the first is the last.

@@ -2,7 +2,7 @@
 //!
 //! A lattice is written as its two steps, each with how many places there are along it, as `9,0*3 0,9*2`, and a
 //! list as its shifts, as `0,0 9,0`.
-use crate::words::{check_text, cut, point};
+use crate::words::{check_text, cut, is_text, point, rows_hold};
 use lvl_cells::Reference;
 use lvl_grid::{Point, Turn};
 use lvl_names::{Name, Offsets};
@@ -25,7 +25,7 @@ fn lattice(text: &str) -> Result<Option<Offsets>, Fail> {
 
 /// The lattice of a text that is one.
 fn lattice_of(text: &str) -> Result<Offsets, Fail> {
-    Ok(lattice(text)?.ok_or("a lattice")?)
+    lattice(text)?.ok_or("a lattice").map_err(Fail::from)
 }
 
 /// The list of a text, if it is one.
@@ -39,7 +39,7 @@ fn list(alloc: Global, text: &str) -> Result<Option<Offsets>, Fail> {
 
 /// The list of a text that is one.
 pub(crate) fn list_of(alloc: Global, text: &str) -> Result<Offsets, Fail> {
-    Ok(list(alloc, text)?.ok_or("a list")?)
+    list(alloc, text)?.ok_or("a list").map_err(Fail::from)
 }
 
 fn place_text(alloc: Global, place: Option<Point>) -> Result<String, AllocError> {
@@ -60,7 +60,7 @@ pub(crate) fn places(alloc: Global, shifts: &Offsets) -> Result<String, AllocErr
 
 fn lattice_places(alloc: Global, text: &str) -> Result<String, Fail> {
     let shifts = lattice_of(text)?;
-    Ok(places(alloc, &shifts)?)
+    places(alloc, &shifts).map_err(Fail::from)
 }
 
 #[test]
@@ -113,7 +113,7 @@ fn no_lists_of_shifts(rt: HostRuntime) -> Result<(), Fail> {
 
 fn list_places(alloc: Global, text: &str) -> Result<String, Fail> {
     let shifts = list_of(alloc, text)?;
-    Ok(places(alloc, &shifts)?)
+    places(alloc, &shifts).map_err(Fail::from)
 }
 
 #[test]
@@ -133,7 +133,7 @@ fn reach(alloc: Global, shifts: &Offsets) -> Result<String, AllocError> {
 fn row_reaches(alloc: Global, row: &str) -> Result<bool, Fail> {
     let (text, want) = cut(row, " | ");
     let shifts = lattice_of(text)?;
-    Ok(reach(alloc, &shifts)?.as_str() == want)
+    is_text(reach(alloc, &shifts), want)
 }
 
 /// A lattice, and the least and the greatest coordinates of its shifts.
@@ -146,10 +146,7 @@ const REACHES: &str = "\
 
 #[test]
 fn reaches(rt: HostRuntime) -> Result<(), Fail> {
-    for row in REACHES.lines() {
-        assert!(rt; row_reaches(rt.alloc(), row)?, "{row}");
-    }
-    Ok(())
+    rows_hold(rt.alloc(), REACHES, row_reaches)
 }
 
 /// Whether the shifts reach from (-1, -2) to (5, 7).

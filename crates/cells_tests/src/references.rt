@@ -61,7 +61,9 @@ fn placing(alloc: Global, row: &Row, shifts: Offsets) -> Result<Option<Reference
 
 fn reference_of(alloc: Global, row: &Row) -> Result<Reference, Fail> {
     let shifts = shifts_of(alloc, row.4)?.ok_or("shifts")?;
-    Ok(placing(alloc, row, shifts)?.ok_or("places")?)
+    placing(alloc, row, shifts)?
+        .ok_or("places")
+        .map_err(Fail::from)
 }
 
 fn add_row(alloc: Global, references: &mut References, row: &Row) -> Result<(), Fail> {
@@ -123,7 +125,7 @@ fn growths_of_references(rt: HostRuntime) -> Result<(), Fail> {
 fn reference_at(name: &Name, y: i64) -> Result<Reference, Fail> {
     let at = Point { x: 0, y };
     let made = Reference::new(name.clone()?, false, Turn::R0, at, Offsets::single());
-    Ok(made.ok_or("places")?)
+    made.ok_or("places").map_err(Fail::from)
 }
 
 fn add_reference_at(references: &mut References, name: &Name, y: i64) -> Result<(), Fail> {

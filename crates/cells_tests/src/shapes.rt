@@ -26,7 +26,9 @@ fn add_square(alloc: Global, shapes: &mut Shapes, shifts: &Offsets) -> Result<()
 
 /// A list of the origin and of a step to the right.
 fn listed(alloc: Global) -> Result<Offsets, Fail> {
-    Ok(Offsets::new([ORIGIN, RIGHT].to_vec(alloc)?).ok_or("shifts")?)
+    Offsets::new([ORIGIN, RIGHT].to_vec(alloc)?)
+        .ok_or("shifts")
+        .map_err(Fail::from)
 }
 
 /// Shapes of one ring and of two, at one place, at a lattice that two of them have, and at a list.

@@ -35,7 +35,7 @@ fn corners(text: &str) -> Result<(Point, Point), Fail> {
 /// The rectangle of a box.
 fn rectangle(alloc: Global, text: &str) -> Result<Ring, Fail> {
     let (low, high) = corners(text)?;
-    Ok(Ring::rectangle(alloc, low, high)?)
+    Ring::rectangle(alloc, low, high).map_err(Fail::from)
 }
 
 /// Whether a rectangle of a shape, at these indexes, has these corners.
@@ -104,7 +104,7 @@ fn second_points(alloc: Global, shapes: &Shapes) -> Result<Vec<Point>, AllocErro
 
 fn moved_points(alloc: Global) -> Result<Vec<Point>, Fail> {
     let shapes = boxes(alloc)?;
-    Ok(second_points(alloc, &shapes)?)
+    second_points(alloc, &shapes).map_err(Fail::from)
 }
 
 /// Whether there are four points, of which the first is (3, 4).
@@ -206,7 +206,7 @@ fn stair(alloc: Global, right: i64) -> Result<Ring, Fail> {
         push_two(&mut points, x, x.saturating_add(1), y)?;
     }
     push_two(&mut points, right.saturating_add(1000), right, 1000)?;
-    Ok(Ring::new(points)?)
+    Ring::new(points).map_err(Fail::from)
 }
 
 /// Adds a shape of each of two rings.
@@ -227,7 +227,7 @@ fn in_turn(alloc: Global, first: &Ring, second: &Ring) -> Result<Shapes, AllocEr
 fn stairs(alloc: Global) -> Result<Shapes, Fail> {
     let first = stair(alloc, 0)?;
     let second = stair(alloc, 7)?;
-    Ok(in_turn(alloc, &first, &second)?)
+    in_turn(alloc, &first, &second).map_err(Fail::from)
 }
 
 #[test]

@@ -1,6 +1,6 @@
 //! A list of shifts and the same list shared, where all of its shifts fit and where they don't.
 use crate::offsets::{list_of, places};
-use crate::words::{check_text, cut, point};
+use crate::words::{check_text, cut, point, rows_hold};
 use lvl_grid::Point;
 use lvl_names::Offsets;
 use std::alloc::Global;
@@ -14,7 +14,7 @@ fn shifts(alloc: Global) -> Result<Offsets, Fail> {
 fn shared_twice(alloc: Global) -> Result<Offsets, Fail> {
     let mut shared = shifts(alloc)?;
     shared.share()?;
-    Ok(shared.clone()?)
+    shared.clone().map_err(Fail::from)
 }
 
 /// A place, and whether each of the shifts is within 64 bits once it is moved there.
@@ -48,10 +48,7 @@ fn row_is_answered(alloc: Global, row: &str) -> Result<bool, Fail> {
 /// A list that is shared answers as the list itself.
 #[test]
 fn shared_lists(rt: HostRuntime) -> Result<(), Fail> {
-    for row in PLACES.lines() {
-        assert!(rt; row_is_answered(rt.alloc(), row)?, "{row}");
-    }
-    Ok(())
+    rows_hold(rt.alloc(), PLACES, row_is_answered)
 }
 
 #[test]

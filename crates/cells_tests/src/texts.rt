@@ -1,9 +1,8 @@
 //! Which texts say a view, and why others are refused.
-use crate::words::cut;
+use crate::words::{cut, is_text, rows_hold};
 use lvl_refusal::Cause;
 use lvl_view::{View, ViewFault};
 use std::alloc::{AllocError, Global};
-use std::process::Abort;
 use std::test::Fail;
 
 /// Why the texts are refused, or None where they say a view.
@@ -36,22 +35,14 @@ fn answer(alloc: Global, map: &str, window: &str) -> Result<String, AllocError> 
 }
 
 /// Whether the texts of a row are answered as it says.
-fn row_is_answered(alloc: Global, row: &str) -> Result<bool, AllocError> {
+fn row_is_answered(alloc: Global, row: &str) -> Result<bool, Fail> {
     let (_, texts) = cut(row, "|");
     let (map, texts) = cut(texts, "|");
     let (window, want) = cut(texts, "| ");
-    Ok(answer(alloc, map, window)?.as_str() == want)
+    is_text(answer(alloc, map, window), want)
 }
 
-/// Checks rows, each a map and a window between bars, and why they are refused.
-fn check_rows(rt: &impl Abort, alloc: Global, rows: &str) -> Result<(), Fail> {
-    for row in rows.lines() {
-        assert!(rt; row_is_answered(alloc, row)?, "{row}");
-    }
-    Ok(())
-}
-
-/// Maps.
+/// Maps: each row is a map and a window between bars, and why they are refused.
 const MAPS: &str = "\
 |1/0=2/0|-| view
 |1/0=1/0|-| view
@@ -63,7 +54,7 @@ const MAPS: &str = "\
 
 #[test]
 fn texts_of_a_map(rt: HostRuntime) -> Result<(), Fail> {
-    check_rows(&rt, rt.alloc(), MAPS)
+    rows_hold(rt.alloc(), MAPS, row_is_answered)
 }
 
 /// Texts that say no map.
@@ -108,7 +99,7 @@ const NO_MAPS: &str = "\
 
 #[test]
 fn texts_of_no_map(rt: HostRuntime) -> Result<(), Fail> {
-    check_rows(&rt, rt.alloc(), NO_MAPS)
+    rows_hold(rt.alloc(), NO_MAPS, row_is_answered)
 }
 
 /// The source that is reported is the first that an earlier pair has, not the first of the pairs with one source.
@@ -123,7 +114,7 @@ const TWICE: &str = "\
 
 #[test]
 fn sources_twice(rt: HostRuntime) -> Result<(), Fail> {
-    check_rows(&rt, rt.alloc(), TWICE)
+    rows_hold(rt.alloc(), TWICE, row_is_answered)
 }
 
 /// Texts that say no window.
@@ -167,7 +158,7 @@ const NO_WINDOWS: &str = "\
 
 #[test]
 fn texts_of_no_window(rt: HostRuntime) -> Result<(), Fail> {
-    check_rows(&rt, rt.alloc(), NO_WINDOWS)
+    rows_hold(rt.alloc(), NO_WINDOWS, row_is_answered)
 }
 
 /// Windows without a square.
@@ -183,7 +174,7 @@ const EMPTY_WINDOWS: &str = "\
 
 #[test]
 fn windows_without_a_square(rt: HostRuntime) -> Result<(), Fail> {
-    check_rows(&rt, rt.alloc(), EMPTY_WINDOWS)
+    rows_hold(rt.alloc(), EMPTY_WINDOWS, row_is_answered)
 }
 
 /// Several faults, of which the first is reported.
@@ -200,5 +191,5 @@ const FAULTS: &str = "\
 
 #[test]
 fn order_of_faults(rt: HostRuntime) -> Result<(), Fail> {
-    check_rows(&rt, rt.alloc(), FAULTS)
+    rows_hold(rt.alloc(), FAULTS, row_is_answered)
 }

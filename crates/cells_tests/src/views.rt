@@ -1,5 +1,5 @@
 //! What a view says of Layers and of its window.
-use crate::words::{cut, layer};
+use crate::words::{cut, is_text, layer, rows_hold};
 use lvl_grid::Window;
 use lvl_names::Layer;
 use lvl_view::View;
@@ -51,10 +51,7 @@ fn row_has_target(alloc: Global, row: &str) -> Result<bool, Fail> {
 
 #[test]
 fn targets_of_layers(rt: HostRuntime) -> Result<(), Fail> {
-    for row in TARGETS.lines() {
-        assert!(rt; row_has_target(rt.alloc(), row)?, "{row}");
-    }
-    Ok(())
+    rows_hold(rt.alloc(), TARGETS, row_has_target)
 }
 
 #[test]
@@ -87,15 +84,12 @@ fn bounds(alloc: Global, window: Option<Window>) -> Result<String, AllocError> {
 fn row_has_bounds(alloc: Global, row: &str) -> Result<bool, Fail> {
     let (text, want) = cut(row, " | ");
     let window = window(alloc, None, Some(text))?;
-    Ok(bounds(alloc, window)?.as_str() == want)
+    is_text(bounds(alloc, window), want)
 }
 
 #[test]
 fn windows_of_texts(rt: HostRuntime) -> Result<(), Fail> {
-    for row in WINDOWS.lines() {
-        assert!(rt; row_has_bounds(rt.alloc(), row)?, "{row}");
-    }
-    Ok(())
+    rows_hold(rt.alloc(), WINDOWS, row_has_bounds)
 }
 
 /// Whether the view maps the third Layer to the first, and has a window.

@@ -1,6 +1,7 @@
 //! The words of a row of a table.
 use lvl_grid::Point;
 use lvl_names::Layer;
+use std::alloc::{AllocError, Global};
 use std::process::Abort;
 use std::test::Fail;
 
@@ -30,4 +31,34 @@ pub(crate) fn layer(word: &str) -> Result<Layer, Fail> {
 /// Ends the test if the text that is found isn't the one that the row wants.
 pub(crate) fn check_text(rt: &impl Abort, found: &str, want: &str, row: &str) {
     assert!(rt; found == want, "{row}: {found}");
+}
+
+/// Fails unless this holds.
+pub(crate) fn holds(given: Result<bool, Fail>) -> Result<(), Fail> {
+    if given? {
+        Ok(())
+    } else {
+        Err("it does not hold".into())
+    }
+}
+
+/// Fails at the first row that doesn't hold.
+pub(crate) fn rows_hold(
+    alloc: Global,
+    rows: &str,
+    row_holds: fn(Global, &str) -> Result<bool, Fail>,
+) -> Result<(), Fail>
+    requires { IsAlwaysCallable row_holds }
+{
+    for row in rows.lines() {
+        if !row_holds(alloc, row)? {
+            return Err(Fail::new(row));
+        }
+    }
+    Ok(())
+}
+
+/// Whether this text was made.
+pub(crate) fn is_text(made: Result<String, AllocError>, want: &str) -> Result<bool, Fail> {
+    Ok(made?.as_str() == want)
 }

@@ -32,7 +32,9 @@ pub(crate) fn add_rectangle(
     shifts: &Offsets,
 ) -> Result<(), Fail> {
     let ring = Ring::rectangle(alloc, low, high)?;
-    Ok(builder.add_ring(layer, ring.points(), shifts)?)
+    builder
+        .add_ring(layer, ring.points(), shifts)
+        .map_err(Fail::from)
 }
 
 /// Adds a cell that draws a rectangle of 4 by 2 at these shifts.
@@ -44,7 +46,7 @@ pub(crate) fn add_drawing(
 ) -> Result<(), Fail> {
     builder.open(alloc, name)?;
     add_rectangle(alloc, builder, METAL, ORIGIN, Point { x: 4, y: 2 }, shifts)?;
-    Ok(builder.close(alloc)?)
+    builder.close(alloc).map_err(Fail::from)
 }
 
 /// What places a cell by the map at these shifts.
@@ -56,7 +58,7 @@ pub(crate) fn reference(
 ) -> Result<Reference, Fail> {
     let name = Name::of(alloc, placed)?;
     let reference = Reference::new(name, map.flip, map.turn, map.at, shifts);
-    Ok(reference.ok_or("places")?)
+    reference.ok_or("places").map_err(Fail::from)
 }
 
 /// Adds a cell that places another by the map at these shifts.
@@ -70,14 +72,16 @@ pub(crate) fn add_placing(
 ) -> Result<(), Fail> {
     builder.open(alloc, name)?;
     builder.add_reference(reference(alloc, placed, map, shifts)?)?;
-    Ok(builder.close(alloc)?)
+    builder.close(alloc).map_err(Fail::from)
 }
 
 /// Shifts that are 10 apart each way.
 pub(crate) fn tens(columns: u64, rows: u64) -> Result<Offsets, Fail> {
     let across = Point { x: 10, y: 0 };
     let up = Point { x: 0, y: 10 };
-    Ok(Offsets::lattice(across, columns, up, rows).ok_or("lattice")?)
+    Offsets::lattice(across, columns, up, rows)
+        .ok_or("lattice")
+        .map_err(Fail::from)
 }
 
 /// A builder that has a cell A, which draws a rectangle of 4 by 2.
@@ -112,9 +116,9 @@ pub(crate) fn placed_twice(
 
 /// The library of the cells that are added.
 pub(crate) fn checked(alloc: Global, builder: Builder) -> Result<Checked, Fail> {
-    Ok(check(alloc, builder.finish(), None)?)
+    check(alloc, builder.finish(), None).map_err(Fail::from)
 }
 
 pub(crate) fn fitted(alloc: Global, builder: Builder) -> Result<Fitted, Fail> {
-    Ok(Fitted::new(alloc, checked(alloc, builder)?)?)
+    Fitted::new(alloc, checked(alloc, builder)?).map_err(Fail::from)
 }

@@ -1,6 +1,6 @@
 //! What small libraries flatten to.
 use crate::cells::{METAL, ORIGIN, add_rectangle, checked, moved, placed_twice};
-use crate::rows::{check_text, cut, layer, point};
+use crate::rows::{check_text, cut, gives, layer, point, rows_give};
 use lvl_cells::{Builder, Checked, check};
 use lvl_flat::{Flat, FlatFault, flatten};
 use lvl_grid::{Map, Point, Ring, Rings, Square, Turn, Window};
@@ -25,7 +25,7 @@ fn add_drawing(
 ) -> Result<(), Fail> {
     builder.open(alloc, name)?;
     add_rectangle(alloc, builder, layer, low, high, &Offsets::single())?;
-    Ok(builder.close(alloc)?)
+    builder.close(alloc).map_err(Fail::from)
 }
 
 /// A library in which two maps one above the other place a rectangle.
@@ -70,13 +70,13 @@ fn corners_text(alloc: Global, rings: &Rings) -> Result<String, AllocError> {
 }
 
 fn flat_of(alloc: Global, checked: Checked) -> Result<Flat, Fail> {
-    Ok(flatten(alloc, &checked)?)
+    flatten(alloc, &checked).map_err(Fail::from)
 }
 
 /// The corners of the rings to which the library flattens.
 fn flat_corners(alloc: Global, checked: Checked) -> Result<String, Fail> {
     let flat = flat_of(alloc, checked)?;
-    Ok(corners_text(alloc, flat.rings(METAL))?)
+    corners_text(alloc, flat.rings(METAL)).map_err(Fail::from)
 }
 
 fn turned(flip: bool, turn: Turn, x: i64, y: i64) -> Map {
@@ -119,7 +119,9 @@ fn map_of(words: &str) -> Result<Map, Fail> {
 }
 
 /// The corners to which the rectangle comes.
-fn corners_by(alloc: Global, inner: Map) -> Result<String, Fail> {
+fn corners_by(alloc: Global, words: &str) -> Result<String, Fail> {
+    let (_, map) = cut(words, " | ");
+    let inner = map_of(map)?;
     let outer = turned(false, Turn::R90, 10, 20);
     let corners = (ORIGIN, Point { x: 3, y: 1 });
     flat_corners(alloc, rectangle_placed(alloc, corners, outer, inner)?)
@@ -127,12 +129,7 @@ fn corners_by(alloc: Global, inner: Map) -> Result<String, Fail> {
 
 #[test]
 fn maps_two_levels_deep(rt: HostRuntime) -> Result<(), Fail> {
-    for row in MAPS.lines() {
-        let (_, words) = cut(row, " | ");
-        let (map, want) = cut(words, " | ");
-        check_text(&rt, &corners_by(rt.alloc(), map_of(map)?)?, want, row);
-    }
-    Ok(())
+    rows_give(rt.alloc(), MAPS, corners_by)
 }
 
 /// A library in which half a turn moves a square from the lower end of the range to its upper end, or
@@ -145,10 +142,9 @@ fn turned_at_edge(alloc: Global, beside: i64) -> Result<Checked, Fail> {
 
 #[test]
 fn placed_at_range_edge(rt: HostRuntime) -> Result<(), Fail> {
-    let found = flat_corners(rt.alloc(), turned_at_edge(rt.alloc(), -1)?)?;
+    let found = flat_corners(rt.alloc(), turned_at_edge(rt.alloc(), -1)?);
     let want = "9223372036854775806,-1 9223372036854775807,0;";
-    check_text(&rt, &found, want, "turned");
-    Ok(())
+    gives(found, want, "turned")
 }
 
 /// The cell for which the library is refused.
@@ -162,14 +158,16 @@ fn refused_cell(alloc: Global, checked: Checked) -> Result<Vec<u8>, Fail> {
 #[test]
 fn refused_at_range_edge(rt: HostRuntime) -> Result<(), Fail> {
     let name = refused_cell(rt.alloc(), turned_at_edge(rt.alloc(), 0)?)?;
-    assert_eq!(rt; name.as_slice(), b"A".as_slice());
+    assert!(rt; name.as_slice() == b"A".as_slice());
     Ok(())
 }
 
 /// The shifts of a square that is moved: no move, and the greatest.
 fn far_shifts(alloc: Global) -> Result<Offsets, Fail> {
     let far = Point { x: i64::MAX, y: 0 };
-    Ok(Offsets::new([ORIGIN, far].to_vec(alloc)?).ok_or("shifts")?)
+    Offsets::new([ORIGIN, far].to_vec(alloc)?)
+        .ok_or("shifts")
+        .map_err(Fail::from)
 }
 
 /// Adds a square at the lower end of the range, moved by a quarter of it, at two shifts: the second and that
@@ -185,7 +183,7 @@ fn add_moved_cell(alloc: Global, builder: &mut Builder) -> Result<(), Fail> {
     builder.open(alloc, b"A")?;
     add_rectangle(alloc, builder, METAL, low, high, &Offsets::single())?;
     add_moved(alloc, builder, low)?;
-    Ok(builder.close(alloc)?)
+    builder.close(alloc).map_err(Fail::from)
 }
 
 fn moved_far(alloc: Global) -> Result<Checked, Fail> {
@@ -202,9 +200,11 @@ const MOVED: &str = "\
 
 #[test]
 fn moved_outside_and_back(rt: HostRuntime) -> Result<(), Fail> {
-    let found = flat_corners(rt.alloc(), moved_far(rt.alloc())?)?;
-    check_text(&rt, &found, MOVED, "moved");
-    Ok(())
+    gives(
+        flat_corners(rt.alloc(), moved_far(rt.alloc())?),
+        MOVED,
+        "moved",
+    )
 }
 
 /// A Layer that only a cell out of reach draws on.
@@ -223,7 +223,7 @@ fn add_layered_top(alloc: Global, builder: &mut Builder) -> Result<(), Fail> {
     for word in "1/0 7/1 0/9 7/0 1/0".split_whitespace() {
         add_rectangle(alloc, builder, layer(word)?, low, high, &Offsets::single())?;
     }
-    Ok(builder.close(alloc)?)
+    builder.close(alloc).map_err(Fail::from)
 }
 
 /// Adds that top and a cell out of reach.
@@ -235,7 +235,7 @@ fn add_layered(alloc: Global, builder: &mut Builder) -> Result<(), Fail> {
 fn layered(alloc: Global) -> Result<Checked, Fail> {
     let mut builder = Builder::new(alloc);
     add_layered(alloc, &mut builder)?;
-    Ok(check(alloc, builder.finish(), Some(b"TOP"))?)
+    check(alloc, builder.finish(), Some(b"TOP")).map_err(Fail::from)
 }
 
 /// The Layer at this place in a flat layout, with how many rings it has.
@@ -268,7 +268,7 @@ fn layered_text(alloc: Global) -> Result<(String, usize), Fail> {
 fn layers_in_order(rt: HostRuntime) -> Result<(), Fail> {
     let (found, far) = layered_text(rt.alloc())?;
     check_text(&rt, &found, "0/9 1;1/0 2;7/0 1;7/1 1;", "layers");
-    assert_eq!(rt; far, 0);
+    assert!(rt; far == 0);
     Ok(())
 }
 
@@ -312,7 +312,7 @@ fn l_ring(alloc: Global) -> Result<Ring, Fail> {
     for word in L.split_whitespace() {
         points.push(point(word)?)?;
     }
-    Ok(Ring::new(points)?)
+    Ring::new(points).map_err(Fail::from)
 }
 
 /// Adds a cell A that draws the L.
@@ -320,7 +320,7 @@ fn add_l(alloc: Global, builder: &mut Builder) -> Result<(), Fail> {
     let ring = l_ring(alloc)?;
     builder.open(alloc, b"A")?;
     builder.add_ring(METAL, ring.points(), &Offsets::single())?;
-    Ok(builder.close(alloc)?)
+    builder.close(alloc).map_err(Fail::from)
 }
 
 /// A library in which two maps one above the other place the L.
@@ -371,7 +371,7 @@ fn maps(x: i64, y: i64) -> [Map; 8] {
 fn check_maps(rt: &impl Abort, alloc: Global, inner: Map) -> Result<(), Fail> {
     for outer in maps(-3, 1) {
         let found = flat_astray(alloc, outer, inner)?;
-        assert_eq!(rt; found, None, "{inner:?} {outer:?}");
+        assert!(rt; found == None, "{inner:?} {outer:?}");
     }
     Ok(())
 }
@@ -392,6 +392,6 @@ fn flat_counts(alloc: Global) -> Result<(usize, usize), Fail> {
 
 #[test]
 fn growths(rt: HostRuntime) -> Result<(), Fail> {
-    assert_eq!(rt; flat_counts(rt.alloc())?, (1, 1));
+    assert!(rt; flat_counts(rt.alloc())? == (1, 1));
     Ok(())
 }

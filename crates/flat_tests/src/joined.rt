@@ -1,13 +1,12 @@
 //! Rings that lie over one another, drawn in a window with room for few points.
 use crate::cells::METAL;
-use crate::rows::{check_text, cut, point};
+use crate::rows::{cut, gives, point};
 use crate::within::{count, drawn, spread};
 use lvl_cells::Checked;
 use lvl_flat::{Fitted, Flat};
 use lvl_grid::{Point, Window};
 use lvl_names::Offsets;
 use std::alloc::Global;
-use std::process::Abort;
 use std::test::Fail;
 
 /// The whole of what is drawn.
@@ -53,7 +52,7 @@ const STEPS: &str = "\
 fn lattice(step: &str, times: &str) -> Result<Offsets, Fail> {
     let once = Point { x: 0, y: 0 };
     let shifts = Offsets::lattice(point(step)?, times.parse::<u64>()?, once, 1);
-    Ok(shifts.ok_or("lattice")?)
+    shifts.ok_or("lattice").map_err(Fail::from)
 }
 
 /// What is held of a shape.
@@ -67,16 +66,13 @@ fn held_spread(alloc: Global, shifts: Offsets, most: usize) -> Result<String, Fa
 }
 
 /// Checks what is held of a shape and of a reference.
-fn check_held(rt: &impl Abort, alloc: Global, row: &str) -> Result<(), Fail> {
+fn check_held(alloc: Global, row: &str) -> Result<(), Fail> {
     let (words, want) = cut(row, " | ");
     let (step, words) = cut(words, " ");
     let (times, most) = cut(words, " ");
     let most = most.parse::<usize>()?;
-    let shape = held_drawn(alloc, &lattice(step, times)?, most)?;
-    check_text(rt, &shape, want, row);
-    let reference = held_spread(alloc, lattice(step, times)?, most)?;
-    check_text(rt, &reference, want, row);
-    Ok(())
+    gives(held_drawn(alloc, &lattice(step, times)?, most), want, row)?;
+    gives(held_spread(alloc, lattice(step, times)?, most), want, row)
 }
 
 /// A rectangle of 4 by 2, placed this number of times, each so far from the one before. It is drawn
@@ -84,7 +80,7 @@ fn check_held(rt: &impl Abort, alloc: Global, row: &str) -> Result<(), Fail> {
 #[test]
 fn rings_over_one_another(rt: HostRuntime) -> Result<(), Fail> {
     for row in STEPS.lines() {
-        check_held(&rt, rt.alloc(), row)?;
+        check_held(rt.alloc(), row)?;
     }
     Ok(())
 }

@@ -73,7 +73,7 @@ fn view_of(alloc: Global, targets: Targets) -> Result<View, Fail> {
         b',', b'3', b'/', b'0', b'=', three, b'/', b'0',
     ];
     let text = str::from_utf8(&text).ok().ok_or("no text")?;
-    Ok(View::read(alloc, Some(text), None)?)
+    View::read(alloc, Some(text), None).map_err(Fail::from)
 }
 
 /// Whether what is on the source counts as being on the Layer of this digit.
@@ -149,7 +149,9 @@ fn made_window(seed: u64) -> Window {
 /// The flat layout of the boxes, mapped to the targets.
 fn flat_to(alloc: Global, boxes: &[LayerBox], targets: Targets) -> Result<Flat, Fail> {
     let view = view_of(alloc, targets)?;
-    Ok(flat_of(alloc, boxes)?.mapped(alloc, &view)?)
+    flat_of(alloc, boxes)?
+        .mapped(alloc, &view)
+        .map_err(Fail::from)
 }
 
 /// What differs first in the window, the second boxes mapped to the targets.

@@ -85,7 +85,7 @@ fn case_of(row: &[i64]) -> Option<Case> {
 /// The case of a row.
 pub(crate) fn case_in(alloc: Global, row: &str) -> Result<Case, Fail> {
     let numbers = numbers(alloc, row)?;
-    Ok(case_of(&numbers).ok_or("ten numbers")?)
+    case_of(&numbers).ok_or("ten numbers").map_err(Fail::from)
 }
 
 impl Case {
@@ -99,7 +99,7 @@ impl Case {
 fn clipped(alloc: Global, fitted: &Fitted, window: &Window) -> Result<Rings, Fail> {
     let plane = fitted.within(alloc, &[METAL], &PLANE, usize::MAX)?;
     let part = Part::Within(*window);
-    Ok(Rings::clipped(alloc, plane.rings(METAL), &part)?)
+    Rings::clipped(alloc, plane.rings(METAL), &part).map_err(Fail::from)
 }
 
 /// Whether that is what is drawn within the window.

@@ -1,6 +1,6 @@
 //! Two libraries compared strip by strip.
 use crate::cells::{METAL, ORIGIN, add_rectangle, fitted, moved, reference, tens, with_a};
-use crate::rows::{check_text, cut, layer, point};
+use crate::rows::{cut, gives, layer, point, rows_give};
 use lvl_cells::Builder;
 use lvl_compare::difference_by_strips;
 use lvl_flat::Fitted;
@@ -8,8 +8,7 @@ use lvl_grid::{Point, Square};
 use lvl_names::{Layer, Offsets};
 use lvl_region::Side;
 use lvl_view::View;
-use std::alloc::{AllocError, Global};
-use std::process::Abort;
+use std::alloc::Global;
 use std::test::Fail;
 
 fn add_square(alloc: Global, builder: &mut Builder, layer: Layer, low: Point) -> Result<(), Fail> {
@@ -34,7 +33,7 @@ fn add_top(alloc: Global, builder: &mut Builder, squares: &str) -> Result<(), Fa
     for square in squares.split(';') {
         add_square_of(alloc, builder, square.trim())?;
     }
-    Ok(builder.close(alloc)?)
+    builder.close(alloc).map_err(Fail::from)
 }
 
 fn arrayed(alloc: Global, squares: &str) -> Result<Fitted, Fail> {
@@ -66,7 +65,7 @@ fn apart(
     most: usize,
 ) -> Result<Option<(Layer, Square, Side)>, Fail> {
     let found = difference_by_strips(alloc, &pair.first, &pair.second, view, most);
-    Ok(found?)
+    found.map_err(Fail::from)
 }
 
 /// What two tops differ in that draw these squares.
@@ -82,13 +81,14 @@ fn difference(
 }
 
 /// A difference as text, as `1/0 5,5 First`.
-fn found_text(alloc: Global, found: Option<(Layer, Square, Side)>) -> Result<String, AllocError> {
-    match found {
+fn found_text(alloc: Global, found: Option<(Layer, Square, Side)>) -> Result<String, Fail> {
+    let text = match found {
         Some((on, Square { x, y }, side)) => {
             format!(in alloc; "{}/{} {x},{y} {side:?}", on.layer, on.datatype)
         }
         None => String::from_str(alloc, "-"),
-    }
+    };
+    text.map_err(Fail::from)
 }
 
 /// What each top draws beside its array, and what is found.
@@ -107,18 +107,12 @@ the same row further right | 2/0 -3,-9; 2/0 66,-9 | | 2/0 -3,-9 First
 ";
 
 /// Checks what is found with strips of one column each, of some, and all at once.
-fn check_row(
-    rt: &impl Abort,
-    alloc: Global,
-    view: &View,
-    words: &str,
-    row: &str,
-) -> Result<(), Fail> {
+fn check_row(alloc: Global, view: &View, words: &str, row: &str) -> Result<(), Fail> {
     let (ours, words) = cut(words, "| ");
     let (theirs, want) = cut(words, "| ");
     for most in [0, 3, 16, 40, usize::MAX] {
         let found = difference(alloc, ours, theirs, view, most)?;
-        check_text(rt, &found_text(alloc, found)?, want, row);
+        gives(found_text(alloc, found), want, row)?;
     }
     Ok(())
 }
@@ -128,7 +122,7 @@ fn differences(rt: HostRuntime) -> Result<(), Fail> {
     let whole = View::whole(rt.alloc());
     for row in DIFFERENCES.lines() {
         let (_, words) = cut(row, " | ");
-        check_row(&rt, rt.alloc(), &whole, words, row)?;
+        check_row(rt.alloc(), &whole, words, row)?;
     }
     Ok(())
 }
@@ -153,17 +147,17 @@ fn given(words: &str) -> Option<&str> {
 }
 
 /// Checks a row that begins with a view.
-fn check_view(rt: &impl Abort, alloc: Global, row: &str) -> Result<(), Fail> {
+fn check_view(alloc: Global, row: &str) -> Result<(), Fail> {
     let (map, words) = cut(row, "| ");
     let (window, words) = cut(words, "| ");
     let view = View::read(alloc, given(map.trim()), given(window.trim()))?;
-    check_row(rt, alloc, &view, words, row)
+    check_row(alloc, &view, words, row)
 }
 
 #[test]
 fn differences_under_views(rt: HostRuntime) -> Result<(), Fail> {
     for row in UNDER_VIEWS.lines() {
-        check_view(&rt, rt.alloc(), row)?;
+        check_view(rt.alloc(), row)?;
     }
     Ok(())
 }
@@ -211,7 +205,7 @@ fn layered_apart(alloc: Global, words: &str) -> Result<Option<(Layer, Square, Si
 
 fn layered_text(alloc: Global, words: &str) -> Result<String, Fail> {
     let found = layered_apart(alloc, words)?;
-    Ok(found_text(alloc, found)?)
+    found_text(alloc, found)
 }
 
 /// The Layers on which the sides draw two squares, and what differs first: it is on the lesser one.
@@ -225,17 +219,13 @@ const DOUBLES: &str = "\
 
 #[test]
 fn many_layers(rt: HostRuntime) -> Result<(), Fail> {
-    for row in DOUBLES.lines() {
-        let (words, want) = cut(row, " | ");
-        check_text(&rt, &layered_text(rt.alloc(), words)?, want, row);
-    }
-    Ok(())
+    rows_give(rt.alloc(), DOUBLES, layered_text)
 }
 
 #[test]
 fn growths_by_strips(rt: HostRuntime) -> Result<(), Fail> {
     let whole = View::whole(rt.alloc());
     let found = difference(rt.alloc(), "1/0 5,5", "", &whole, 40)?;
-    assert_eq!(rt; found, Some((METAL, Square { x: 5, y: 5 }, Side::First)));
+    assert!(rt; found == Some((METAL, Square { x: 5, y: 5 }, Side::First)));
     Ok(())
 }

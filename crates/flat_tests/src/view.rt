@@ -1,5 +1,5 @@
 //! Layers mapped and windows shown: flat layouts compared as a view says.
-use crate::rows::{check_text, cut};
+use crate::rows::{cut, rows_give};
 use lvl_cells::{Cell, References, Shapes};
 use lvl_compare::{difference_by, first_difference_in};
 use lvl_flat::{Flat, flatten_shapes};
@@ -53,7 +53,7 @@ fn top_of(alloc: Global, boxes: &[LayerBox]) -> Result<Cell, Fail> {
 /// The flat layout of that cell.
 pub fn flat_of(alloc: Global, boxes: &[LayerBox]) -> Result<Flat, Fail> {
     let top = top_of(alloc, boxes)?;
-    Ok(flatten_shapes(alloc, &top)?)
+    flatten_shapes(alloc, &top).map_err(Fail::from)
 }
 
 /// Which of the squares (1, 1), (2, 2) and (3, 3) a Layer covers, a bit each.
@@ -84,7 +84,7 @@ fn mapped_by(alloc: Global, map: &str) -> Result<String, Fail> {
     ];
     let view = View::read(alloc, Some(map), None)?;
     let flat = flat_of(alloc, &boxes)?.mapped(alloc, &view)?;
-    Ok(covered_text(alloc, &flat)?)
+    covered_text(alloc, &flat).map_err(Fail::from)
 }
 
 /// Maps, and what is on the Layers: Layers exchanged and in a round; several sources of one target; a target that
@@ -106,11 +106,7 @@ const MAPS: &str = "\
 
 #[test]
 fn layers_mapped(rt: HostRuntime) -> Result<(), Fail> {
-    for row in MAPS.lines() {
-        let (map, want) = cut(row, " | ");
-        check_text(&rt, &mapped_by(rt.alloc(), map)?, want, row);
-    }
-    Ok(())
+    rows_give(rt.alloc(), MAPS, mapped_by)
 }
 
 /// A square with its Layer's number and its side, as it is compared.
@@ -304,7 +300,9 @@ fn three_mapped(alloc: Global, view: &View) -> Result<Flat, Fail> {
         placed(2, 1, 1, 2, 2),
         placed(3, 2, 2, 3, 3),
     ];
-    Ok(flat_of(alloc, &boxes)?.mapped(alloc, view)?)
+    flat_of(alloc, &boxes)?
+        .mapped(alloc, view)
+        .map_err(Fail::from)
 }
 
 /// What differs first in two boxes and in the second layout.
@@ -314,12 +312,12 @@ fn found_beside(
     view: &View,
 ) -> Result<Option<(Layer, Square, Side)>, Fail> {
     let first = flat_of(alloc, &[placed(4, 0, 0, 1, 1), placed(3, 2, 2, 3, 3)])?;
-    Ok(first_difference_in(alloc, &first, second, view.window())?)
+    first_difference_in(alloc, &first, second, view.window()).map_err(Fail::from)
 }
 
 /// Two rings are on the Layer to which two others are mapped, and one of them differs first.
 fn check_mapped(rt: &impl Abort, alloc: Global, second: &Flat, view: &View) -> Result<(), Fail> {
-    assert_eq!(rt; second.rings(on(4)).len(), 2);
+    assert!(rt; second.rings(on(4)).len() == 2);
     let at = Square { x: 1, y: 1 };
     let found = found_beside(alloc, second, view)?;
     assert!(rt; found == Some((on(4), at, Side::Second)));

@@ -7,7 +7,7 @@ use crate::cells::{
     reference, tens, with_a,
 };
 use crate::places::case_in;
-use crate::rows::{self, check_text, cut};
+use crate::rows::{self, cut, gives, rows_give};
 use lvl_cells::{Builder, Checked};
 use lvl_flat::{Fitted, Flat, FlatFault};
 use lvl_grid::{Map, Point, Square, Turn, Window};
@@ -40,7 +40,7 @@ fn add_top(alloc: Global, builder: &mut Builder) -> Result<(), Fail> {
     builder.open(alloc, b"TOP")?;
     builder.add_reference(reference(alloc, b"A", moved(ORIGIN), tens(3, 2)?)?)?;
     builder.add_reference(reference(alloc, b"A", turned, Offsets::single())?)?;
-    Ok(builder.close(alloc)?)
+    builder.close(alloc).map_err(Fail::from)
 }
 
 /// A cell A that draws a rectangle of 4 by 2, and that top.
@@ -92,11 +92,11 @@ fn counts_text(alloc: Global, fitted: &Fitted, words: &str) -> Result<String, Fa
     Ok(format!(in alloc; "{covered} {held}")?)
 }
 
-fn check_windows(rt: &impl Abort, alloc: Global, fitted: &Fitted) -> Result<(), Fail> {
+fn check_windows(alloc: Global, fitted: &Fitted) -> Result<(), Fail> {
     for row in WINDOWS.lines() {
         let (_, words) = cut(row, " | ");
         let (words, want) = cut(words, " | ");
-        check_text(rt, &counts_text(alloc, fitted, words)?, want, row);
+        gives(counts_text(alloc, fitted, words), want, row)?;
     }
     Ok(())
 }
@@ -122,7 +122,7 @@ fn another_top_growths(rt: HostRuntime) -> Result<(), Fail> {
 #[test]
 fn windows(rt: HostRuntime) -> Result<(), Fail> {
     let fitted = arrayed(rt.alloc())?;
-    check_windows(&rt, rt.alloc(), &fitted)
+    check_windows(rt.alloc(), &fitted)
 }
 
 /// A top that places A, which draws a rectangle of 4 by 2, at `outer` by way of a cell that places it
@@ -146,7 +146,7 @@ fn refused_cell(alloc: Global, checked: Checked) -> Result<Vec<u8>, Fail> {
 fn out_of_range(rt: HostRuntime) -> Result<(), Fail> {
     let checked = chained(rt.alloc(), ORIGIN, FAR)?;
     let name = refused_cell(rt.alloc(), checked)?;
-    assert_eq!(rt; name.as_slice(), b"A".as_slice());
+    assert!(rt; name.as_slice() == b"A".as_slice());
     Ok(())
 }
 
@@ -163,7 +163,7 @@ fn covered_back(alloc: Global) -> Result<u64, Fail> {
 /// A box that leaves 64 bits on the way decides nothing.
 #[test]
 fn back_in_range(rt: HostRuntime) -> Result<(), Fail> {
-    assert_eq!(rt; covered_back(rt.alloc())?, 4);
+    assert!(rt; covered_back(rt.alloc())? == 4);
     Ok(())
 }
 
@@ -180,7 +180,7 @@ fn covered_of_arrayed(alloc: Global, window: &Window) -> Result<u64, Fail> {
 #[test]
 fn growths_of_a_window(rt: HostRuntime) -> Result<(), Fail> {
     let covered = covered_of_arrayed(rt.alloc(), &window(2, 1, 12, 11))?;
-    assert_eq!(rt; covered, 8);
+    assert!(rt; covered == 8);
     Ok(())
 }
 
@@ -190,7 +190,7 @@ fn add_two_layers(alloc: Global, builder: &mut Builder) -> Result<(), Fail> {
     builder.open(alloc, b"TOP")?;
     add_rectangle(alloc, builder, VIA, ORIGIN, high, &Offsets::single())?;
     add_rectangle(alloc, builder, METAL, ORIGIN, high, &Offsets::single())?;
-    Ok(builder.close(alloc)?)
+    builder.close(alloc).map_err(Fail::from)
 }
 
 fn two_layers(alloc: Global) -> Result<Fitted, Fail> {
@@ -208,16 +208,16 @@ fn rings_on(alloc: Global, fitted: &Fitted, layers: &[Layer]) -> Result<(usize, 
 }
 
 fn check_layers(rt: &impl Abort, alloc: Global, fitted: &Fitted) -> Result<(), Fail> {
-    assert_eq!(rt; rings_on(alloc, fitted, &[])?, (0, 0));
-    assert_eq!(rt; rings_on(alloc, fitted, &[METAL])?, (1, 0));
-    assert_eq!(rt; rings_on(alloc, fitted, &[VIA])?, (0, 1));
-    assert_eq!(rt; rings_on(alloc, fitted, &[METAL, VIA])?, (1, 1));
+    assert!(rt; rings_on(alloc, fitted, &[])? == (0, 0));
+    assert!(rt; rings_on(alloc, fitted, &[METAL])? == (1, 0));
+    assert!(rt; rings_on(alloc, fitted, &[VIA])? == (0, 1));
+    assert!(rt; rings_on(alloc, fitted, &[METAL, VIA])? == (1, 1));
     Ok(())
 }
 
 fn check_listed(rt: &impl Abort, alloc: Global, fitted: &Fitted) -> Result<(), Fail> {
     let layers = fitted.layers(alloc)?;
-    assert_eq!(rt; layers.as_slice(), [METAL, VIA].as_slice());
+    assert!(rt; layers.as_slice() == [METAL, VIA].as_slice());
     Ok(())
 }
 
@@ -292,9 +292,9 @@ fn million_in(alloc: Global, window: &Window) -> Result<usize, Fail> {
 #[test]
 fn million_places(rt: HostRuntime) -> Result<(), Fail> {
     let alloc = rt.alloc();
-    assert_eq!(rt; million_in(alloc, &window(5000, 0, 5024, 2))?, 3);
-    assert_eq!(rt; million_in(alloc, &window(9990, 9990, 9994, 9992))?, 1);
-    assert_eq!(rt; million_in(alloc, &window(10_000, 0, 10_010, 10))?, 0);
+    assert!(rt; million_in(alloc, &window(5000, 0, 5024, 2))? == 3);
+    assert!(rt; million_in(alloc, &window(9990, 9990, 9994, 9992))? == 1);
+    assert!(rt; million_in(alloc, &window(10_000, 0, 10_010, 10))? == 0);
     Ok(())
 }
 
@@ -306,11 +306,7 @@ fn lattice_text(alloc: Global, words: &str) -> Result<String, Fail> {
 
 #[test]
 fn lattices(rt: HostRuntime) -> Result<(), Fail> {
-    for row in LATTICES.lines() {
-        let (words, want) = cut(row, " | ");
-        check_text(&rt, &lattice_text(rt.alloc(), words)?, want, row);
-    }
-    Ok(())
+    rows_give(rt.alloc(), LATTICES, lattice_text)
 }
 
 /// Forty shifts on a line, and one that goes back.
@@ -320,7 +316,7 @@ fn listed(alloc: Global) -> Result<Offsets, Fail> {
         shifts.push(point(x.saturating_mul(10), 0))?;
     }
     shifts.push(point(1, 5))?;
-    Ok(Offsets::new(shifts).ok_or("shifts")?)
+    Offsets::new(shifts).ok_or("shifts").map_err(Fail::from)
 }
 
 fn shared(listed: &Offsets) -> Result<Offsets, Fail> {
@@ -338,11 +334,11 @@ const LISTED: &str = "\
 -9,-9 0,0 | 0 0
 ";
 
-fn check_list(rt: &impl Abort, alloc: Global, shifts: &Offsets) -> Result<(), Fail> {
+fn check_list(alloc: Global, shifts: &Offsets) -> Result<(), Fail> {
     for row in LISTED.lines() {
         let (words, want) = cut(row, " | ");
-        let found = both_in(alloc, shifts, &rows::window(words)?)?;
-        check_text(rt, &found, want, row);
+        let window = rows::window(words)?;
+        gives(both_in(alloc, shifts, &window), want, row)?;
     }
     Ok(())
 }
@@ -350,7 +346,7 @@ fn check_list(rt: &impl Abort, alloc: Global, shifts: &Offsets) -> Result<(), Fa
 #[test]
 fn lists_of_shifts(rt: HostRuntime) -> Result<(), Fail> {
     let listed = listed(rt.alloc())?;
-    check_list(&rt, rt.alloc(), &listed)?;
+    check_list(rt.alloc(), &listed)?;
     let shared = shared(&listed)?;
-    check_list(&rt, rt.alloc(), &shared)
+    check_list(rt.alloc(), &shared)
 }

@@ -5,7 +5,7 @@
 ghost use Rattle.std.specs.Prelude.{IsTrue};
 ghost use Rattle.gds_elements.specs.inside.Formed.{IsFormed};
 
-use crate::rows::{bytes_of, check_text, cut};
+use crate::rows::{bytes_of, cut, rows_give};
 use gds_elements::{Drawn, Element, ElementFault, Step};
 use gds_records::record_type as ty;
 use lvl_cells::Reference;
@@ -14,7 +14,6 @@ use lvl_names::Layer;
 use lvl_profile::Profile;
 use lvl_refusal::Cause;
 use std::alloc::{AllocError, Global};
-use std::process::Abort;
 use std::slice;
 use std::test::Fail;
 
@@ -96,7 +95,6 @@ fn is_formed(kind: u8, payload: &[u8]) -> bool
 
 /// What an open element does with the next record.
 fn take(
-    rt: &impl Abort,
     alloc: Global,
     element: Element,
     record: &str,
@@ -104,7 +102,9 @@ fn take(
     let (name, words) = cut(record, " ");
     let kind = kind_of(name)?;
     let payload = payload_of(alloc, kind, words)?;
-    assert!(rt; is_formed(kind, &payload));
+    if !is_formed(kind, &payload) {
+        return Err(Fail::from("a payload"));
+    }
     Ok(element.take(alloc, Profile::STANDARD, kind, &payload))
 }
 
@@ -112,11 +112,11 @@ fn take(
 type Answer = Result<Drawn, (usize, Cause<ElementFault>)>;
 
 /// What is read of these records.
-fn read(rt: &impl Abort, alloc: Global, records: &str) -> Result<Answer, Fail> {
+fn read(alloc: Global, records: &str) -> Result<Answer, Fail> {
     let first = kind_of(cut(records, ";").0)?;
     let mut element = Element::open(alloc, first).ok_or("an element")?;
     for (n, record) in records.split(';').enumerate().skip(1) {
-        match take(rt, alloc, element, record.trim())? {
+        match take(alloc, element, record.trim())? {
             Ok(Step::Open(next)) => element = next,
             Ok(Step::Whole(drawn)) => return Ok(Ok(drawn)),
             Err(cause) => return Ok(Err((n, cause))),
@@ -167,20 +167,11 @@ fn drawn_text(alloc: Global, drawn: &Drawn) -> Result<String, AllocError> {
 }
 
 /// What these records draw.
-fn text_of(rt: &impl Abort, alloc: Global, records: &str) -> Result<String, Fail> {
-    match read(rt, alloc, records)? {
+fn text_of(alloc: Global, records: &str) -> Result<String, Fail> {
+    match read(alloc, records)? {
         Ok(drawn) => Ok(drawn_text(alloc, &drawn)?),
         Err(_) => Err(Fail::from("what is drawn")),
     }
-}
-
-/// Checks what is drawn, row by row.
-fn check_rows(rt: &impl Abort, alloc: Global, rows: &str) -> Result<(), Fail> {
-    for row in rows.lines() {
-        let (records, want) = cut(row, " | ");
-        check_text(rt, &text_of(rt, alloc, records)?, want, row);
-    }
-    Ok(())
 }
 
 const BOUNDARIES: &str = "\
@@ -189,7 +180,7 @@ BOUNDARY; LAYER 32767; DATATYPE 3; XY 0,0 10,0 10,10 0,10 0,0; ENDEL | 32767/3; 
 
 #[test]
 fn a_boundary_is_its_ring(rt: HostRuntime) -> Result<(), Fail> {
-    check_rows(&rt, rt.alloc(), BOUNDARIES)
+    rows_give(rt.alloc(), BOUNDARIES, text_of)
 }
 
 /// Paths along a corner, four wide.
@@ -202,7 +193,7 @@ PATH; LAYER 1; DATATYPE 0; PATHTYPE 2; WIDTH 4; XY 0,0 10,0 10,10; ENDEL | \
 
 #[test]
 fn square_ends(rt: HostRuntime) -> Result<(), Fail> {
-    check_rows(&rt, rt.alloc(), PATHS)
+    rows_give(rt.alloc(), PATHS, text_of)
 }
 
 /// A reference to A that is reflected and turned, at one place.
@@ -213,7 +204,7 @@ SREF; SNAME 41 00; STRANS -32768; MAG 41 10 00 00 00 00 00 00; ANGLE 42 5A 00 00
 
 #[test]
 fn flip_then_turn(rt: HostRuntime) -> Result<(), Fail> {
-    check_rows(&rt, rt.alloc(), TURNED)
+    rows_give(rt.alloc(), TURNED, text_of)
 }
 
 /// Three columns by two rows, columns first.
@@ -223,7 +214,7 @@ AREF; SNAME 41 42; COLROW 3 2; XY 0,0 30,0 0,20; ENDEL | AB false R0 0,0; 0,0 10
 
 #[test]
 fn array_tiles(rt: HostRuntime) -> Result<(), Fail> {
-    check_rows(&rt, rt.alloc(), TILES)
+    rows_give(rt.alloc(), TILES, text_of)
 }
 
 /// Columns to the left, and rows down.
@@ -234,7 +225,7 @@ AREF; SNAME 41 42; COLROW 3 2; XY 5,5 -25,5 5,-15; ENDEL | \
 
 #[test]
 fn array_tiles_back(rt: HostRuntime) -> Result<(), Fail> {
-    check_rows(&rt, rt.alloc(), TILES_BACK)
+    rows_give(rt.alloc(), TILES_BACK, text_of)
 }
 
 const TEXTS: &str = "\
@@ -243,7 +234,7 @@ TEXT; LAYER -1; TEXTTYPE 0; WIDTH -3; STRANS 7; ANGLE 42 2D 00 00 00 00 00 00; X
 
 #[test]
 fn text_covers_nothing(rt: HostRuntime) -> Result<(), Fail> {
-    check_rows(&rt, rt.alloc(), TEXTS)
+    rows_give(rt.alloc(), TEXTS, text_of)
 }
 
 fn is_path(answer: &Answer) -> bool {
@@ -260,8 +251,8 @@ fn is_array(answer: &Answer) -> bool {
 #[test]
 fn growths(rt: HostRuntime) -> Result<(), Fail> {
     let path = "PATH; LAYER 1; DATATYPE 0; WIDTH 4; XY 0,0 10,0 10,10; ENDEL";
-    assert!(rt; is_path(&read(&rt, rt.alloc(), path)?));
+    assert!(rt; is_path(&read(rt.alloc(), path)?));
     let array = "AREF; SNAME 41 42; COLROW 3 2; XY 0,0 30,0 0,20; ENDEL";
-    assert!(rt; is_array(&read(&rt, rt.alloc(), array)?));
+    assert!(rt; is_array(&read(rt.alloc(), array)?));
     Ok(())
 }

@@ -1,14 +1,13 @@
 //! Libraries with records that are read and ignored: where each may come, its form, and what is refused.
 
 use crate::cells::library_text;
-use crate::rows::{add_bytes, check_text, cut};
+use crate::rows::{add_bytes, cut, gives};
 use gds_library::{GdsFault, GdsHead, GdsKind, Misplaced, read_gds_by};
 use lvl_cells::Library;
 use lvl_io::fake::Pieces;
 use lvl_profile::{Ignore, Profile};
 use lvl_refusal::Cause;
 use std::alloc::{AllocError, Global};
-use std::process::Abort;
 use std::test::Fail;
 
 mod records;
@@ -111,18 +110,19 @@ fn text_of(alloc: Global, head: GdsHead, library: &Library) -> Result<String, Al
 }
 
 /// A library and its head as text, or what is refused.
-fn read(alloc: Global, bytes: &[u8], most: usize, ignore: Ignore) -> Result<String, AllocError> {
-    match read_gds_by(alloc, &mut Pieces::new(bytes, most), under(ignore)) {
+fn read(alloc: Global, bytes: &[u8], most: usize, ignore: Ignore) -> Result<String, Fail> {
+    let text = match read_gds_by(alloc, &mut Pieces::new(bytes, most), under(ignore)) {
         Ok((library, head)) => text_of(alloc, head, &library),
         Err(Cause::Breach(fault)) => fault_text(alloc, fault),
         Err(Cause::OutOfMemory) => Err(AllocError),
-    }
+    };
+    text.map_err(Fail::from)
 }
 
 /// What is read of `RECORDS` with more bytes before the one with this index.
 fn read_with(alloc: Global, index: usize, more: &[u8], ignore: Ignore) -> Result<String, Fail> {
     let bytes = with(alloc, index, more)?;
-    Ok(read(alloc, &bytes, 50, ignore)?)
+    read(alloc, &bytes, 50, ignore)
 }
 
 /// The text of `RECORDS` as they are.
@@ -150,11 +150,10 @@ fn want_of<'a>(row: &'a str, plain: &'a str) -> &'a str {
 }
 
 /// Checks that in each row is found what it says, where this is ignored.
-fn check_rows(rt: &impl Abort, alloc: Global, rows: &str, ignore: Ignore) -> Result<(), Fail> {
+fn check_rows(alloc: Global, rows: &str, ignore: Ignore) -> Result<(), Fail> {
     let plain = plain(alloc)?;
     for row in rows.lines() {
-        let found = read_row(alloc, row, ignore)?;
-        check_text(rt, &found, want_of(row, &plain), row);
+        gives(read_row(alloc, row, ignore), want_of(row, &plain), row)?;
     }
     Ok(())
 }
@@ -164,7 +163,7 @@ fn offsets_are_those_of_the_records(rt: HostRuntime) -> Result<(), Fail> {
     let mut bytes = Vec::new(rt.alloc());
     for row in RECORDS.lines() {
         let (offset, _) = cut(row, " ");
-        assert_eq!(rt; offset.parse::<usize>()?, bytes.len());
+        assert!(rt; offset.parse::<usize>()? == bytes.len());
         add_bytes(&mut bytes, cut(row, " | ").1)?;
     }
     Ok(())
@@ -176,7 +175,7 @@ fn text_with(alloc: Global, offset: usize, value: u8) -> Result<String, Fail> {
     if let Some(byte) = bytes.get_mut(offset) {
         *byte = value;
     }
-    Ok(read(alloc, &bytes, 50, Ignore::NOTHING)?)
+    read(alloc, &bytes, 50, Ignore::NOTHING)
 }
 
 /// Whether the text of the changed bytes is another than that of `RECORDS`, and that of a library.
@@ -198,31 +197,30 @@ fn texts_tell_libraries(rt: HostRuntime) -> Result<(), Fail> {
 
 #[test]
 fn names_ignored(rt: HostRuntime) -> Result<(), Fail> {
-    check_rows(&rt, rt.alloc(), NAMES, NAMES_ALONE)
+    check_rows(rt.alloc(), NAMES, NAMES_ALONE)
 }
 
 #[test]
 fn properties_ignored(rt: HostRuntime) -> Result<(), Fail> {
-    check_rows(&rt, rt.alloc(), PROPERTIES, PROPERTIES_ALONE)
+    check_rows(rt.alloc(), PROPERTIES, PROPERTIES_ALONE)
 }
 
 #[test]
 fn all_ignored(rt: HostRuntime) -> Result<(), Fail> {
-    check_rows(&rt, rt.alloc(), TOGETHER, Ignore::EVERYTHING)
+    check_rows(rt.alloc(), TOGETHER, Ignore::EVERYTHING)
 }
 
 #[test]
 fn forms_of_what_is_ignored(rt: HostRuntime) -> Result<(), Fail> {
-    check_rows(&rt, rt.alloc(), FORMS, Ignore::EVERYTHING)
+    check_rows(rt.alloc(), FORMS, Ignore::EVERYTHING)
 }
 
 /// Checks that the rows that are read where less is ignored are read alike where all is.
-fn check_same(rt: &impl Abort, alloc: Global, rows: &str) -> Result<(), Fail> {
+fn check_same(alloc: Global, rows: &str) -> Result<(), Fail> {
     let plain = plain(alloc)?;
     for row in rows.lines() {
         if row.ends_with(" | Same") {
-            let found = read_row(alloc, row, Ignore::EVERYTHING)?;
-            check_text(rt, &found, &plain, row);
+            gives(read_row(alloc, row, Ignore::EVERYTHING), &plain, row)?;
         }
     }
     Ok(())
@@ -231,8 +229,8 @@ fn check_same(rt: &impl Abort, alloc: Global, rows: &str) -> Result<(), Fail> {
 /// A stream that is read with less is read with more, as the same library.
 #[test]
 fn more_ignored(rt: HostRuntime) -> Result<(), Fail> {
-    check_same(&rt, rt.alloc(), NAMES)?;
-    check_same(&rt, rt.alloc(), PROPERTIES)
+    check_same(rt.alloc(), NAMES)?;
+    check_same(rt.alloc(), PROPERTIES)
 }
 
 /// What is found in the row where the first of its records isn't ignored.
@@ -247,16 +245,10 @@ fn unsupported(alloc: Global, row: &str) -> Result<String, Fail> {
 }
 
 /// Checks that the first record of each row is unsupported where this is ignored.
-fn check_unsupported(
-    rt: &impl Abort,
-    alloc: Global,
-    rows: &str,
-    ignore: Ignore,
-) -> Result<(), Fail> {
+fn check_unsupported(alloc: Global, rows: &str, ignore: Ignore) -> Result<(), Fail> {
     for row in rows.lines() {
-        let found = read_row(alloc, row, ignore)?;
         let want = unsupported(alloc, row)?;
-        check_text(rt, &found, &want, row);
+        gives(read_row(alloc, row, ignore), &want, row)?;
     }
     Ok(())
 }
@@ -265,8 +257,8 @@ fn check_unsupported(
 #[test]
 fn nothing_ignored(rt: HostRuntime) -> Result<(), Fail> {
     for rows in [NAMES, PROPERTIES, TOGETHER, FORMS] {
-        check_unsupported(&rt, rt.alloc(), rows, Ignore::NOTHING)?;
-        check_unsupported(&rt, rt.alloc(), rows, OF_OASIS)?;
+        check_unsupported(rt.alloc(), rows, Ignore::NOTHING)?;
+        check_unsupported(rt.alloc(), rows, OF_OASIS)?;
     }
     Ok(())
 }
@@ -291,8 +283,7 @@ fn read_secured(alloc: Global, len: u8) -> Result<String, Fail> {
 fn entries_of_security(rt: HostRuntime) -> Result<(), Fail> {
     let plain = plain(rt.alloc())?;
     for len in [6, 12, 186, 192] {
-        let found = read_secured(rt.alloc(), len)?;
-        assert_eq!(rt; found.as_str(), plain.as_str(), "{len}");
+        gives(read_secured(rt.alloc(), len), &plain, "entries")?;
     }
     Ok(())
 }
@@ -300,8 +291,7 @@ fn entries_of_security(rt: HostRuntime) -> Result<(), Fail> {
 #[test]
 fn entries_of_no_security(rt: HostRuntime) -> Result<(), Fail> {
     for len in [0, 2, 4, 8, 190, 194, 198, 204] {
-        let found = read_secured(rt.alloc(), len)?;
-        assert_eq!(rt; found.as_str(), "BadLength 34", "{len}");
+        gives(read_secured(rt.alloc(), len), "BadLength 34", "no entries")?;
     }
     Ok(())
 }
@@ -322,11 +312,9 @@ fn begun(k: usize) -> u64 {
 }
 
 /// The first bytes of the stream are truncated at the record that isn't whole.
-fn check_cut(rt: &impl Abort, alloc: Global, bytes: &[u8]) -> Result<(), Fail> {
-    let found = read(alloc, bytes, 7, Ignore::EVERYTHING)?;
+fn check_cut(alloc: Global, bytes: &[u8]) -> Result<(), Fail> {
     let want = format!(in alloc; "Truncated {}", begun(bytes.len()))?;
-    check_text(rt, &found, &want, "a cut");
-    Ok(())
+    gives(read(alloc, bytes, 7, Ignore::EVERYTHING), &want, "a cut")
 }
 
 /// A stream is truncated at the record that isn't whole, whether it is ignored or not.
@@ -335,7 +323,7 @@ fn reports_each_cut(rt: HostRuntime) -> Result<(), Fail> {
     let more = bytes_of(rt.alloc(), "REFLIBS FORMAT_0")?;
     let bytes = with(rt.alloc(), 3, &more)?;
     for k in 0..=102usize {
-        check_cut(&rt, rt.alloc(), bytes.get(..k).ok_or("bytes")?)?;
+        check_cut(rt.alloc(), bytes.get(..k).ok_or("bytes")?)?;
     }
     Ok(())
 }
@@ -351,8 +339,8 @@ fn cells_with(alloc: Global, index: usize, more: &str, ignore: Ignore) -> Result
 #[test]
 fn growths_with_ignored(rt: HostRuntime) -> Result<(), Fail> {
     let count = cells_with(rt.alloc(), 10, "PROPATTR PROPVALUE", PROPERTIES_ALONE)?;
-    assert_eq!(rt; count, 1);
+    assert!(rt; count == 1);
     let count = cells_with(rt.alloc(), 2, "LIBSECUR", NAMES_ALONE)?;
-    assert_eq!(rt; count, 1);
+    assert!(rt; count == 1);
     Ok(())
 }

@@ -3,14 +3,13 @@
 ghost use Rattle.std.specs.Prelude.{Some, None};
 
 use crate::cells::library_text;
-use crate::rows::{add_bytes, check_text, cut, points_of};
+use crate::rows::{add_bytes, cut, gives, points_of, rows_give};
 use gds_library::{GdsFault, GdsHead, GdsKind, RecordFault, read_gds};
 use gds_records::fake::{ONE, SQUARE, Stream};
 use lvl_cells::Library;
 use lvl_io::fake::Pieces;
 use lvl_refusal::Cause;
 use std::alloc::{AllocError, Global};
-use std::process::Abort;
 use std::test::Fail;
 
 mod bytes;
@@ -92,7 +91,7 @@ fn changed(alloc: Global, places: &[usize], value: u8) -> Result<Vec<u8>, AllocE
 /// The cells of these bytes as text.
 pub(crate) fn cells_of(alloc: Global, bytes: &[u8], most: usize) -> Result<String, Fail> {
     let (library, _) = read(alloc, bytes, most)?;
-    Ok(library_text(alloc, &library)?)
+    library_text(alloc, &library).map_err(Fail::from)
 }
 
 /// How many cells these bytes have.
@@ -109,29 +108,22 @@ fn head_of(alloc: Global, bytes: &[u8]) -> Result<GdsHead, Fail> {
 #[test]
 fn reads_a_square(rt: HostRuntime) -> Result<(), Fail> {
     let bytes = square(rt.alloc())?;
-    assert_eq!(rt; bytes.len(), 168);
+    assert!(rt; bytes.len() == 168);
     let head = GdsHead {
         version: 600,
         units: [ONE, ONE],
     };
     assert!(rt; head_of(rt.alloc(), &bytes)? == head);
-    let cells = cells_of(rt.alloc(), &bytes, 1000)?;
-    check_text(
-        &rt,
-        &cells,
-        "TOP / 1/0*1; 0,0 10,0 10,10 0,10\n",
-        "a square",
-    );
-    Ok(())
+    let want = "TOP / 1/0*1; 0,0 10,0 10,10 0,10\n";
+    gives(cells_of(rt.alloc(), &bytes, 1000), want, "a square")
 }
 
 /// Row boundary-height: two bytes are heights.
 #[test]
 fn boundary_height(rt: HostRuntime) -> Result<(), Fail> {
     let bytes = changed(rt.alloc(), &[139, 147], 9)?;
-    let cells = cells_of(rt.alloc(), &bytes, 1000)?;
-    check_text(&rt, &cells, "TOP / 1/0*1; 0,0 10,0 10,9 0,9\n", "heights");
-    Ok(())
+    let want = "TOP / 1/0*1; 0,0 10,0 10,9 0,9\n";
+    gives(cells_of(rt.alloc(), &bytes, 1000), want, "heights")
 }
 
 /// Appends a structure of this name with `count` boundaries.
@@ -164,9 +156,7 @@ B / 2/32767*1; 0,0 10,0 10,10 0,10 / 2/32767*1; 0,0 10,0 10,10 0,10 / 2/32767*1;
 #[test]
 fn reads_structures_in_file_order(rt: HostRuntime) -> Result<(), Fail> {
     let bytes = structures(rt.alloc())?;
-    let cells = cells_of(rt.alloc(), &bytes, 7)?;
-    check_text(&rt, &cells, STRUCTURES, "structures");
-    Ok(())
+    gives(cells_of(rt.alloc(), &bytes, 7), STRUCTURES, "structures")
 }
 
 /// A byte of `square`, another value of it, and the fault.
@@ -194,16 +184,12 @@ fn fault_with(alloc: Global, words: &str) -> Result<String, Fail> {
     let (place, value) = cut(words, " ");
     let place = place.parse::<usize>()?;
     let bytes = changed(alloc, &[place], u8::from_str_radix(value, 16)?)?;
-    Ok(fault_text(alloc, fault_of(alloc, &bytes, 1000))?)
+    fault_text(alloc, fault_of(alloc, &bytes, 1000)).map_err(Fail::from)
 }
 
 #[test]
 fn names_the_first_fault(rt: HostRuntime) -> Result<(), Fail> {
-    for row in FAULTS.lines() {
-        let (words, want) = cut(row, " | ");
-        check_text(&rt, &fault_with(rt.alloc(), words)?, want, row);
-    }
-    Ok(())
+    rows_give(rt.alloc(), FAULTS, fault_with)
 }
 
 /// The points of a boundary, and the fault.
@@ -218,16 +204,12 @@ const POINTS: &str = "\
 /// The fault of a boundary with these points.
 fn fault_along(alloc: Global, points: &str) -> Result<String, Fail> {
     let bytes = with_boundary(alloc, b"TOP\0", &points_of(alloc, points)?)?;
-    Ok(fault_text(alloc, fault_of(alloc, &bytes, 1000))?)
+    fault_text(alloc, fault_of(alloc, &bytes, 1000)).map_err(Fail::from)
 }
 
 #[test]
 fn tests_points_in_order(rt: HostRuntime) -> Result<(), Fail> {
-    for row in POINTS.lines() {
-        let (points, want) = cut(row, " | ");
-        check_text(&rt, &fault_along(rt.alloc(), points)?, want, row);
-    }
-    Ok(())
+    rows_give(rt.alloc(), POINTS, fault_along)
 }
 
 /// A library whose structure has a name of the given number of letters, with zeros after them.
@@ -252,16 +234,12 @@ const NAMES: &str = "\
 fn fault_named(alloc: Global, counts: &str) -> Result<String, Fail> {
     let (letters, zeros) = cut(counts, " ");
     let bytes = named(alloc, letters.parse::<usize>()?, zeros.parse::<usize>()?)?;
-    Ok(fault_text(alloc, fault_of(alloc, &bytes, 1000))?)
+    fault_text(alloc, fault_of(alloc, &bytes, 1000)).map_err(Fail::from)
 }
 
 #[test]
 fn names_have_up_to_255_bytes(rt: HostRuntime) -> Result<(), Fail> {
-    for row in NAMES.lines() {
-        let (counts, want) = cut(row, " | ");
-        check_text(&rt, &fault_named(rt.alloc(), counts)?, want, row);
-    }
-    Ok(())
+    rows_give(rt.alloc(), NAMES, fault_named)
 }
 
 /// Whether the first `k` bytes are truncated at the record that isn't whole, however they are cut.
@@ -296,13 +274,13 @@ fn padded(alloc: Global, zeros: &str, rest: &str) -> Result<Vec<u8>, Fail> {
 }
 
 /// The fault of the bytes of a row is the one that it says, however they are cut.
-fn check_end(rt: &impl Abort, alloc: Global, row: &str) -> Result<(), Fail> {
+fn check_end(alloc: Global, row: &str) -> Result<(), Fail> {
     let (zeros, words) = cut(row, " |");
     let (rest, want) = cut(words, "| ");
     let bytes = padded(alloc, zeros, rest)?;
     for most in [1, 65_536] {
-        let fault = fault_text(alloc, fault_of(alloc, &bytes, most))?;
-        check_text(rt, &fault, want, row);
+        let fault = fault_text(alloc, fault_of(alloc, &bytes, most));
+        gives(fault.map_err(Fail::from), want, row)?;
     }
     Ok(())
 }
@@ -310,7 +288,7 @@ fn check_end(rt: &impl Abort, alloc: Global, row: &str) -> Result<(), Fail> {
 #[test]
 fn takes_zero_bytes_alone_after_the_end(rt: HostRuntime) -> Result<(), Fail> {
     for row in ENDS.lines() {
-        check_end(&rt, rt.alloc(), row)?;
+        check_end(rt.alloc(), row)?;
     }
     Ok(())
 }
@@ -335,6 +313,6 @@ fn reports_a_failed_read(rt: HostRuntime) -> Result<(), Fail> {
 #[test]
 fn growths(rt: HostRuntime) -> Result<(), Fail> {
     let bytes = square(rt.alloc())?;
-    assert_eq!(rt; count_of(rt.alloc(), &bytes, 1000)?, 1);
+    assert!(rt; count_of(rt.alloc(), &bytes, 1000)? == 1);
     Ok(())
 }

@@ -1,7 +1,7 @@
 //! Elements in streams: what is read of each, and the offset of the record that is refused.
 
 use crate::library::{cells_of, count_of, fault_of, fault_text};
-use crate::rows::{bytes_of, check_text, cut, points_of};
+use crate::rows::{bytes_of, check_text, cut, gives, points_of, rows_give};
 use gds_library::read_gds;
 use gds_records::fake::{SQUARE, Stream};
 use gds_records::record_type;
@@ -21,8 +21,8 @@ fn cells(alloc: Global, bytes: &[u8]) -> Result<String, Fail> {
 }
 
 /// The fault of a stream, which is cut into pieces of seven bytes.
-fn fault(alloc: Global, bytes: &[u8]) -> Result<String, AllocError> {
-    fault_text(alloc, fault_of(alloc, bytes, 7))
+fn fault(alloc: Global, bytes: &[u8]) -> Result<String, Fail> {
+    fault_text(alloc, fault_of(alloc, bytes, 7)).map_err(Fail::from)
 }
 
 /// A library whose structure TOP is open: its first element begins at 96.
@@ -68,8 +68,7 @@ fn array_tiles(rt: HostRuntime) -> Result<(), Fail> {
     let stream = with_array(rt.alloc(), 3, 2, &[(0, 0), (30, 0), (0, 20)])?;
     let want =
         "A / 1/0*1; 0,0 10,0 10,10 0,10\nTOP / A false R0 0,0; 0,0 10,0 20,0 0,10 10,10 20,10\n";
-    check_text(&rt, &cells(rt.alloc(), &stream)?, want, "array-tiles");
-    Ok(())
+    gives(cells(rt.alloc(), &stream), want, "array-tiles")
 }
 
 /// Rows array-tiles and array-limits: the columns, rows and points of an array, and the fault. In `with_array`
@@ -83,7 +82,8 @@ const ARRAYS: &str = "\
 ";
 
 /// The fault of an array of that many columns and rows with these points.
-fn array_fault(alloc: Global, counts: &str, points: &str) -> Result<String, Fail> {
+fn array_fault(alloc: Global, words: &str) -> Result<String, Fail> {
+    let (counts, points) = cut(words, " | ");
     let (columns, rows) = cut(counts, " ");
     let points = points_of(alloc, points)?;
     let stream = with_array(
@@ -92,17 +92,12 @@ fn array_fault(alloc: Global, counts: &str, points: &str) -> Result<String, Fail
         rows.parse::<i16>()?,
         &points,
     )?;
-    Ok(fault(alloc, &stream)?)
+    fault(alloc, &stream)
 }
 
 #[test]
 fn array_limits(rt: HostRuntime) -> Result<(), Fail> {
-    for row in ARRAYS.lines() {
-        let (counts, words) = cut(row, " | ");
-        let (points, want) = cut(words, " | ");
-        check_text(&rt, &array_fault(rt.alloc(), counts, points)?, want, row);
-    }
-    Ok(())
+    rows_give(rt.alloc(), ARRAYS, array_fault)
 }
 
 /// Appends a reference to AB that is reflected and turned.
@@ -128,14 +123,18 @@ fn with_turned(alloc: Global) -> Result<Vec<u8>, AllocError> {
 fn flip_then_turn(rt: HostRuntime) -> Result<(), Fail> {
     let stream = with_turned(rt.alloc())?;
     let want = "TOP / AB true R90 0,0; 0,0\n";
-    check_text(&rt, &cells(rt.alloc(), &stream)?, want, "flip-then-turn");
-    Ok(())
+    gives(cells(rt.alloc(), &stream), want, "flip-then-turn")
 }
 
 /// The fault of a path with a short run.
-fn short_fault(alloc: Global, ends: Option<i16>, width: i32) -> Result<String, AllocError> {
+fn short_fault(alloc: Global, ends: Option<i16>, width: i32) -> Result<String, Fail> {
     let stream = with_path(alloc, ends, width, &[(0, 0), (10, 0), (10, 1)])?;
     fault(alloc, &stream)
+}
+
+/// The same of a path of this width without PATHTYPE.
+fn width_fault(alloc: Global, width: &str) -> Result<String, Fail> {
+    short_fault(alloc, None, width.parse::<i32>()?)
 }
 
 /// The widths of paths without PATHTYPE, and the faults.
@@ -149,14 +148,9 @@ const WIDTHS: &str = "\
 /// Row short-run: a run of a path that is shorter than half its width, odd widths, and rounded ends.
 #[test]
 fn short_run(rt: HostRuntime) -> Result<(), Fail> {
-    for row in WIDTHS.lines() {
-        let (width, want) = cut(row, " | ");
-        let fault = short_fault(rt.alloc(), None, width.parse::<i32>()?)?;
-        check_text(&rt, &fault, want, row);
-    }
-    let fault = short_fault(rt.alloc(), Some(1), 4)?;
-    check_text(&rt, &fault, "112 Element(PathType)", "rounded ends");
-    Ok(())
+    rows_give(rt.alloc(), WIDTHS, width_fault)?;
+    let fault = short_fault(rt.alloc(), Some(1), 4);
+    gives(fault, "112 Element(PathType)", "rounded ends")
 }
 
 /// Row square-ends: a path that reaches out by half its width at both ends.
@@ -164,8 +158,7 @@ fn short_run(rt: HostRuntime) -> Result<(), Fail> {
 fn square_ends(rt: HostRuntime) -> Result<(), Fail> {
     let stream = with_path(rt.alloc(), Some(2), 4, &CORNER)?;
     let want = "TOP / 1/0*1; -2,-2 12,-2 12,2 -2,2; 8,-2 12,-2 12,12 8,12\n";
-    check_text(&rt, &cells(rt.alloc(), &stream)?, want, "square-ends");
-    Ok(())
+    gives(cells(rt.alloc(), &stream), want, "square-ends")
 }
 
 /// Appends a text.
@@ -193,13 +186,7 @@ fn with_text(alloc: Global) -> Result<Vec<u8>, AllocError> {
 fn text_covers_nothing(rt: HostRuntime) -> Result<(), Fail> {
     let stream = with_text(rt.alloc())?;
     let want = "TOP / 1/0*1; 0,0 10,0 10,10 0,10 / 2/0*1; 0,0 10,0 10,10 0,10\n";
-    check_text(
-        &rt,
-        &cells(rt.alloc(), &stream)?,
-        want,
-        "text-covers-nothing",
-    );
-    Ok(())
+    gives(cells(rt.alloc(), &stream), want, "text-covers-nothing")
 }
 
 /// Appends a structure that places another.
@@ -241,7 +228,7 @@ fn are_a_and_b(names: &[Vec<u8>]) -> bool {
 #[test]
 fn cycle(rt: HostRuntime) -> Result<(), Fail> {
     let stream = with_cycle(rt.alloc())?;
-    assert_eq!(rt; count_of(rt.alloc(), &stream, 7)?, 3);
+    assert!(rt; count_of(rt.alloc(), &stream, 7)? == 3);
     let names = cycle_of(rt.alloc(), &stream)?;
     assert!(rt; are_a_and_b(&names));
     Ok(())
@@ -308,8 +295,8 @@ fn names_each_fault_where_it_stands(rt: HostRuntime) -> Result<(), Fail> {
 #[test]
 fn growths(rt: HostRuntime) -> Result<(), Fail> {
     let stream = with_path(rt.alloc(), Some(2), 4, &CORNER)?;
-    assert_eq!(rt; count_of(rt.alloc(), &stream, 7)?, 1);
+    assert!(rt; count_of(rt.alloc(), &stream, 7)? == 1);
     let stream = with_array(rt.alloc(), 3, 2, &[(0, 0), (30, 0), (0, 20)])?;
-    assert_eq!(rt; count_of(rt.alloc(), &stream, 7)?, 2);
+    assert!(rt; count_of(rt.alloc(), &stream, 7)? == 2);
     Ok(())
 }

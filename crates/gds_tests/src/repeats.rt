@@ -1,14 +1,13 @@
 //! Paths with points that equal the one before: they are refused, or left out where they are ignored.
 
 use crate::cells::library_text;
-use crate::rows::{check_text, cut, points_of};
+use crate::rows::{cut, gives, points_of};
 use gds_library::{GdsFault, read_gds_by};
 use gds_records::fake::Stream;
 use lvl_io::fake::Pieces;
 use lvl_profile::{Ignore, Profile};
 use lvl_refusal::Cause;
 use std::alloc::{AllocError, Global};
-use std::process::Abort;
 use std::test::Fail;
 
 /// Such points alone.
@@ -56,7 +55,7 @@ fn with_path(alloc: Global, ends: Option<i16>, points: &str) -> Result<Vec<u8>, 
     stream.structure(b"TOP\0")?;
     stream.path(ends, 4, &points_of(alloc, points)?)?;
     stream.end_structure()?;
-    Ok(stream.end()?)
+    stream.end().map_err(Fail::from)
 }
 
 fn fault_text(alloc: Global, fault: GdsFault) -> Result<String, AllocError> {
@@ -64,16 +63,17 @@ fn fault_text(alloc: Global, fault: GdsFault) -> Result<String, AllocError> {
 }
 
 /// What is read of a stream where this is ignored, or what is refused.
-fn read(alloc: Global, bytes: &[u8], ignore: Ignore) -> Result<String, AllocError> {
+fn read(alloc: Global, bytes: &[u8], ignore: Ignore) -> Result<String, Fail> {
     let profile = Profile {
         ignore,
         ..Profile::STANDARD
     };
-    match read_gds_by(alloc, &mut Pieces::new(bytes, 7), profile) {
+    let text = match read_gds_by(alloc, &mut Pieces::new(bytes, 7), profile) {
         Ok((library, _)) => library_text(alloc, &library),
         Err(Cause::Breach(fault)) => fault_text(alloc, fault),
         Err(Cause::OutOfMemory) => Err(AllocError),
-    }
+    };
+    text.map_err(Fail::from)
 }
 
 /// The text of a library that draws these rings, or of the refusal by that rule of paths.
@@ -86,34 +86,27 @@ fn want_of(alloc: Global, words: &str) -> Result<String, AllocError> {
 }
 
 /// Checks what is read of a stream where this is ignored.
-fn check_read(
-    rt: &impl Abort,
-    alloc: Global,
-    bytes: &[u8],
-    ignore: Ignore,
-    words: &str,
-) -> Result<(), Fail> {
-    let found = read(alloc, bytes, ignore)?;
-    check_text(rt, &found, &want_of(alloc, words)?, words);
-    Ok(())
+fn check_read(alloc: Global, bytes: &[u8], ignore: Ignore, words: &str) -> Result<(), Fail> {
+    let want = want_of(alloc, words)?;
+    gives(read(alloc, bytes, ignore), &want, words)
 }
 
 /// Checks a row: what isn't refused is drawn alike, whatever is ignored.
-fn check_row(rt: &impl Abort, alloc: Global, ends: Option<i16>, row: &str) -> Result<(), Fail> {
+fn check_row(alloc: Global, ends: Option<i16>, row: &str) -> Result<(), Fail> {
     let (points, row) = cut(row, " | ");
     let (refused, drawn) = cut(row, " | ");
     let without = if refused == "drawn" { drawn } else { refused };
     let bytes = with_path(alloc, ends, points)?;
-    check_read(rt, alloc, &bytes, Ignore::NOTHING, without)?;
-    check_read(rt, alloc, &bytes, ALL_ELSE, without)?;
-    check_read(rt, alloc, &bytes, POINTS, drawn)?;
-    check_read(rt, alloc, &bytes, Ignore::EVERYTHING, drawn)
+    check_read(alloc, &bytes, Ignore::NOTHING, without)?;
+    check_read(alloc, &bytes, ALL_ELSE, without)?;
+    check_read(alloc, &bytes, POINTS, drawn)?;
+    check_read(alloc, &bytes, Ignore::EVERYTHING, drawn)
 }
 
 #[test]
 fn repeated_points_of_paths(rt: HostRuntime) -> Result<(), Fail> {
     for row in PATHS.lines() {
-        check_row(&rt, rt.alloc(), None, row)?;
+        check_row(rt.alloc(), None, row)?;
     }
     Ok(())
 }
@@ -121,7 +114,7 @@ fn repeated_points_of_paths(rt: HostRuntime) -> Result<(), Fail> {
 #[test]
 fn repeated_points_with_square_ends(rt: HostRuntime) -> Result<(), Fail> {
     for row in SQUARE_ENDS.lines() {
-        check_row(&rt, rt.alloc(), Some(2), row)?;
+        check_row(rt.alloc(), Some(2), row)?;
     }
     Ok(())
 }
@@ -131,8 +124,8 @@ fn repeated_points_with_square_ends(rt: HostRuntime) -> Result<(), Fail> {
 fn a_path_with_one_point(rt: HostRuntime) -> Result<(), Fail> {
     let bytes = with_path(rt.alloc(), None, "5,5")?;
     for ignore in [Ignore::NOTHING, POINTS] {
-        let found = read(rt.alloc(), &bytes, ignore)?;
-        check_text(&rt, &found, "Element(Points)", "one point");
+        let found = read(rt.alloc(), &bytes, ignore);
+        gives(found, "Element(Points)", "one point")?;
     }
     Ok(())
 }
@@ -151,9 +144,8 @@ fn with_boundary(alloc: Global) -> Result<Vec<u8>, AllocError> {
 fn a_boundary_keeps_its_points(rt: HostRuntime) -> Result<(), Fail> {
     let bytes = with_boundary(rt.alloc())?;
     for ignore in [Ignore::NOTHING, POINTS] {
-        let found = read(rt.alloc(), &bytes, ignore)?;
         let want = "TOP / 1/0*1; 0,0 10,0 10,0 10,10 0,10\n";
-        check_text(&rt, &found, want, "a boundary");
+        gives(read(rt.alloc(), &bytes, ignore), want, "a boundary")?;
     }
     Ok(())
 }

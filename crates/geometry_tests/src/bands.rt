@@ -1,4 +1,5 @@
 //! The bands of rings, worked by hand.
+use crate::holds::{holds, rows_hold};
 use crate::pairs::{cut, rings_of};
 use lvl_grid::{Ring, Rings};
 use lvl_region::Region;
@@ -84,10 +85,7 @@ fn row_has_bands(alloc: Global, row: &str) -> Result<bool, Fail> {
 
 #[test]
 fn bands_of_rings(rt: HostRuntime) -> Result<(), Fail> {
-    for row in BANDS.lines() {
-        assert!(rt; row_has_bands(rt.alloc(), row)?, "{row}");
-    }
-    Ok(())
+    rows_hold(rt.alloc(), BANDS, row_has_bands)
 }
 
 /// A ring of two bands, the lower of which is wider.
@@ -137,7 +135,6 @@ fn keeps_cornered(alloc: Global) -> Result<bool, Fail> {
 
 #[test]
 fn growths_of_bands(rt: HostRuntime) -> Result<(), Fail> {
-    assert!(rt; sweeps_cornered(rt.alloc())?);
-    assert!(rt; keeps_cornered(rt.alloc())?);
-    Ok(())
+    holds(sweeps_cornered(rt.alloc()))?;
+    holds(keeps_cornered(rt.alloc()))
 }

@@ -1,6 +1,7 @@
 //! Made lists on which columns, halves, windows, the sweep and the grid agree.
 ghost use Rattle.std.specs.Prelude.{◌<◌, ◌^◌, pos, ◌<ℤ◌, ◌≤ℤ◌};
 
+use crate::holds::{finds, holds};
 use crate::outlines::{
     Found, at, differ_at, next_made, push_outline, push_rectangle, rectangle, ring,
 };
@@ -211,30 +212,29 @@ fn moved_by_sweep(alloc: Global) -> Result<Found, AllocError> {
 }
 
 /// The same by columns, where those that are not moved may be turned.
-fn moved_by_columns(alloc: Global, is_turned: bool) -> Result<Found, AllocError> {
+fn moved_by_columns(alloc: Global, is_turned: bool) -> Result<Found, Fail> {
     let first = if is_turned {
         turned(alloc)?
     } else {
         in_order(alloc, None)?
     };
-    difference_by_columns(alloc, &first, &in_order(alloc, Some(1234))?)
+    difference_by_columns(alloc, &first, &in_order(alloc, Some(1234))?).map_err(Fail::from)
 }
 
 /// What differs first in those in order and in those turned.
-fn found_in_turned(alloc: Global) -> Result<Found, AllocError> {
+fn found_in_turned(alloc: Global) -> Result<Found, Fail> {
     let first = in_order(alloc, None)?;
-    difference_by_columns(alloc, &first, &turned(alloc)?)
+    difference_by_columns(alloc, &first, &turned(alloc)?).map_err(Fail::from)
 }
 
 #[test]
 fn lists_that_are_cut(rt: HostRuntime) -> Result<(), Fail> {
     let alloc = rt.alloc();
-    assert!(rt; found_in_turned(alloc)?.is_none());
+    finds(found_in_turned(alloc), None)?;
     let want = moved_by_sweep(alloc)?;
     assert!(rt; want.is_some());
-    assert!(rt; moved_by_columns(alloc, false)? == want);
-    assert!(rt; moved_by_columns(alloc, true)? == want);
-    Ok(())
+    finds(moved_by_columns(alloc, false), want)?;
+    finds(moved_by_columns(alloc, true), want)
 }
 
 /// Appends a bracket, open to the right, within which those of higher numbers lie.
@@ -286,10 +286,12 @@ fn found_in_all(alloc: Global, has_outermost: bool, has_square: bool) -> Result<
 #[test]
 fn nested_brackets(rt: HostRuntime) -> Result<(), Fail> {
     let alloc = rt.alloc();
-    assert!(rt; found_in_all(alloc, false, false)? == at(0, 0, Side::First));
-    assert!(rt; found_in_all(alloc, true, false)?.is_none());
-    assert!(rt; found_in_all(alloc, true, true)? == at(2500, 3000, Side::Second));
-    Ok(())
+    finds(found_in_all(alloc, false, false), at(0, 0, Side::First))?;
+    finds(found_in_all(alloc, true, false), None)?;
+    finds(
+        found_in_all(alloc, true, true),
+        at(2500, 3000, Side::Second),
+    )
 }
 
 /// A rectangle of that height alone.
@@ -305,9 +307,9 @@ fn heights_differ(
     first: i64,
     second: i64,
     window: Option<&Window>,
-) -> Result<Found, AllocError> {
+) -> Result<Found, Fail> {
     let first = one_high(alloc, first)?;
-    first_difference_in(alloc, &first, &one_high(alloc, second)?, window)
+    first_difference_in(alloc, &first, &one_high(alloc, second)?, window).map_err(Fail::from)
 }
 
 const LOW: Window = Window {
@@ -327,10 +329,12 @@ const THIN: Window = Window {
 #[test]
 fn a_window(rt: HostRuntime) -> Result<(), Fail> {
     let alloc = rt.alloc();
-    assert!(rt; heights_differ(alloc, 10, 9, Some(&LOW))?.is_none());
-    assert!(rt; heights_differ(alloc, 10, 9, Some(&THIN))? == at(3, 9, Side::First));
-    assert!(rt; heights_differ(alloc, 9, 10, None)? == at(0, 9, Side::Second));
-    Ok(())
+    finds(heights_differ(alloc, 10, 9, Some(&LOW)), None)?;
+    finds(
+        heights_differ(alloc, 10, 9, Some(&THIN)),
+        at(3, 9, Side::First),
+    )?;
+    finds(heights_differ(alloc, 9, 10, None), at(0, 9, Side::Second))
 }
 
 /// Whether the lists differ in the window, and first where a sweep of all says.
@@ -339,7 +343,7 @@ fn finds_as_a_sweep(
     first: &[Ring],
     second: &[Ring],
     window: &Window,
-) -> Result<bool, AllocError> {
+) -> Result<bool, Fail> {
     let found = first_difference_in(alloc, first, second, Some(window))?;
     Ok(found.is_some() && found == first_difference_of(alloc, first, second)?)
 }
@@ -355,6 +359,5 @@ fn growths_of_columns(rt: HostRuntime) -> Result<(), Fail> {
         x1: 1000,
         y1: 900,
     };
-    assert!(rt; finds_as_a_sweep(alloc, &first, &moved, &window)?);
-    Ok(())
+    holds(finds_as_a_sweep(alloc, &first, &moved, &window))
 }

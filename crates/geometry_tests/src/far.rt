@@ -1,4 +1,5 @@
 //! Lists at the ends of the grid, and lists that an estimate of their work takes for what they are not.
+use crate::holds::{finds, rows_hold};
 use crate::outlines::{Found, Sides, at, push_outline, push_rectangle, rectangles};
 use crate::pairs::row_differs_at;
 use lvl_columns::{Comparison, compare_by_columns};
@@ -61,10 +62,7 @@ all; tower | all | -
 
 #[test]
 fn ends_of_the_grid(rt: HostRuntime) -> Result<(), Fail> {
-    for row in ROWS.lines() {
-        assert!(rt; row_differs_at(rt.alloc(), row)?, "{row}");
-    }
-    Ok(())
+    rows_hold(rt.alloc(), ROWS, row_differs_at)
 }
 
 /// Bars beside each other, each a step higher than the one before it, each drawn in one piece or in two.
@@ -176,16 +174,16 @@ fn needles(alloc: Global, many: i64) -> Result<Rings, Fail> {
 }
 
 /// What differs first in the rings and in these rectangles.
-fn found_beside(alloc: Global, rings: &Rings, sides: &[Sides]) -> Result<Found, AllocError> {
-    Ok(compare_by_columns(alloc, rings, &rectangles(alloc, sides)?)?.found)
+fn found_beside(alloc: Global, rings: &Rings, sides: &[Sides]) -> Result<Found, Fail> {
+    let compared = compare_by_columns(alloc, rings, &rectangles(alloc, sides)?)?;
+    Ok(compared.found)
 }
 
 /// A sweep of these alone would take minutes.
 #[test]
 fn rings_on_one_line(rt: HostRuntime) -> Result<(), Fail> {
     let first = needles(rt.alloc(), 100_000)?;
-    assert!(rt; found_beside(rt.alloc(), &first, &[])?.is_none());
-    let found = found_beside(rt.alloc(), &first, &[((0, 1), (5, 6))])?;
-    assert!(rt; found == at(0, 5, Side::Second));
-    Ok(())
+    finds(found_beside(rt.alloc(), &first, &[]), None)?;
+    let found = found_beside(rt.alloc(), &first, &[((0, 1), (5, 6))]);
+    finds(found, at(0, 5, Side::Second))
 }

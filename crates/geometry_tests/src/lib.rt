@@ -11,6 +11,8 @@ mod columns;
 #[cfg(test)]
 mod far;
 #[cfg(test)]
+mod holds;
+#[cfg(test)]
 mod maps;
 #[cfg(test)]
 mod outlines;

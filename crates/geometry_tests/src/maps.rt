@@ -1,4 +1,5 @@
 //! Rings and maps worked by hand.
+use crate::holds::{is_text, rows_hold};
 use crate::outlines::ring;
 use crate::pairs::{cut, points_of};
 use lvl_grid::{Map, PlaceFault, Point, Ring, Square, Turn};
@@ -52,26 +53,24 @@ fn covered_text(alloc: Global, ring: &Ring) -> Result<String, AllocError> {
 }
 
 /// How many points the ring of these points has, and what it covers; or why there is none.
-fn ring_text(alloc: Global, points: Vec<Point>) -> Result<String, AllocError> {
-    match Ring::new(points) {
+fn ring_text(alloc: Global, points: Vec<Point>) -> Result<String, Fail> {
+    let text = match Ring::new(points) {
         Ok(ring) => covered_text(alloc, &ring),
         Err(fault) => format!(in alloc; "{fault:?}"),
-    }
+    };
+    text.map_err(Fail::from)
 }
 
 /// Whether the ring of a row is as it says.
 fn row_is_ring(alloc: Global, row: &str) -> Result<bool, Fail> {
     let (_, row) = cut(row, " | ");
     let (points, want) = cut(row, " | ");
-    Ok(ring_text(alloc, points_of(alloc, points)?)?.as_str() == want)
+    is_text(ring_text(alloc, points_of(alloc, points)?), want)
 }
 
 #[test]
 fn rings_by_their_points(rt: HostRuntime) -> Result<(), Fail> {
-    for row in RINGS.lines() {
-        assert!(rt; row_is_ring(rt.alloc(), row)?, "{row}");
-    }
-    Ok(())
+    rows_hold(rt.alloc(), RINGS, row_is_ring)
 }
 
 pub const FLIP_AND_RISE: Map = Map {

@@ -17,7 +17,7 @@ pub fn ring(alloc: Global, outline: Outline) -> Result<Ring, Fail> {
     for (x, y) in outline {
         points.push(Point { x: *x, y: *y })?;
     }
-    Ok(Ring::new(points).ok().ok_or("no ring")?)
+    Ring::new(points).map_err(Fail::from)
 }
 
 pub fn push_outline(alloc: Global, rings: &mut Rings, outline: Outline) -> Result<(), Fail> {

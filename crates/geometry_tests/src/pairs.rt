@@ -1,5 +1,6 @@
 //! Pairs of lists of rings, and the least square in which they differ, worked by hand.
 use crate::far::corners_of;
+use crate::holds::{holds, rows_hold};
 use crate::outlines::{Found, at, both_differ_at, differ_at, rectangle};
 use lvl_grid::{Point, Ring, Square};
 use lvl_region::{GridRegion, Region, Side};
@@ -58,7 +59,7 @@ pub fn points_of(alloc: Global, text: &str) -> Result<Vec<Point>, Fail> {
 
 fn ring_of(alloc: Global, corners: &str) -> Result<Ring, Fail> {
     let points = points_of(alloc, corners)?;
-    Ok(Ring::new(points).ok().ok_or("no ring")?)
+    Ring::new(points).map_err(Fail::from)
 }
 
 /// Appends the ring of these corners, if there are any.
@@ -101,13 +102,15 @@ pub fn row_differs_at(alloc: Global, row: &str) -> Result<bool, Fail> {
     Ok(both_differ_at(alloc, &first, &second, found_of(found)?)?)
 }
 
+/// The same, where the name of the row is before it.
+fn named_row_differs_at(alloc: Global, row: &str) -> Result<bool, Fail> {
+    let (_, row) = cut(row, " |");
+    row_differs_at(alloc, row)
+}
+
 #[test]
 fn pairs_of_lists(rt: HostRuntime) -> Result<(), Fail> {
-    for row in PAIRS.lines() {
-        let (name, row) = cut(row, " |");
-        assert!(rt; row_differs_at(rt.alloc(), row)?, "{name}");
-    }
-    Ok(())
+    rows_hold(rt.alloc(), PAIRS, named_row_differs_at)
 }
 
 /// The corners of rings, a square, and whether their grid covers it.
@@ -133,10 +136,7 @@ fn row_is_covered(alloc: Global, row: &str) -> Result<bool, Fail> {
 
 #[test]
 fn squares_of_a_grid(rt: HostRuntime) -> Result<(), Fail> {
-    for row in SQUARES.lines() {
-        assert!(rt; row_is_covered(rt.alloc(), row)?, "{row}");
-    }
-    Ok(())
+    rows_hold(rt.alloc(), SQUARES, row_is_covered)
 }
 
 /// So many squares above each other.
@@ -154,14 +154,13 @@ fn the_last_rectangle_missing(rt: HostRuntime) -> Result<(), Fail> {
     let alloc = rt.alloc();
     let all = column(alloc, 1000)?;
     let most = column(alloc, 999)?;
-    assert!(rt; differ_at(alloc, &all, &most, at(0, 1998, Side::First))?);
-    assert!(rt; differ_at(alloc, &all, &all, None)?);
+    let is_found = differ_at(alloc, &all, &most, at(0, 1998, Side::First))?;
+    assert!(rt; is_found && differ_at(alloc, &all, &all, None) == Ok(true));
     Ok(())
 }
 
 #[test]
 fn growths_of_pairs(rt: HostRuntime) -> Result<(), Fail> {
     let row = "0,0 20,0 20,10 10,10 10,20 0,20 | 0,0 20,0 20,20 0,20 | second 10,10";
-    assert!(rt; row_differs_at(rt.alloc(), row)?);
-    Ok(())
+    holds(row_differs_at(rt.alloc(), row))
 }

@@ -1,4 +1,5 @@
 //! Lists that have the same rings in another order, and some more.
+use crate::holds::finds;
 use crate::outlines::{Found, at, push_rectangle, rectangle, ring};
 use lvl_columns::{Comparison, compare_by_columns};
 use lvl_grid::{Ring, Rings};
@@ -114,11 +115,10 @@ fn common_rings_that_stay(rt: HostRuntime) -> Result<(), Fail> {
     let inside = ((40, 42), (5, 7));
     let across = ((40, 50), (5, 7));
     let beside = ((46, 50), (5, 7));
-    assert!(rt; found_with(alloc, &[inside], &[])?.is_none());
-    assert!(rt; found_with(alloc, &[across], &[])? == at(46, 5, Side::First));
-    assert!(rt; found_with(alloc, &[], &[across])? == at(46, 5, Side::Second));
-    assert!(rt; found_with(alloc, &[across], &[beside])?.is_none());
-    Ok(())
+    finds(found_with(alloc, &[inside], &[]), None)?;
+    finds(found_with(alloc, &[across], &[]), at(46, 5, Side::First))?;
+    finds(found_with(alloc, &[], &[across]), at(46, 5, Side::Second))?;
+    finds(found_with(alloc, &[across], &[beside]), None)
 }
 
 /// A rectangle, and what may be its two halves: these alone are compared, if they are the same.
@@ -127,8 +127,13 @@ fn halves_of_what_is_left(rt: HostRuntime) -> Result<(), Fail> {
     let alloc = rt.alloc();
     let whole = ((-100, -80), (0, 4));
     let left = ((-100, -90), (0, 4));
-    assert!(rt; found_with(alloc, &[whole], &[left, ((-90, -80), (0, 4))])?.is_none());
+    finds(
+        found_with(alloc, &[whole], &[left, ((-90, -80), (0, 4))]),
+        None,
+    )?;
     let lower = ((-90, -80), (0, 3));
-    assert!(rt; found_with(alloc, &[whole], &[left, lower])? == at(-90, 3, Side::First));
-    Ok(())
+    finds(
+        found_with(alloc, &[whole], &[left, lower]),
+        at(-90, 3, Side::First),
+    )
 }

@@ -1,4 +1,5 @@
 //! Rings in one piece, pushed, placed and clipped.
+use crate::holds::{holds, is_text, rows_hold};
 use crate::maps::{EDGE, FLIP_AND_RISE, ORIGIN};
 use crate::outlines::{push_outline, ring};
 use crate::pairs::{cut, point, rings_of};
@@ -120,7 +121,7 @@ fn row_is_clipped(alloc: Global, row: &str) -> Result<bool, Fail> {
     let (part, want) = cut(row, " |");
     let part = part_of(part)?;
     let rings = ell_and_comb(alloc)?;
-    Ok(clipped_text(alloc, &rings, &part)?.as_str() == want)
+    is_text(clipped_text(alloc, &rings, &part), want)
 }
 
 /// The fourth point of the second of the rings.
@@ -144,10 +145,7 @@ fn rings_in_one_piece(rt: HostRuntime) -> Result<(), Fail> {
 
 #[test]
 fn rings_are_clipped_and_tidied(rt: HostRuntime) -> Result<(), Fail> {
-    for row in PARTS.lines() {
-        assert!(rt; row_is_clipped(rt.alloc(), row)?, "{row}");
-    }
-    Ok(())
+    rows_hold(rt.alloc(), PARTS, row_is_clipped)
 }
 
 /// Whether these halves, on both sides of an abscissa, cover together what the rings cover.
@@ -208,17 +206,13 @@ fn a_slice_of_rings(rt: HostRuntime) -> Result<(), Fail> {
     Ok(())
 }
 
-/// Whether the two rectangles are the same as the rings.
-fn are_same(alloc: Global, rings: &Rings) -> Result<bool, Fail> {
-    Ok(two_in_one_piece(alloc)?.is_same(rings))
-}
-
 #[test]
 fn rings_that_are_the_same(rt: HostRuntime) -> Result<(), Fail> {
     let alloc = rt.alloc();
-    assert!(rt; are_same(alloc, &two_in_one_piece(alloc)?)?);
-    assert!(rt; !are_same(alloc, &ell_and_comb(alloc)?)?);
-    assert!(rt; !are_same(alloc, &Rings::new(alloc))?);
+    let two = two_in_one_piece(alloc)?;
+    assert!(rt; two_in_one_piece(alloc)?.is_same(&two));
+    assert!(rt; !two.is_same(&Rings::new(alloc)));
+    assert!(rt; !two.is_same(&ell_and_comb(alloc)?));
     Ok(())
 }
 
@@ -301,12 +295,11 @@ fn a_ring_is_placed_in_one_piece(rt: HostRuntime) -> Result<(), Fail> {
     assert!(rt; refused == Some(PlaceFault::OutOfRange) && are_three(&rings));
     let by = half_turn(Point { x: -1, y: 0 });
     assert!(rt; push_edge(alloc, &mut rings, &by)?.is_none());
-    assert!(rt; ends_with_edge(alloc, &rings, &by)?);
-    Ok(())
+    holds(ends_with_edge(alloc, &rings, &by))
 }
 
 /// Whether both halves have three rings, where the rings are split at 3.
-fn splits_at_three(alloc: Global, rings: &Rings) -> Result<bool, AllocError> {
+fn splits_at_three(alloc: Global, rings: &Rings) -> Result<bool, Fail> {
     let halves = rings.split_at(alloc, 3)?;
     Ok(Rings::len(&halves.0) == 3 && Rings::len(&halves.1) == 3)
 }
@@ -320,6 +313,5 @@ fn growths_in_one_piece(rt: HostRuntime) -> Result<(), Fail> {
     let many = if pushed.is_ok() { 20 } else { before };
     assert!(rt; rings.points().len() == many);
     pushed?;
-    assert!(rt; splits_at_three(alloc, &rings)?);
-    Ok(())
+    holds(splits_at_three(alloc, &rings))
 }

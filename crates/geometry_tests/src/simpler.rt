@@ -1,5 +1,6 @@
 //! Rings made simpler, and what their outlines are.
 
+use crate::holds::{finds, found_between, is_text, rows_hold};
 use crate::outlines::{Found, push_rectangle};
 use crate::pairs::{cut, points_of};
 use crate::spirals::winding;
@@ -42,10 +43,7 @@ fn become_rows(alloc: Global, row: &str) -> Result<bool, Fail> {
 
 #[test]
 fn rows_that_overlap_or_touch(rt: HostRuntime) -> Result<(), Fail> {
-    for row in ROWS.lines() {
-        assert!(rt; become_rows(rt.alloc(), row)?, "{row}");
-    }
-    Ok(())
+    rows_hold(rt.alloc(), ROWS, become_rows)
 }
 
 /// A row, a square within it, and a rectangle that reaches above it.
@@ -75,9 +73,8 @@ fn winding_in_a_column(alloc: Global) -> Result<Rings, Fail> {
 }
 
 /// What differs first in the rings and in the ring that winds in the column.
-fn found_in_column(alloc: Global, simpler: &Rings) -> Result<Found, Fail> {
-    let clipped = winding_in_a_column(alloc)?;
-    Ok(difference_by_columns(alloc, simpler, &clipped)?)
+fn found_in_column(alloc: Global, simpler: Rings) -> Result<Found, Fail> {
+    found_between(alloc, simpler, winding_in_a_column(alloc))
 }
 
 /// With the ten edges and eleven at the right border it covers the same, and four points for each edge
@@ -89,8 +86,7 @@ fn a_ring_that_winds_in_a_column(rt: HostRuntime) -> Result<(), Fail> {
     assert!(rt; clipped.points().len() > 1000);
     let simpler = simplified(alloc, clipped)?;
     assert!(rt; simpler.points().len() <= 84);
-    assert!(rt; found_in_column(alloc, &simpler)?.is_none());
-    Ok(())
+    finds(found_in_column(alloc, simpler), None)
 }
 
 /// The points of a comb whose teeth are 10 units long.
@@ -99,21 +95,24 @@ fn comb(alloc: Global, teeth: i64) -> Result<Vec<Point>, AllocError> {
     for tooth in 0..teeth {
         let low = tooth.wrapping_mul(2);
         let high = low.wrapping_add(1);
-        points.push(Point { x: 0, y: low })?;
-        points.push(Point { x: 10, y: low })?;
-        points.push(Point { x: 10, y: high })?;
-        points.push(Point { x: 0, y: high })?;
+        points.extend_from_slice(&[
+            Point { x: 0, y: low },
+            Point { x: 10, y: low },
+            Point { x: 10, y: high },
+            Point { x: 0, y: high },
+        ])?;
     }
     Ok(points)
 }
 
 /// A comb's left and right end, its edges, heights, widths and folds, and whether it is folded.
-fn measured(alloc: Global, teeth: i64) -> Result<String, AllocError> {
+fn measured(alloc: Global, teeth: i64) -> Result<String, Fail> {
     let outline = Outline::of(&comb(alloc, teeth)?);
     let (left, right, edges) = (outline.left, outline.right, outline.edges);
     let (heights, widths) = (outline.heights, outline.widths);
     let (folds, is_folded) = (outline.folds(), outline.is_folded());
-    format!(in alloc; "{left} {right} {edges} {heights} {widths} {folds} {is_folded}")
+    let text = format!(in alloc; "{left} {right} {edges} {heights} {widths} {folds} {is_folded}");
+    text.map_err(Fail::from)
 }
 
 /// How many teeth a comb has, and how it is measured.
@@ -126,13 +125,10 @@ const COMBS: &str = "\
 /// Whether the comb of a row is measured as it says.
 fn is_measured(alloc: Global, row: &str) -> Result<bool, Fail> {
     let (teeth, want) = cut(row, " | ");
-    Ok(measured(alloc, teeth.parse::<i64>()?)?.as_str() == want)
+    is_text(measured(alloc, teeth.parse::<i64>()?), want)
 }
 
 #[test]
 fn outlines_of_combs(rt: HostRuntime) -> Result<(), Fail> {
-    for row in COMBS.lines() {
-        assert!(rt; is_measured(rt.alloc(), row)?, "{row}");
-    }
-    Ok(())
+    rows_hold(rt.alloc(), COMBS, is_measured)
 }

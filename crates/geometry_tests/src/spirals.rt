@@ -1,7 +1,7 @@
 //! Long rings that go round and round, against the same masks drawn by rectangles.
 
+use crate::holds::{finds, found_between};
 use crate::outlines::{Found, Sides, at, push_rectangle, push_rectangles, rectangles};
-use lvl_columns::difference_by_columns;
 use lvl_grid::{Point, Ring, Rings};
 use lvl_region::Side;
 use std::alloc::{AllocError, Global};
@@ -15,15 +15,24 @@ fn push(points: &mut Vec<Point>, x: i64, y: i64) -> Result<(), AllocError> {
 /// Goes once round the origin, from the lower right to so far below the lower left.
 fn push_round(points: &mut Vec<Point>, radius: i64, below: i64) -> Result<(), AllocError> {
     let low = radius.wrapping_neg();
-    push(points, radius, low)?;
-    push(points, radius, radius)?;
-    push(points, low, radius)?;
-    push(points, low, low.wrapping_sub(below))
+    points.extend_from_slice(&[
+        Point { x: radius, y: low },
+        Point {
+            x: radius,
+            y: radius,
+        },
+        Point { x: low, y: radius },
+        Point {
+            x: low,
+            y: low.wrapping_sub(below),
+        },
+    ])?;
+    Ok(())
 }
 
 /// The ring of these points alone.
 fn alone(alloc: Global, points: Vec<Point>) -> Result<Rings, Fail> {
-    let ring = Ring::new(points).ok().ok_or("no ring")?;
+    let ring = Ring::new(points)?;
     let mut rings = Rings::new(alloc);
     rings.push_ring(&ring)?;
     Ok(rings)
@@ -63,23 +72,25 @@ fn mask_with(alloc: Global, more: &[Sides]) -> Result<Rings, AllocError> {
 
 /// What differs first in the ring that winds 600 times and in the mask with these rectangles.
 fn found_with(alloc: Global, more: &[Sides]) -> Result<Found, Fail> {
-    let mask = mask_with(alloc, more)?;
-    Ok(difference_by_columns(alloc, &winding(alloc, 600)?, &mask)?)
+    let ring = winding(alloc, 600)?;
+    found_between(alloc, ring, mask_with(alloc, more).map_err(Fail::from))
 }
 
 /// What differs first in the whole mask and in the ring.
 fn found_from_mask(alloc: Global) -> Result<Found, Fail> {
-    let mask = mask_with(alloc, &[LAST])?;
-    Ok(difference_by_columns(alloc, &mask, &winding(alloc, 600)?)?)
+    found_between(alloc, mask_with(alloc, &[LAST])?, winding(alloc, 600))
 }
 
 #[test]
 fn a_ring_that_winds(rt: HostRuntime) -> Result<(), Fail> {
-    assert!(rt; found_with(rt.alloc(), &[])? == at(599, -600, Side::First));
-    assert!(rt; found_with(rt.alloc(), &[LAST])?.is_none());
-    assert!(rt; found_from_mask(rt.alloc())?.is_none());
-    assert!(rt; found_with(rt.alloc(), &[LAST, BEYOND])? == at(-600, -2, Side::Second));
-    Ok(())
+    let alloc = rt.alloc();
+    finds(found_with(alloc, &[]), at(599, -600, Side::First))?;
+    finds(found_with(alloc, &[LAST]), None)?;
+    finds(found_from_mask(alloc), None)?;
+    finds(
+        found_with(alloc, &[LAST, BEYOND]),
+        at(-600, -2, Side::Second),
+    )
 }
 
 /// One side of a wire, one unit wide, that goes round `many` times, two units further out each time.
@@ -146,34 +157,32 @@ fn turns_and_square(alloc: Global, has_square: bool) -> Result<Rings, AllocError
 
 /// What differs first in the wire and in those.
 fn found_in_wire(alloc: Global, has_square: bool) -> Result<Found, Fail> {
-    let rings = turns_and_square(alloc, has_square)?;
-    Ok(difference_by_columns(alloc, &wire(alloc, 200)?, &rings)?)
+    let wire = wire(alloc, 200)?;
+    let rings = turns_and_square(alloc, has_square);
+    found_between(alloc, wire, rings.map_err(Fail::from))
 }
 
 /// What differs first in the turns and in the wire.
 fn found_in_turns(alloc: Global) -> Result<Found, Fail> {
-    let turns = turns(alloc)?;
-    Ok(difference_by_columns(alloc, &turns, &wire(alloc, 200)?)?)
+    found_between(alloc, turns(alloc)?, wire(alloc, 200))
 }
 
 #[test]
 fn a_wire_that_winds(rt: HostRuntime) -> Result<(), Fail> {
     let alloc = rt.alloc();
-    assert!(rt; found_in_wire(alloc, false)?.is_none());
-    assert!(rt; found_in_turns(alloc)?.is_none());
-    assert!(rt; found_in_wire(alloc, true)? == at(101, 0, Side::Second));
-    Ok(())
+    finds(found_in_wire(alloc, false), None)?;
+    finds(found_in_turns(alloc), None)?;
+    finds(found_in_wire(alloc, true), at(101, 0, Side::Second))
 }
 
 /// What differs first in the ring that winds 260 times and in these rectangles.
 fn found_in_winding(alloc: Global, sides: &[Sides]) -> Result<Found, Fail> {
     let spiral = winding(alloc, 260)?;
-    Ok(difference_by_columns(alloc, &spiral, &rectangles(alloc, sides)?)?)
+    found_between(alloc, spiral, rectangles(alloc, sides).map_err(Fail::from))
 }
 
 #[test]
 fn growths_of_spirals(rt: HostRuntime) -> Result<(), Fail> {
-    let found = found_in_winding(rt.alloc(), &[((-260, 260), (-1, 260))])?;
-    assert!(rt; found == at(-259, -260, Side::First));
-    Ok(())
+    let found = found_in_winding(rt.alloc(), &[((-260, 260), (-1, 260))]);
+    finds(found, at(-259, -260, Side::First))
 }

@@ -1,9 +1,8 @@
 //! Which rule is reported, and of which record.
 use super::{Answer, read};
-use crate::rows::{check_text, cut};
+use crate::rows::rows_give;
 use lvl_refusal::Cause;
 use std::alloc::Global;
-use std::process::Abort;
 use std::test::Fail;
 
 /// Why no element is read, or `-`.
@@ -15,18 +14,9 @@ fn stop_text(alloc: Global, answer: &Answer) -> Result<String, Fail> {
     }
 }
 
-fn stop_of(rt: &impl Abort, alloc: Global, records: &str) -> Result<String, Fail> {
-    let answer = read(rt, alloc, records)?;
+fn stop_of(alloc: Global, records: &str) -> Result<String, Fail> {
+    let answer = read(alloc, records)?;
     stop_text(alloc, &answer)
-}
-
-/// Checks what is reported, row by row.
-fn check_stops(rt: &impl Abort, alloc: Global, rows: &str) -> Result<(), Fail> {
-    for row in rows.lines() {
-        let (records, want) = cut(row, " | ");
-        check_text(rt, &stop_of(rt, alloc, records)?, want, row);
-    }
-    Ok(())
 }
 
 /// Paths: with a short run, of a width that is odd, none and negative, with one point, and with an oblique run.
@@ -41,7 +31,7 @@ PATH; LAYER 1; DATATYPE 0; WIDTH 4; XY 0,0 1,1; ENDEL | At(4, Rule(Path(Oblique)
 
 #[test]
 fn short_run(rt: HostRuntime) -> Result<(), Fail> {
-    check_stops(&rt, rt.alloc(), PATHS)
+    rows_give(rt.alloc(), PATHS, stop_of)
 }
 
 /// Arrays of many columns and rows, and of steps that aren't whole.
@@ -63,7 +53,7 @@ AREF; SNAME 41 42; COLROW 1 1; \
 
 #[test]
 fn array_limits(rt: HostRuntime) -> Result<(), Fail> {
-    check_stops(&rt, rt.alloc(), ARRAYS)
+    rows_give(rt.alloc(), ARRAYS, stop_of)
 }
 
 /// Elements of each type, up to the record that is refused.
@@ -90,5 +80,5 @@ TEXT; LAYER 1; BOUNDARY | At(2, Misplaced(Unexpected(8)))
 
 #[test]
 fn the_first_rule_is_reported(rt: HostRuntime) -> Result<(), Fail> {
-    check_stops(&rt, rt.alloc(), REFUSALS)
+    rows_give(rt.alloc(), REFUSALS, stop_of)
 }
