@@ -75,6 +75,16 @@ def halved(shapes):
         yield x, y, width, height
 
 
+def lapped(shapes):
+    """The same squares: the last rectangle first, and every fourth in two parts that overlap."""
+    for at in reversed(range(len(shapes))):
+        x, y, width, height = shapes[at]
+        if at % 4 == 0 and width > 2:
+            yield x + width // 3, y, width - width // 3, height
+            width = width // 2 + 1
+        yield x, y, width, height
+
+
 def comb(rng, teeth):
     """A polygon with teeth of different heights and gaps between them, and the rectangles that it is made of."""
     left, low = rng.randrange(80_000), rng.randrange(FIELD)
@@ -126,7 +136,9 @@ def pair(kind, rng, count):
     if kind in ("combs", "stairs", "slopes"):
         rings, others = polygons(kind, rng, count)
         return (boundary(it) for it in rings), others, True
-    shapes = RECTANGLES["squares" if kind in ("same", "moved") else kind](rng, count)
+    shapes = RECTANGLES[{"same": "squares", "moved": "squares", "lapped": "sizes"}.get(kind, kind)](rng, count)
+    if kind == "lapped":
+        return in_gds(shapes), in_oasis(lapped(shapes)), True
     if kind not in ("same", "moved"):
         return in_gds(shapes), in_oasis(halved(shapes)), True
     others = list(shapes)
@@ -152,7 +164,7 @@ def time_kind(program, kind, folder, count, seed):
 
 
 def main():
-    kinds = [*RECTANGLES, "combs", "stairs", "slopes", "same", "moved"]
+    kinds = [*RECTANGLES, "lapped", "combs", "stairs", "slopes", "same", "moved"]
     line = options.parser(__doc__)
     line.add_argument("--count", type=int, default=1_000_000, help="rectangles in each first file (default: a million)")
     line.add_argument("--seed", type=int, default=1)

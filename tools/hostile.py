@@ -34,13 +34,13 @@ def one(*records):
     return oas_file(oas_cell("TOP", *records))
 
 
-def doubling(levels, square):
-    """Cells that each place the next one twice; the last draws the square."""
+def doubling(levels, *squares, apart=3):
+    """Cells that each place the next one twice; the last draws the squares."""
     parts = [
-        oas_cell("C%d" % n, placement("C%d" % (n + 1), 0, 0), placement("C%d" % (n + 1), 3 << (levels - n), 0))
+        oas_cell("C%d" % n, placement("C%d" % (n + 1), 0, 0), placement("C%d" % (n + 1), apart << (levels - n), 0))
         for n in range(levels)
     ]
-    return oas_file(*parts, oas_cell("C%d" % levels, square))
+    return oas_file(*parts, oas_cell("C%d" % levels, *squares))
 
 
 def cells_that_double():
@@ -48,6 +48,8 @@ def cells_that_double():
     yield case("23 cells that double", 2**23, doubling(23, small))
     yield case("the same, twice in the same cells", 2**24, doubling(23, small), doubling(23, small))
     yield case("the same, against wider squares", 2**24, doubling(23, small), doubling(23, wide))
+    yield case("23 cells that each place the next one twice on one spot, against one square more", 3 * 2**23,
+               doubling(23, small, apart=0), doubling(23, small, rectangle(5, 5, 1, 1), apart=0))
 
 
 def arrays_of_arrays():
@@ -277,6 +279,9 @@ def layers_and_lists():
     for n in (1_000_000, 2_000_000, 4_000_000):
         yield case("%d layers of one square" % n, 2 * n, *(
             one(*(rectangle(0, 0, 1, 1, at) for at in order)) for order in (range(n), range(n - 1, -1, -1))))
+    n = 2_000_000
+    apart = [rectangle(3 * (at * 7_919 % n), 5 * (at * 104_729 % n), 1, 1, at) for at in range(n)]
+    yield case("%d layers of one square, apart, in another order" % n, 2 * n, one(*apart), one(*apart[::-1]))
     rng = random.Random(1)
     for n in (1, 2, 4):
         places = [[(rng.randrange(-2**20, 2**20), rng.randrange(-2**20, 2**20)) for _ in range(999_999)]

@@ -34,7 +34,7 @@ fn widened(window: Window, points: &[Point]) -> Window {
 }
 
 /// A window around two lists.
-fn around(first: &Rings, second: &Rings) -> Window {
+pub(crate) fn around(first: &Rings, second: &Rings) -> Window {
     widened(widened(NOWHERE, first.points()), second.points())
 }
 

@@ -4,6 +4,8 @@ ghost use Rattle.lvl_grid.specs.declared.point.Square.{Square as GridSquare};
 ghost use Rattle.lvl_grid.specs.Winding.{Covers, IsRing, SomeCovers};
 ghost use Rattle.lvl_columns.specs.Left.{AreLeft, IsLeft};
 
+use crate::around::around;
+use crate::kept::Kept;
 use crate::keys::key_of;
 use crate::sample::Random;
 use crate::table::{Table, has_alike};
@@ -19,11 +21,12 @@ const SAMPLED: usize = 128;
 /// The number of bits that tell most keys from those of the sampled rings.
 const BITS: u64 = 4096;
 
-/// Appends a ring, unless it is found in another list.
+/// Appends a ring, unless it isn't kept and is found in another list.
 fn push_left(
     left: &mut Rings,
     table: &Table,
     others: &Rings,
+    kept: &Kept,
     ring: &[Point],
 ) -> Result<(), AllocError>
     requires { IsRing ring.now }
@@ -32,25 +35,27 @@ fn push_left(
     ensures all { OnOk result ((s : GridSquare) → (SomeCovers left.old s ⊎ Covers ring.now s)
         → SomeCovers left.new s ⊎ SomeCovers others.now s) }
 {
-    if has_alike(table, others, ring) {
+    if has_alike(table, others, kept, ring) {
         return Ok(());
     }
     left.push(ring)
 }
 
-/// The rings of a list that aren't found in another one, or None if they have more than `most` points.
+/// The rings of a list that are kept or aren't found in another one, or None if they have more than `most`
+/// points. The table is that of the other list.
 fn left_of(
     alloc: Global,
     rings: &Rings,
+    table: Table,
     others: &Rings,
+    kept: &Kept,
     most: usize,
 ) -> Result<Option<Rings>, AllocError>
     ensures { IfOk result (λ found. IfSome found (IsLeft rings.now others.now)) }
 {
-    let table = Table::of(alloc, others)?;
     let mut left = Rings::new(alloc);
     for i in 0..rings.len() {
-        push_left(&mut left, &table, others, rings.ring(i))?;
+        push_left(&mut left, &table, others, kept, rings.ring(i))?;
         if left.points().len() > most {
             return Ok(None);
         }
@@ -110,13 +115,17 @@ pub(crate) fn left_over(
     if !have_many(alloc, first, second)? {
         return Ok(None);
     }
+    let our_table = Table::of(alloc, first)?;
+    let their_table = Table::of(alloc, second)?;
+    let window = around(first, second);
+    let kept = Kept::of(alloc, window, first, second, &our_table, &their_table)?;
     let points = first.points().len().saturating_add(second.points().len());
     let most = points / 7 * 3;
-    let Some(ours) = left_of(alloc, first, second, most)? else {
+    let Some(ours) = left_of(alloc, first, their_table, second, &kept, most)? else {
         return Ok(None);
     };
     let rest = most.saturating_sub(ours.points().len());
-    let Some(theirs) = left_of(alloc, second, first, rest)? else {
+    let Some(theirs) = left_of(alloc, second, our_table, first, &kept, rest)? else {
         return Ok(None);
     };
     Ok(Some((ours, theirs)))

@@ -30,6 +30,7 @@ mod cut;
 mod estimate;
 mod folded;
 mod halves;
+mod kept;
 mod keys;
 mod left;
 mod passes;

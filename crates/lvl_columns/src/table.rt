@@ -4,6 +4,7 @@ ghost use Rattle.std.specs.Prelude.{◌<◌, length, IsTrue};
 ghost use Rattle.lvl_grid.specs.declared.point.Square.{Square as GridSquare};
 ghost use Rattle.lvl_grid.specs.Winding.{Covers, SomeCovers};
 
+use crate::kept::Kept;
 use crate::keys::key_of;
 use crate::reordered::are_alike;
 use lvl_grid::{Point, Rings};
@@ -25,7 +26,12 @@ const LOWER: u64 = 0xFFFF_FFFF;
 #[derive(Drop)]
 pub(crate) struct Table {
     slots: Vec<u64>,
+    /// The keys of rings that the list has more than once, or the first of these.
+    repeated: Vec<u64>,
 }
+
+/// How many keys of repeated rings are noted.
+const MOST_REPEATED: usize = 4096;
 
 /// What a slot has of a ring.
 fn slot_of(key: u64, ring: usize) -> u64 {
@@ -48,16 +54,33 @@ impl Table {
         let slots = rings.len().saturating_mul(2).checked_next_power_of_two();
         let mut table = Table {
             slots: vec![in alloc; 0; slots.unwrap_or(0)]?,
+            repeated: Vec::new(alloc),
         };
         for i in 0..rings.len() {
-            table.add(rings, i);
+            table.add(rings, i)?;
         }
         Ok(table)
     }
 
+    /// The keys of rings that the list has more than once, or None if these are many.
+    pub(crate) fn repeated(&self) -> Option<&[u64]> {
+        if self.repeated.len() < MOST_REPEATED {
+            return Some(&self.repeated);
+        }
+        None
+    }
+
+    /// Notes the key of a ring that the list has more than once, unless there are many.
+    fn add_repeated(&mut self, key: u64) -> Result<(), AllocError> {
+        if self.repeated.len() < MOST_REPEATED && self.repeated.last() != Some(&key) {
+            self.repeated.push(key)?;
+        }
+        Ok(())
+    }
+
     /// Notes a ring in the first free slot, if one of those that are tried is free and none of the rings that
     /// are tested is alike.
-    fn add(&mut self, rings: &Rings, i: usize)
+    fn add(&mut self, rings: &Rings, i: usize) -> Result<(), AllocError>
         requires { i < length rings.now }
     {
         let ring = rings.ring(i);
@@ -67,15 +90,19 @@ impl Table {
             let slot = self.get(key, tried);
             if slot == 0 {
                 self.set(key, tried, slot_of(key, i));
-                return;
+                return Ok(());
             }
             if is_of_key(slot, key) {
-                if tested >= MOST_TESTED || is_alike_at(rings, ring_of(slot), ring) {
-                    return;
+                if tested >= MOST_TESTED {
+                    return Ok(());
+                }
+                if is_alike_at(rings, ring_of(slot), ring) {
+                    return self.add_repeated(key);
                 }
                 tested = tested.saturating_add(1);
             }
         }
+        Ok(())
     }
 
     fn set(&mut self, key: u64, tried: usize, to: u64) {
@@ -107,11 +134,14 @@ fn is_alike_at(others: &Rings, i: usize, ring: &[Point]) -> bool
     }
 }
 
-/// Whether a ring is found in a list, whose table guides the search. `false` says nothing.
-pub(crate) fn has_alike(table: &Table, others: &Rings, ring: &[Point]) -> bool
+/// Whether a ring isn't kept and is found in a list, whose table guides the search. `false` says nothing.
+pub(crate) fn has_alike(table: &Table, others: &Rings, kept: &Kept, ring: &[Point]) -> bool
     ensures { IsTrue result → (s : GridSquare) → Covers ring.now s → SomeCovers others.now s }
 {
     let key = key_of(ring);
+    if kept.has(key, ring) {
+        return false;
+    }
     let mut tested: usize = 0;
     for tried in 0..MOST_TRIED {
         let slot = table.get(key, tried);

@@ -17,8 +17,8 @@ use std::alloc::{AllocError, Global};
 /// hundred bytes for each of its Layers while it is compared.
 const GROUP: usize = 65_536;
 
-/// The greatest number of groups. Each of them walks through both layouts.
-const MOST_GROUPS: usize = 64;
+/// The greatest number of groups. Each of them walks through both layouts, and looks for the Layer of each shape.
+const MOST_GROUPS: usize = 12;
 
 /// Consecutive Layers: those after a Layer, if it is given, up to another, if that is given.
 #[derive(Clone, Copy)]
@@ -56,6 +56,15 @@ impl Span {
             None => true,
         };
         is_after && is_until
+    }
+
+    /// How many points are expected of the span, if nothing is known of them. Those of a part of all Layers are
+    /// expected to be few, so that they are drawn before all shapes are looked at.
+    pub(crate) fn least_size(self) -> u64 {
+        if self.after.is_some() || self.last.is_some() {
+            return 0;
+        }
+        u64::MAX
     }
 
     /// The Layers of the span that don't come after this one.
@@ -143,7 +152,7 @@ impl Group {
     }
 
     /// The last Layers of all groups but the last one, in order: there are so many groups that each
-    /// has at most 65,536 Layers, but at most 64.
+    /// has at most 65,536 Layers, but at most twelve.
     pub(crate) fn ends(&self, alloc: Global, view: &View) -> Result<Vec<Layer>, AllocError> {
         let mut ends = Vec::new(alloc);
         let most = self.ours.len().saturating_add(self.theirs.len());

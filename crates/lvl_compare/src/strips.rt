@@ -262,6 +262,39 @@ fn whole(
     })
 }
 
+/// The search after a window that isn't cut. Rings that lie over one another are joined where there are more than
+/// a side may have in a window; only if that doesn't help, a side may have any number of points.
+fn uncut(
+    alloc: Global,
+    first: &Fitted,
+    second: &Fitted,
+    view: &View,
+    group: &Group,
+    lists: &Lists,
+    window: &Window,
+    before: Progress,
+) -> Result<Progress, AllocError>
+    requires listed { AreListed (TopCovers first.now) (TopCovers second.now) view.now.pairs group.now }
+    requires lists { AreBoth first.now second.now window.now lists.now }
+    ensures found { IfOk result (λ after. IsImproved (TopCovers first.now)
+        (IsMoved view.now.pairs (TopCovers second.now)) (on group.now.span (IsInWindow window.now))
+        before.found after.found) }
+    ensures few { IfOk result (λ after. after.windows + 2 * cuts_left after.pace
+        ≤ before.windows + 2 * cuts_left before.pace + 1) }
+{
+    let most = before.pace.points();
+    let tried = whole(
+        alloc, first, second, view, group, lists, window, before, most,
+    );
+    if let Ok(after) = tried {
+        return Ok(after);
+    }
+    let any = usize::MAX;
+    whole(
+        alloc, first, second, view, group, lists, window, before, any,
+    )
+}
+
 /// The search of a window, where a side is expected to have this number of points at most. If that
 /// fits the budget, the window is drawn as a whole; else, or if it has more points or doesn't fit in
 /// memory, its halves are searched one after the other. A window of one square may have any number of
@@ -309,10 +342,7 @@ pub(crate) fn difference_within(
     }
     let across = sizes.is_cut_across();
     let (Some(pace), Some((low, high))) = (before.pace.next(), halves(window, across)) else {
-        let any = usize::MAX;
-        return whole(
-            alloc, first, second, view, group, lists, window, before, any,
-        );
+        return uncut(alloc, first, second, view, group, lists, window, before);
     };
     let begun = Progress {
         found: before.found,

@@ -43,7 +43,7 @@ pub(crate) fn difference_in_group(
             pace: Pace::new(most),
             windows: 0,
         };
-        let size = u64::MAX;
+        let size = group.span.least_size();
         let end = difference_within(
             alloc, first, second, view, group, &lists, &part, size, start,
         )?;
