@@ -5,7 +5,7 @@ use lvl_io::fake::Pieces;
 use lvl_io::{Counted, Read};
 use lvl_profile::{Ignore, Profile};
 use lvl_units::GridStep;
-use oasis_blocks::read_packed;
+use oasis_blocks::{Unpacker, read_packed};
 use oasis_figures::{Drawn, Modal};
 use oasis_library::read_oasis;
 use oasis_records::{Record, RecordType, read_fields, read_id};
@@ -120,7 +120,7 @@ fn block(rt: HostRuntime) -> Result<(), Fail> {
     let bytes: &[u8] = b"\x01\x03\x4b\x04\x00";
     let mut input = Input::new(Pieces::new(bytes, usize::MAX), Profile::STANDARD);
     let block = read_packed(&mut input, alloc)?;
-    let mut unpacked = block.unpack(alloc, 100)?;
+    let mut unpacked = block.unpack(alloc, &mut Unpacker::new(), 100)?;
     let mut buf = [0; 8];
     assert_eq!(rt; unpacked.read(&mut buf), Ok(1));
     assert_eq!(rt; buf[0], b'a');

@@ -1,2 +1,3 @@
 pub mod Codes
 mod Letter
+mod Pieces

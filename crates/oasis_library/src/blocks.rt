@@ -83,7 +83,7 @@ fn take_block(
     ensures kept { OnOk result ((is : List Item) → HasRead profile reading.old is → (rs : List ARecord)
         × HasInside profile is packed.now rs × HasRead profile reading.new (is ++ block packed.now rs ∷ [])) }
 {
-    let unpacked = match packed.unpack(alloc, reading.room) {
+    let unpacked = match packed.unpack(alloc, &mut reading.unpacker, reading.room) {
         Ok(unpacked) => unpacked,
         Err(refusal) => return Err(of_block(refusal)),
     };

@@ -17,13 +17,14 @@ use crate::resolve::resolve_cells;
 use lvl_cells::Library;
 use lvl_profile::Profile;
 use lvl_refusal::Cause;
+use oasis_blocks::Unpacker;
 use oasis_figures::{Drawn, FigureRule, Modal};
 use oasis_records::Record;
 use oasis_stream::{NameRule, OasisKind, Order};
 use std::alloc::Global;
 
 /// What was read so far: which records may come next, the names, the modal variables of the last cell, the
-/// cells, what START and END say, and how many bytes may still be unpacked.
+/// cells, what START and END say, the memory that blocks share, and how many bytes may still be unpacked.
 #[derive(Drop)]
 pub(crate) struct Reading {
     order: Order,
@@ -31,6 +32,7 @@ pub(crate) struct Reading {
     modal: Modal,
     cells: Cells,
     head: HeadRecords,
+    pub(crate) unpacker: Unpacker,
     pub(crate) room: u64,
 }
 
@@ -70,6 +72,7 @@ impl Reading {
             modal: Modal::new(),
             cells: Cells::new(alloc),
             head: HeadRecords::new(),
+            unpacker: Unpacker::new(),
             room,
         }
     }
@@ -123,6 +126,7 @@ impl Reading {
             modal: _modal,
             cells,
             head,
+            unpacker: _unpacker,
             room: _,
         } = self;
         let cells = resolve_cells(alloc, &names, cells.into_drawings(alloc)?)?;

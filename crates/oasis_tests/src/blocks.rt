@@ -4,6 +4,7 @@ use lvl_io::Read;
 use lvl_io::fake::Pieces;
 use lvl_profile::Profile;
 use lvl_refusal::Cause;
+use oasis_blocks::Unpacker;
 use oasis_records::{
     CellRef, Record, RecordFault, RecordRule, RecordType, Start, Validation, read_fields,
 };
@@ -30,7 +31,7 @@ fn a_block(rt: HostRuntime) -> Result<(), Fail> {
         return Err("no block".into());
     };
     assert_eq!(rt; block.count(), 1);
-    let mut unpacked = block.unpack(rt.alloc(), 1)?;
+    let mut unpacked = block.unpack(rt.alloc(), &mut Unpacker::new(), 1)?;
     let mut buf = [0; 8];
     assert_eq!(rt; unpacked.read(&mut buf), Ok(1));
     assert_eq!(rt; buf[0], b'a');

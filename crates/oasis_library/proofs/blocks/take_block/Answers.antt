@@ -1,10 +1,25 @@
 use Rattle.std.proofs.Common.{◌≡◌, ◌≤◌, ◌∷◌, [], ◌++◌, List, length, refl, sym, ap, ◌∙◌, subst, arith}
 use Rattle.std.specs.Prelude.{Some}
 use Rattle.oasis_values.specs.Input.{input_profile, bytes_left}
+use Rattle.oasis_blocks.specs.declared.unpack.Unpacker.{Unpacker}
+use Rattle.oasis_records.specs.declared.record.Record.{Record}
 use Rattle.oasis_stream.specs.Items.{records}
+use Rattle.oasis_library.specs.declared.reading.Reading.{Reading}
+use Rattle.oasis_library.specs.inside.Holds.{Holds}
 use Rattle.oasis_library.proofs.Inside.{unpack_says, inside_breaks, block_taken, block_room}
 use Rattle.oasis_library.proofs.Resolving.{says_carried}
 use Rattle.oasis_library.proofs.blocks.take_block.Goals as goal
+
+-- what was read is the same in other memory for blocks
+held_with : (x : Reading) (u : Unpacker) (rs : List Record) → Holds x rs → Holds (record x { unpacker = u }) rs
+held_with x u rs h = record {
+  order = h.order;
+  names = h.names;
+  modal = h.modal;
+  cells = h.cells;
+  unit = h.unit;
+  validation = h.validation;
+}
 
 pub returns-in-Err-clause-refused : goal.returns-in-Err-clause-refused
 returns-in-Err-clause-refused c =
@@ -16,7 +31,7 @@ take_inside-requires c =
     let u = c.in-Ok.ensures.unpacks in
     let w = c.requires in
     record {
-      held = (records w.0, w.1.holds);
+      held = (records w.0, held_with c.args.reading.now c.unpack.new.unpacker (records w.0) w.1.holds);
       fresh = c.new-input.ensures.failed;
       start = c.new-input.ensures.offset;
       counted = λ ys k.
@@ -32,7 +47,7 @@ returns-in_err-take_inside-clause-refused c =
     let refused = rw c.new-input.ensures.profile at c.in_err-take_inside.ensures.refused in
     says_carried _ _ c.from_residual.result c.in_err-take_inside.field-0.0
     (λ f s. λ is h. inside_breaks c.args.profile c.args.reading.now c.args.packed.now c.in-Ok.unpacked _ is
-    c.in-Ok.ensures.unpacks c.in-Ok.ensures.within h (s (records is) c.in-Ok.unpacked h.holds c.new-input.ensures.bytes))
+    c.in-Ok.ensures.unpacks c.in-Ok.ensures.within h (s (records is) c.in-Ok.unpacked (held_with c.args.reading.now c.unpack.new.unpacker (records is) h.holds) c.new-input.ensures.bytes))
     refused c.from_residual.ensures
 
 pub returns-clause-kept : goal.returns-clause-kept
@@ -40,7 +55,8 @@ returns-clause-kept c = λ is h.
     let whole = rw c.new-input.ensures.profile at c.in_ok-take_inside.ensures.whole in
     let taken = block_taken c.args.profile c.args.reading.now c.take_inside.new.reading c.args.packed.now c.in-Ok.unpacked
     is c.in-Ok.ensures.unpacks c.in-Ok.ensures.within h
-    (whole (records is) c.in-Ok.unpacked h.holds c.new-input.ensures.bytes) in (
+    (whole (records is) c.in-Ok.unpacked
+    (held_with c.args.reading.now c.unpack.new.unpacker (records is) h.holds) c.new-input.ensures.bytes) in (
       taken.0,
       taken.1,
       record {
