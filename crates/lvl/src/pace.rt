@@ -24,13 +24,13 @@ impl Points {
     }
 }
 
-/// How wide the next strip may be, how many points the rings may have in it, and how many more
-/// strips may be halved with this number of points.
+/// How wide the next strip may be, how many points the rings may have in it (`least`, or `points` if
+/// they can't be joined so far), and how many more strips may be halved with these numbers.
 #[derive(Clone, Copy)]
 pub(crate) struct Pace {
     pub width: u64,
     pub points: usize,
-    least: usize,
+    pub least: usize,
     tries: u32,
 }
 
