@@ -138,6 +138,13 @@ def polygons():
         gds_cell("TOP", array), gds_cell("A", ring)))
 
 
+def full_columns():
+    """Files that have about a million points in every column."""
+    n, m = 1_000_000, 200_000
+    yield case("a column of %d squares" % n, n, one(rectangle(0, 0, 1, 1, 1, column(n, 2))))
+    yield case("%d bars, 10^9 wide" % m, m, one(rectangle(0, 0, 10**9, 1, 1, column(m, 2))))
+
+
 def small_cells():
     def gds(n):
         return gds_file(
@@ -539,9 +546,9 @@ def deceptive():
 
 
 GROUPS = [
-    deep_chains, hierarchies, cells_that_double, arrays_of_arrays, cells_that_differ, paths, polygons, small_cells,
-    records, repetitions, tables, layers, wires, overlaps, scattered, views, far_combs, far_spirals, far_stairs,
-    far_rounds, far_bars, far_lines, deceptive, long_bars, many_places, layers_and_lists,
+    deep_chains, hierarchies, cells_that_double, arrays_of_arrays, cells_that_differ, paths, polygons, full_columns,
+    small_cells, records, repetitions, tables, layers, wires, overlaps, scattered, views, far_combs, far_spirals,
+    far_stairs, far_rounds, far_bars, far_lines, deceptive, long_bars, many_places, layers_and_lists,
 ]
 
 

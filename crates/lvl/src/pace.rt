@@ -7,6 +7,9 @@ use lvl_grid::Window;
 /// halved without end where dense columns and empty ones take turns.
 const MOST_TRIES: u32 = 256;
 
+/// How many more strips may be halved after a strip that has used much of its room.
+const PAID_TRIES: u32 = 4;
+
 /// How many points the rings of a strip have, and how many of them are on its left and right sides.
 #[derive(Clone, Copy)]
 pub(crate) struct Points {
@@ -15,19 +18,34 @@ pub(crate) struct Points {
 }
 
 impl Points {
-    /// Whether most of the rings go on beyond the strip.
-    fn are_on_sides(self) -> bool {
-        self.on_sides > self.all / 4 * 3
+    /// The number of points that aren't on the sides.
+    fn inner(self) -> usize {
+        self.all.saturating_sub(self.on_sides)
     }
 }
 
-/// How wide the next strip may be, how many points the rings may have in it, and how many more
-/// strips may be halved with this number of points.
+/// How wide the next strip may be, how many points the rings may have in it (`least`, or `points` if
+/// they can't be joined so far), and how many more strips may be halved with these numbers.
 #[derive(Clone, Copy)]
 pub(crate) struct Pace {
     pub width: u64,
     pub points: usize,
+    pub least: usize,
     tries: u32,
+}
+
+/// The width of the strip after one of this width, with `inner` points where there was room for
+/// `room`: twice as wide after a third of them, and much wider after next to none.
+fn next_width(width: u64, inner: usize, room: usize) -> u64
+    ensures { 0 < width → 0 < result }
+{
+    if inner <= room / 64 {
+        return width.saturating_mul(32);
+    }
+    if inner <= room / 3 {
+        return width.saturating_mul(2);
+    }
+    width
 }
 
 impl Pace {
@@ -38,31 +56,29 @@ impl Pace {
         Pace {
             width: window.x0.abs_diff(window.x1).max(1),
             points,
+            least: points,
             tries: MOST_TRIES,
         }
     }
 
-    /// The pace after a strip of this width with these points. The next strip may be twice as wide
-    /// if this one had at most a third of the points that it might have. If it had more than half of
-    /// them and most were of rings that go on beyond it, the next may have twice as many: narrow
-    /// strips don't help there.
+    /// The pace after a strip of this width with these points. Rings that go on beyond the strip are
+    /// in the next one too, however narrow it is. So there is room for as many points besides, and
+    /// only these say whether the next strip may be wider.
     pub(crate) fn after(self, width: u64, points: Points) -> Pace
         ensures { 0 < width → 0 < result.width }
     {
-        let width = if points.all <= self.points / 3 {
-            width.saturating_mul(2)
+        let most = self.least.max(points.on_sides.saturating_mul(2));
+        let room = most.saturating_sub(points.on_sides);
+        let paid = if points.all > self.points / 3 {
+            PAID_TRIES
         } else {
-            width
-        };
-        let most = if points.all > self.points / 2 && points.are_on_sides() {
-            self.points.max(points.all).saturating_mul(2)
-        } else {
-            self.points
+            0
         };
         Pace {
-            width,
+            width: next_width(width, points.inner(), room),
             points: most,
-            tries: self.tries,
+            least: self.least,
+            tries: self.tries.saturating_add(paid).min(MOST_TRIES),
         }
     }
 
@@ -74,13 +90,15 @@ impl Pace {
         if self.tries > 0 {
             return Pace {
                 width,
-                points: self.points,
                 tries: self.tries - 1,
+                ..self
             };
         }
+        let more = self.points.saturating_mul(2).saturating_add(1);
         Pace {
             width,
-            points: self.points.saturating_mul(2).saturating_add(1),
+            points: more,
+            least: more,
             tries: MOST_TRIES,
         }
     }

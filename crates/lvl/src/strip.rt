@@ -63,6 +63,27 @@ fn end_of(window: &Window, from: i64, width: u64) -> i64
     from.saturating_add_unsigned(width).min(window.x1)
 }
 
+/// The rings of some Layers in the columns of a strip, with as few points as the pace has room for. A
+/// list that is full is joined, so a shorter one is tried first.
+fn rings_in(
+    alloc: Global,
+    fitted: &Fitted,
+    layers: &[Layer],
+    columns: &Window,
+    pace: Pace,
+) -> Result<Flat, AllocError>
+    requires { AllPairs ComesBefore layers.now }
+    ensures { IfOk result (IsFlattenedWithin fitted.now layers.now columns.now) }
+{
+    if let Ok(flat) = fitted.within(alloc, layers, columns, pace.least) {
+        return Ok(flat);
+    }
+    if pace.points <= pace.least {
+        return Err(AllocError);
+    }
+    fitted.within(alloc, layers, columns, pace.points)
+}
+
 /// The rings of some Layers in the strip of a window that begins at `from`. The strip is at most as
 /// wide as the pace allows, and is halved until it doesn't have too many points and fits in memory.
 /// A strip of width 1 may have any number of points.
@@ -85,7 +106,7 @@ pub(crate) fn next_strip(
 {
     let end = end_of(window, from, pace.width);
     let columns = columns_around(window, from, end);
-    if let Ok(flat) = fitted.within(alloc, layers, &columns, pace.points) {
+    if let Ok(flat) = rings_in(alloc, fitted, layers, &columns, pace) {
         let pace = pace.after(pace.width, points_of(&flat, &columns));
         return Ok(Strip { flat, end, pace });
     }

@@ -1,5 +1,5 @@
 //! The corners of the rectangles that the bands of a sweep consist of.
-ghost use Rattle.std.specs.Prelude.{◌≡◌, ◌≤◌, ◌-◌, ◌+ℤ◌, ◌-ℤ◌, ℤ, pos, cond, take, drop, length, IfOk, OnOk};
+ghost use Rattle.std.specs.Prelude.{◌≡◌, ◌+ℤ◌, ◌-ℤ◌, ℤ, pos, cond, IfOk, OnOk};
 ghost use Rattle.std.specs.Ordering.{int_eq};
 ghost use Rattle.lvl_grid.specs.Winding.{SomeCovers};
 ghost use Rattle.lvl_sweep.specs.Bands.{slab_of};
@@ -54,38 +54,36 @@ fn push_row(
     Ok(())
 }
 
-/// How many of the first intervals of two rows are the same.
-fn common_front(first: &[(i64, i64)], second: &[(i64, i64)]) -> usize
-    ensures within_first { result ≤ length first.now }
-    ensures within_second { result ≤ length second.now }
-    ensures same { take result first.now ≡ take result second.now }
+/// Appends both ends of an interval at the ordinate `y`, unless they are the same abscissa.
+fn push_change(marks: &mut Vec<Mark>, y: i64, interval: (i64, i64)) -> Result<(), AllocError>
+    ensures { OnOk result ((x z : ℤ) → net x z marks.new.items
+        ≡ net x z marks.old.items +ℤ cond (int_eq y z) (interval_step x interval) (pos 0)) }
 {
-    let most = first.len().min(second.len());
-    for i in 0..most {
-        if first[i] != second[i] {
-            return i;
-        }
+    if interval.0 == interval.1 {
+        return Ok(());
     }
-    most
+    push_interval(marks, y, interval, true)?;
+    Ok(())
 }
 
-/// How many of the last intervals of two rows are the same.
-fn common_back(first: &[(i64, i64)], second: &[(i64, i64)]) -> usize
-    ensures within_first { result ≤ length first.now }
-    ensures within_second { result ≤ length second.now }
-    ensures same { drop (length first.now - result) first.now ≡ drop (length second.now - result) second.now }
+/// Appends those ends of two intervals that differ, at the ordinate `y` at which the band of the
+/// first ends and that of the second begins.
+fn push_changes(
+    marks: &mut Vec<Mark>,
+    y: i64,
+    before: (i64, i64),
+    after: (i64, i64),
+) -> Result<(), AllocError>
+    ensures { OnOk result ((x z : ℤ) → net x z marks.new.items ≡ net x z marks.old.items
+        +ℤ cond (int_eq y z) (interval_step x after -ℤ interval_step x before) (pos 0)) }
 {
-    let most = first.len().min(second.len());
-    for i in 0..most {
-        if first[first.len() - 1 - i] != second[second.len() - 1 - i] {
-            return i;
-        }
-    }
-    most
+    push_change(marks, y, (after.0, before.0))?;
+    push_change(marks, y, (before.1, after.1))?;
+    Ok(())
 }
 
-/// Appends the ends of the intervals of the row at which one band ends and the next begins. What is
-/// in both rows at their fronts and at their backs cancels, and is left out.
+/// Appends the ends of the intervals of the row at which one band ends and the next begins. Both
+/// rows are in order, and ends that are in both cancel, and are left out.
 fn push_between(
     marks: &mut Vec<Mark>,
     y: i64,
@@ -95,12 +93,25 @@ fn push_between(
     ensures { OnOk result ((x z : ℤ) → net x z marks.new.items ≡ net x z marks.old.items
         +ℤ cond (int_eq y z) (row_step x after.now -ℤ row_step x before.now) (pos 0)) }
 {
-    let front = common_front(before, after);
-    let ours = &before[front..];
-    let theirs = &after[front..];
-    let back = common_back(ours, theirs);
-    push_row(marks, y, &ours[..ours.len() - back], false)?;
-    push_row(marks, y, &theirs[..theirs.len() - back], true)?;
+    let mut i = 0;
+    let mut j = 0;
+    while i < before.len() && j < after.len() {
+        let ours = before[i];
+        let theirs = after[j];
+        if ours.0 == theirs.0 || ours.1 == theirs.1 {
+            push_changes(marks, y, ours, theirs)?;
+            i += 1;
+            j += 1;
+        } else if ours.0 < theirs.0 {
+            push_interval(marks, y, ours, false)?;
+            i += 1;
+        } else {
+            push_interval(marks, y, theirs, true)?;
+            j += 1;
+        }
+    }
+    push_row(marks, y, &before[i..], false)?;
+    push_row(marks, y, &after[j..], true)?;
     Ok(())
 }
 
