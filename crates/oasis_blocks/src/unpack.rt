@@ -150,7 +150,7 @@ impl Block {
         unpacker.workspace = Some(inflate.into_workspace());
         let again = unpacker.begin(alloc, &self.bytes)?;
         Ok(Unpacked {
-            source: Source::Packed(again),
+            source: Source::Packed(Box::new(alloc, again)?),
         })
     }
 }

@@ -35,7 +35,7 @@ pub(crate) enum Source<'a> {
     /// They are unpacked.
     Plain(Stored),
     /// They are unpacked as they are read.
-    Packed(Inflate<Slice<'a>>),
+    Packed(Box<Inflate<Slice<'a>>>),
 }
 
 /// A reader of the bytes of a block, unpacked. It never fails. Its value is the bytes that it still gives.

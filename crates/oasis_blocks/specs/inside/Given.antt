@@ -7,4 +7,4 @@ use Rattle.oasis_blocks.specs.declared.unpacked.Source.TheVariants.{Plain, Packe
 -- those in memory that were not given yet, or those that packed bytes spell, if they spell any
 abbrev pub bytes_in : Source → Option (List ℕ)
 bytes_in (Plain stored) = Some (drop stored.given stored.bytes.items)
-bytes_in (Packed inflate) = left_of Some inflate
+bytes_in (Packed inflate) = left_of Some inflate.value
