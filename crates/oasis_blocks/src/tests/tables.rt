@@ -152,7 +152,7 @@ Truncated;
 Truncated
 ";
 
-/// A block of 200,000 bytes, all 0, in 211 packed bytes.
+/// A block of 17,000,000 bytes, all 0, in 16,540 packed bytes.
 pub(crate) const BOMB: &str = "\
 c0 cc 8d 08 9c 81 01 ec c1 01*2 00*3 80 90 fe af ee 08 0a 00*4094 80 d9 83 03 01 00*4 20 ff d7 46 50
 55*4095 61 0f 0e 04 00*4 80 fc 5f 1b 41 55*4095 85 3d 38 10 00*5 f2 7f 6d 04 55*4095 95 f6 e0 90
