@@ -80,7 +80,7 @@ fn counts_of_a_layer(rt: HostRuntime) -> Result<(), Fail> {
         layer: METAL,
         rings: 6,
     };
-    assert!(rt; counts.as_slice() == [metal].as_slice());
+    assert_eq!(rt; counts.as_slice(), [metal].as_slice());
     Ok(())
 }
 
