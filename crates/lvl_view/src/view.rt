@@ -139,6 +139,13 @@ impl View {
         !self.pairs.is_empty()
     }
 
+    /// The sources of the map, in the order of its text.
+    pub fn sources(&self, alloc: Global) -> Result<Vec<Layer>, AllocError>
+        ensures { IfOk result (λ list. list.items ≡ sources self.now.pairs) }
+    {
+        self.pairs.iter().map(|pair| pair.source).collect(alloc)
+    }
+
     /// The window, if there is one.
     pub fn window(&self) -> Option<&Window>
         ensures { option_map (λ w. w.now) result ≡ self.now.window }
