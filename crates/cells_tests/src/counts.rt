@@ -1,9 +1,10 @@
 //! How many rings libraries place on each Layer.
 use crate::libraries::library;
-use crate::words::{check_text, cut, rows_hold};
+use crate::words::{check_text, cut, layer, rows_hold};
 use lvl_cells::{Checked, check};
-use lvl_count::{LayerRings, rings_by_layer};
+use lvl_count::{LayerRings, first_undrawn, rings_by_layer};
 use lvl_names::Layer;
+use lvl_view::View;
 use std::alloc::{AllocError, Global};
 use std::test::Fail;
 
@@ -69,6 +70,43 @@ fn row_is_counted(alloc: Global, row: &str) -> Result<bool, Fail> {
 #[test]
 fn counts(rt: HostRuntime) -> Result<(), Fail> {
     rows_hold(rt.alloc(), COUNTS, row_is_counted)
+}
+
+/// What a library is, the library, a map, and the first source of the map on which no cell has a shape.
+const UNDRAWN: &str = "\
+no map | T 1/0:1*1x1 | - | -
+a source that is drawn | T 1/0:1*1x1 | 1/0=5/0 | -
+another datatype | T 1/0:1*1x1 | 1/1=5/0 | 1/1
+another layer | T 1/0:1*1x1 | 2/0=1/0 | 2/0
+the first in the order of the map | T 1/0:1*1x1 | 1/0=2/0,9/0=3/0,4/0=1/0 | 9/0
+a cell that is not placed | T 1/0:1*1x1; X 2/0:1*1x1 | 2/0=1/0 | -
+a library with two tops and a name twice | T 1/0:1*1x1; A 3/0:1*1x1 T 2/0:1*1x1; A | 2/0=1/0,3/0=4/0,5/0=1/0 | 5/0
+Layers by turns | T 2/0:1*1x1 1/0:1*1x1 1/0:1*1x1 2/0:1*1x1 3/7:1*1x1 | 1/0=9/0,2/0=9/0,3/7=9/0,3/0=9/0 | 3/0
+a shape of no rings | T 2/0:0*1x1 | 2/0=1/0 | -
+no shapes | T | 1/0=2/0 | 1/0
+";
+
+/// The Layer of a word, or none for a dash.
+fn given_layer(word: &str) -> Result<Option<Layer>, Fail> {
+    if word == "-" {
+        return Ok(None);
+    }
+    Ok(Some(layer(word)?))
+}
+
+/// Whether the library of a row has the undrawn source that it says.
+fn row_is_undrawn(alloc: Global, row: &str) -> Result<bool, Fail> {
+    let (_, row) = cut(row, " | ");
+    let (text, row) = cut(row, " | ");
+    let (map, want) = cut(row, " | ");
+    let library = library(alloc, text)?;
+    let view = View::read(alloc, if map == "-" { None } else { Some(map) }, None)?;
+    Ok(first_undrawn(alloc, &library.cells, &view)? == given_layer(want)?)
+}
+
+#[test]
+fn undrawn_sources(rt: HostRuntime) -> Result<(), Fail> {
+    rows_hold(rt.alloc(), UNDRAWN, row_is_undrawn)
 }
 
 #[test]

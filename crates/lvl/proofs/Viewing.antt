@@ -1,5 +1,5 @@
 -- From a verdict on what the tops cover under a view to what the bytes of the files spell.
-use Rattle.std.proofs.Common.{◌≡◌, ◌↔◌, List, Some, slice_get, subst, sym}
+use Rattle.std.proofs.Common.{◌≡◌, ◌↔◌, ◌∙◌, List, Option, Some, slice_get, ap, subst, sym}
 use Rattle.std.specs.Prelude.{IfErr, IfSome, IsErr, IsErrAnd, Result, Ok, Err}
 use Rattle.lvl_grid.specs.declared.point.Square.{Square}
 use Rattle.lvl_grid.specs.Winding.{SomeCovers}
@@ -11,7 +11,10 @@ use Rattle.lvl_columns.specs.Windows.{IsShown}
 use Rattle.lvl_flat.specs.Flattened.{AllInRange, IsTopInRange, TopCovers}
 use Rattle.lvl_region.specs.declared.region.Side.TheVariants.{First, Second}
 use Rattle.lvl_changed.proofs.Unchanged.{moved_none}
-use Rattle.lvl_view.specs.Views.{IsWhole, PlainView}
+use Rattle.lvl_count.specs.Drawn.{first_undrawn}
+use Rattle.lvl_count.proofs.Drawing.{undrawn_kept}
+use Rattle.lvl_path.specs.Figure.{figure_rings}
+use Rattle.lvl_view.specs.Views.{IsWhole, PlainView, sources}
 use Rattle.lvl_view.specs.Moved.{IsMoved}
 use Rattle.lvl_view.specs.declared.map.LayerPair.{LayerPair}
 use Rattle.lvl.specs.declared.layout.Head.{Head}
@@ -107,11 +110,15 @@ pub compared_in : (view : PlainView) (a b : File) (ours theirs : List (PlainCell
     → IsLayoutOf a.profile a.bytes ours g → IsLayoutOf b.profile b.bytes theirs h
     → (v : Verdict)
     → IsKeptVerdict view (record { limits = a.profile.limits; cells = ours; top = a.top }) (record { limits = b.profile.limits; cells = theirs; top = b.top }) v
-    → IsComparedIn view a b (record { first = g; second = h; verdict = v })
-compared_in view a b ours theirs g h p q v k = record {
+    → (u : Option Layer) → u ≡ first_undrawn theirs (sources view.pairs)
+    → IsComparedIn view a b (record { first = g; second = h; verdict = v; undrawn = u })
+compared_in view a b ours theirs g h p q v k u is = record {
   first = (p.cells, p.spelled);
   second = (q.cells, q.spelled);
   verdict = kept_viewed view a b ours theirs g h p q v k;
+  undrawn =
+      is ∙ ap (λ cells. first_undrawn cells (sources view.pairs)) q.kept_as
+      ∙ undrawn_kept figure_rings q.cells (sources view.pairs);
 }
 
 -- a library that passed the check, and whose top is in range

@@ -124,11 +124,12 @@ pub record IsHopeless (profile : Profile) (xs : List ℕ) (left : Option (List �
   pub left_is : left ≡ Some rest
   pub none : (more : List ℕ) → SpellsSome profile (taken ++ more) → ⊥
 
--- the heads are those that the bytes spell, and the verdict is true
+-- the heads are those that the bytes spell, and the verdict is true; there is no map
 pub record IsCompared (a b : File) (c : Comparison) : Type 0 where
   pub first : HasHead a.profile a.bytes c.first
   pub second : HasHead b.profile b.bytes c.second
   pub verdict : IsVerdict a b c.verdict
+  pub undrawn : c.undrawn ≡ None
 
 -- the fault is a failed read
 abbrev pub read_failed : FileFault → Bool

@@ -2,14 +2,15 @@
 ghost use Rattle.std.specs.Prelude.{◌≡◌, false, List, ℕ, None, Some, Ok, Err, IfOk, IfErr, IsTrue};
 ghost use Rattle.lvl_io.specs.Bytes.{CountsFailure};
 ghost use Rattle.lvl_region.specs.declared.region.Side.TheVariants.{First, Second};
-ghost use Rattle.lvl_names.specs.declared.layer.Layer.{Layer};
+ghost use Rattle.lvl_count.specs.Drawn.{first_undrawn};
+ghost use Rattle.lvl_names.specs.declared.layer.Layer.{Layer as PlainLayer};
 ghost use Rattle.lvl_grid.specs.declared.point.Square.{Square};
 ghost use Rattle.lvl_region.specs.declared.region.Side.{Side as WhichSide};
 ghost use Rattle.lvl_profile.specs.Profiles.{strict};
-ghost use Rattle.lvl_view.specs.Views.{IsWhole};
+ghost use Rattle.lvl_view.specs.Views.{IsWhole, sources};
 ghost use Rattle.lvl.specs.declared.layout.FileFault.{FileFault as FaultOfFile};
 ghost use Rattle.lvl.specs.declared.verdict.Verdict.TheVariants.{Same, Differ};
-ghost use Rattle.lvl.specs.declared.verdict.Refusal.TheVariants.{File as FileRefused};
+ghost use Rattle.lvl.specs.declared.verdict.Refusal.TheVariants.{File as FileRefused, OutOfMemory};
 ghost use Rattle.lvl.specs.Accepted.{AreSame, AreDifferent, IsUnaccepted, IsVerdict};
 ghost use Rattle.lvl.specs.Kept.{Kept, IsCheckedAs, IsKeptVerdict, IsKeptRefusal};
 ghost use Rattle.lvl.specs.Measured.{IfCompared, IfUncompared, IsAfterSteps, IsBySteps, IsMeasuredIn, WasCompared};
@@ -26,13 +27,27 @@ use crate::side::{check_side, fit_side, read_side};
 use crate::steps::may_compare;
 use crate::verdict::{Comparison, Refusal, Tops, Verdict};
 use lvl_cells::{Checked, Library};
+use lvl_count::first_undrawn;
 use lvl_io::Read;
+use lvl_names::Layer;
 use lvl_profile::{Limits, Profile};
 use lvl_region::Side;
 use lvl_view::View;
 use std::alloc::Global;
 
-/// Checks the libraries of both files and compares them under the view.
+/// The first source of the map on which no cell of the second library has a shape, if there is one.
+fn undrawn_of(alloc: Global, library: &Library, view: &View) -> Result<Option<Layer>, Refusal>
+    ensures undrawn { IfOk result (λ found. found ≡ first_undrawn library.now (sources view.now.pairs)) }
+    ensures memory { IfErr result (λ refusal. refusal ≡ OutOfMemory) }
+{
+    match first_undrawn(alloc, &library.cells, view) {
+        Ok(found) => Ok(found),
+        Err(_) => Err(Refusal::OutOfMemory),
+    }
+}
+
+/// Checks the libraries of both files and compares them under the view. Returns the verdict, and which source of the map
+/// says nothing of the second library.
 fn compare_libraries(
     alloc: Global,
     limits: Limits,
@@ -41,18 +56,21 @@ fn compare_libraries(
     tops: &Tops,
     view: &View,
     explained: bool,
-) -> Result<Judged, Refusal>
-    ensures verdict { IfOk result (λ judged. IsKeptVerdict view.now
-        (library_of limits ours tops.now.first) (library_of limits theirs tops.now.second) judged.verdict) }
-    ensures reason { IsTrue explained → IfOk result (λ judged. IsKeptReason view.now
-        (library_of limits ours tops.now.first) (library_of limits theirs tops.now.second) judged.verdict judged.why) }
-    ensures plain { explained ≡ false → IfOk result (λ judged. judged.why ≡ None) }
+) -> Result<(Judged, Option<Layer>), Refusal>
+    ensures verdict { IfOk result (λ found. IsKeptVerdict view.now
+        (library_of limits ours tops.now.first) (library_of limits theirs tops.now.second) found.0.verdict) }
+    ensures reason { IsTrue explained → IfOk result (λ found. IsKeptReason view.now
+        (library_of limits ours tops.now.first) (library_of limits theirs tops.now.second) found.0.verdict found.0.why) }
+    ensures plain { explained ≡ false → IfOk result (λ found. found.0.why ≡ None) }
+    ensures undrawn { IfOk result (λ found. found.1 ≡ first_undrawn theirs (sources view.now.pairs)) }
     ensures refused { IfErr result
         (IsKeptRefusal (library_of limits ours tops.now.first) (library_of limits theirs tops.now.second)) }
 {
+    let undrawn = undrawn_of(alloc, &theirs, view)?;
     let ours = check_side(alloc, Side::First, limits, ours, &tops.first)?;
     let theirs = check_side(alloc, Side::Second, limits, theirs, &tops.second)?;
-    compare_checked(alloc, ours, theirs, view, explained)
+    let judged = compare_checked(alloc, ours, theirs, view, explained)?;
+    Ok((judged, undrawn))
 }
 
 /// Compares two sound libraries under the view.
@@ -97,7 +115,7 @@ pub fn compare_layouts<A: Read, B: Read>(
         → result ≡ Ok Same
         → AreSame (file strict xs tops.now.first) (file strict ys tops.now.second) }
     ensures differ { (xs ys : List ℕ) → A.remaining first.old ≡ Some xs → B.remaining second.old ≡ Some ys
-        → (layer : Layer) (square : Square) (side : WhichSide) → result ≡ Ok (Differ layer square side)
+        → (layer : PlainLayer) (square : Square) (side : WhichSide) → result ≡ Ok (Differ layer square side)
         → AreDifferent (file strict xs tops.now.first) (file strict ys tops.now.second) layer square side }
     ensures first_refused { (xs : List ℕ) → A.remaining first.old ≡ Some xs
         → IfErr result (λ r. Blames First r → IsUnaccepted (file strict xs tops.now.first)) }
@@ -232,18 +250,19 @@ fn compare_both<A: Read, B: Read>(
         return Ok(Measured::StepsDiffer { first, second });
     }
     let limits = profile.limits;
-    let judged = compare_libraries(alloc, limits, ours, theirs, tops, view, asked.reason)?;
+    let (judged, undrawn) = compare_libraries(alloc, limits, ours, theirs, tops, view, asked.reason)?;
     let Judged { verdict, why } = judged;
     let comparison = Comparison {
         first,
         second,
         verdict,
+        undrawn,
     };
     Ok(Measured::Compared(Explained { comparison, why }))
 }
 
-/// Compares two files under a view and a profile, and returns the head of each and the verdict of
-/// [`compare_view`]. The second file isn't read if the first is refused. [`compare_layouts`] and
+/// Compares two files under a view and a profile, and returns the head of each, the verdict of [`compare_view`], and the
+/// first source of the map on which no cell of the second file has a shape. The second file isn't read if the first is refused. [`compare_layouts`] and
 /// [`compare_view`] are this call with the standard profile and without the heads.
 pub fn compare_files<A: Read, B: Read>(
     alloc: Global,

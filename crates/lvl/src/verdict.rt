@@ -30,12 +30,16 @@ pub enum Verdict {
     },
 }
 
-/// Two layouts that were compared: what each file says about itself, and the verdict.
+/// Two layouts that were compared: what each file says about itself, the verdict, and whether the map says nothing of
+/// the second file.
 #[derive(Clone, Copy, Debug, PartialEq, Eq)]
 pub struct Comparison {
     pub first: Head,
     pub second: Head,
     pub verdict: Verdict,
+    /// The first source of the map on which no cell of the second file has a shape, if there is one. What it says is
+    /// then said of nothing, as if its number were mistyped (own rule).
+    pub undrawn: Option<Layer>,
 }
 
 /// Why the cells of a file aren't sound for its top, or place too much.

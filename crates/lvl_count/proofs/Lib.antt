@@ -3,3 +3,4 @@ pub mod Adding
 pub mod Growing
 pub mod Totals
 pub mod Referring
+pub mod Drawing

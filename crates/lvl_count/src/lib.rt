@@ -6,8 +6,8 @@
 //! cell is placed. Time and memory depend on the size of the library, and not on how much it
 //! places.
 //!
-//! [`listed_cells`] lists the cells of a library, sound or not, and [`top_names`] gives the names of
-//! those that could be its top.
+//! [`listed_cells`] lists the cells of a library, sound or not, [`top_names`] gives the names of
+//! those that could be its top, and [`first_undrawn`] a Layer on which none of them has a shape.
 //!
 //! Here `checked` is a library whose top places a cell at 3 by 2 places, and that cell draws a
 //! square on `METAL`:
@@ -25,8 +25,10 @@
 #![tactic(auto)]
 
 pub use counts::{LayerRings, rings_by_layer};
+pub use drawn::first_undrawn;
 pub use listed::{ListedCell, listed_cells, top_names};
 
 mod counts;
+mod drawn;
 mod layers;
 mod listed;

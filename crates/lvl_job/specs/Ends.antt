@@ -98,8 +98,8 @@ said_of files (Some hint) text = front_of_line files ++ hint_words hint
 said_of files None (Some text) = text
 said_of files None None = []
 
--- what a job writes to standard error: the hint of its answer if it has one, or else which cells could be the top or that
--- the grid steps of two files differ; or why there is no answer. A job on one file has its name in the hint
+-- what a job writes to standard error: the hint of its answer if it has one, or else which cells could be the top, that
+-- the grid steps of two files differ and that a source of the map says nothing of the second; or why there is no answer. A job on one file has its name in the hint
 abbrev pub end_text : List (List ℕ) → Result Outcome JobFault → List ℕ
 end_text files (Ok outcome) = said_of files outcome.hint (option_map (λ text. text.items) outcome.line)
 end_text files (Err fault) = fault_text fault

@@ -306,8 +306,9 @@ fn answer<F: Files, O: Write, E: Write>(
 /// opens its files by `files`, the first before the second, and writes its answer to `out`. If there is
 /// no answer, it writes one line to `err` that says why, and some reasons on a second one; if the answer is a refusal
 /// that something would mend, one line that says what, with the name of the only file; if it is a refusal since several
-/// cells could be the top, one line that names these; and if it is a verdict on files whose grid steps differ, or if
-/// they aren't compared since these must agree, one line that says so. After a refusal that none of these lines
+/// cells could be the top, one line that names these; if it is a verdict on files whose grid steps differ, or if they
+/// aren't compared since these must agree, one line that says so; and if it is a verdict under a map with a source on
+/// which no cell of the second file has a shape, one line that names it. After a refusal that none of these lines
 /// explains, its files are looked at, and one line is written for each that is a directory or gzipped.
 ///
 /// It writes an answer that [`run_by`], [`run_view_by`], [`run_why`], [`run_measured`], [`run_show_by`],

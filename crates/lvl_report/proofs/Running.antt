@@ -1,9 +1,10 @@
 -- What a run wrote, by its answer.
-use Rattle.std.proofs.Common.{◌≡◌, ℕ, List, Option, Result, Ok, Err, IfOk, OnOk, OnErr, ap, subst}
+use Rattle.std.proofs.Common.{◌≡◌, ◌∙◌, ℕ, List, Option, Result, Ok, Err, IfOk, OnOk, OnErr, ap, subst}
 use Rattle.std.specs.Io.KnownBytes.{Appends}
 use Rattle.lvl_profile.specs.declared.profile.Profile.{Profile}
 use Rattle.lvl_report.specs.declared.status.RunFault.{RunFault}
-use Rattle.lvl_view.specs.Views.{IsWhole, PlainView}
+use Rattle.lvl_count.specs.Drawn.{first_undrawn}
+use Rattle.lvl_view.specs.Views.{IsWhole, PlainView, sources}
 use Rattle.lvl.specs.Answers.{IsCompared}
 use Rattle.lvl.specs.Layouts.{File}
 use Rattle.lvl.specs.Views.{IsComparedIn}
@@ -114,6 +115,7 @@ whole_said view whole a b (Ok c) h = record {
   first = h.first;
   second = h.second;
   verdict = whole_verdict view whole a b c.verdict h.verdict;
+  undrawn = h.undrawn ∙ ap (λ pairs. first_undrawn h.verdict.both.theirs (sources pairs)) whole.no_pairs;
 }
 whole_said view whole a b (Err r) h = tt
 

@@ -37,7 +37,8 @@ use Rattle.lvl.specs.declared.verdict.Comparison.{Comparison}
 use Rattle.lvl_report.specs.Writing.{verdict_status}
 use Rattle.lvl_report.specs.declared.status.Status.{Status}
 use Rattle.lvl_report.specs.declared.status.Status.TheVariants.{Shown as ShownStatus, Refused}
-use Rattle.lvl_report.specs.Steps.{AreStepsSaid, IsDifferenceSaid}
+use Rattle.lvl_report.specs.Beside.{IsSaidBeside}
+use Rattle.lvl_report.specs.Steps.{IsDifferenceSaid}
 use Rattle.lvl_report.specs.Texts.{comparison_of}
 use Rattle.lvl_report.specs.Tops.{line_of_one, line_of_two}
 use Rattle.lvl_report.specs.declared.outcome.Outcome.{Outcome}
@@ -159,11 +160,11 @@ pub record IsEnd (status : Status) (hint : Option Hint) (Line : Option (List ℕ
   pub hint_is : o.hint ≡ hint
   pub line_is : Line (option_map (λ text. text.items) o.line)
 
--- how a run on two files ends: of a verdict its status, and whether the grid steps differ; of a refusal its hint, or
--- which cells could be the top
+-- how a run on two files ends: of a verdict its status, and what is said beside it; of a refusal its hint, or which cells
+-- could be the top
 abbrev pub IsOutcomeOf : Profile → Result Comparison Refusal → Outcome → Type 0
 IsOutcomeOf given (Ok comparison) =
-    IsEnd (verdict_status comparison.verdict) None (AreStepsSaid comparison.first comparison.second)
+    IsEnd (verdict_status comparison.verdict) None (IsSaidBeside comparison)
 IsOutcomeOf given (Err refusal) = IsEnd Refused (hint_of given refusal) (λ text. text ≡ line_of_two refusal)
 
 -- how a run ends that also gives the reason: as its comparison does

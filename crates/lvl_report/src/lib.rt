@@ -32,6 +32,7 @@ pub use runs::{
 pub use status::{RunFault, Status};
 pub use text::{form, form_shown};
 
+mod beside;
 mod digest;
 mod hint;
 mod list;

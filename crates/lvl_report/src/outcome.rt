@@ -9,9 +9,9 @@ use crate::status::Status;
 use lvl::{Comparison, Refusal, Verdict};
 use lvl_profile::Profile;
 
-/// Which answer was written; if it is a refusal, what would mend it; and what else is to be said, as a line: if the grid
-/// steps of the two files differ, that they do, beside a verdict or in place of one; and if a file is refused since
-/// several cells could be its top, which these are.
+/// Which answer was written; if it is a refusal, what would mend it; and what else is to be said, as lines: if the grid
+/// steps of the two files differ, that they do, beside a verdict or in place of one; beside a verdict that a source of the
+/// map says nothing of the second file; and if a file is refused since several cells could be its top, which these are.
 #[derive(Debug, Drop, PartialEq, Eq)]
 pub struct Outcome {
     pub status: Status,

@@ -1,11 +1,10 @@
-//! The line beside an answer: that the grid steps of two files differ, or which cells could be the top.
+//! The line that says that the grid steps of two files differ.
 ghost use Rattle.std.specs.Prelude.{◌≡◌, ◌≤◌, ◌<◌, ◌++◌, ◌^◌, IfOk, OnOk, option_map};
 ghost use Rattle.lvl.specs.Steps.{DifferInSteps};
 ghost use Rattle.lvl_report.specs.Steps.{AreStepsSaid, IsStepsLine, decimals, fraction_text, length_text, steps_text};
-ghost use Rattle.lvl_report.specs.inside.Steps.{IsLineOf, IsLineOfOne, IsRoundedTo};
+ghost use Rattle.lvl_report.specs.inside.Steps.{IsRoundedTo};
 
-use crate::tops::{line_of_one, line_of_two};
-use lvl::{Comparison, Head, Refusal, agree_in_steps};
+use lvl::{Head, agree_in_steps};
 use lvl_units::GridStep;
 use std::alloc::Global;
 use std::io;
@@ -83,38 +82,11 @@ pub(crate) fn difference_line(alloc: Global, first: &Head, second: &Head) -> io:
 }
 
 /// The line on the grid steps of two files, if they differ.
-fn steps_line(alloc: Global, first: &Head, second: &Head) -> io::Result<Option<Vec<u8>>>
+pub(crate) fn steps_line(alloc: Global, first: &Head, second: &Head) -> io::Result<Option<Vec<u8>>>
     ensures { IfOk result (λ line. AreStepsSaid first.now second.now (option_map (λ text. text.items) line)) }
 {
     if agree_in_steps(first, second) {
         return Ok(None);
     }
     Ok(Some(difference_line(alloc, first, second)?))
-}
-
-/// The line beside an answer on two files: that their grid steps differ, if it is a verdict, and which cells could be
-/// the top, if it is a refusal for that.
-pub(crate) fn line_beside(
-    alloc: Global,
-    answer: &Result<Comparison, Refusal>,
-) -> io::Result<Option<Vec<u8>>>
-    ensures { IfOk result (λ line. IsLineOf answer.now (option_map (λ text. text.items) line)) }
-{
-    match answer {
-        Ok(comparison) => steps_line(alloc, &comparison.first, &comparison.second),
-        Err(refusal) => line_of_two(alloc, refusal),
-    }
-}
-
-/// The line beside an answer on one file: which cells could be the top, if it is a refusal for that.
-pub(crate) fn line_beside_one<X>(
-    alloc: Global,
-    answer: &Result<X, Refusal>,
-) -> io::Result<Option<Vec<u8>>>
-    ensures { IfOk result (λ line. IsLineOfOne answer.now (option_map (λ text. text.items) line)) }
-{
-    match answer {
-        Ok(_) => Ok(None),
-        Err(refusal) => line_of_one(alloc, refusal),
-    }
 }

@@ -10,12 +10,13 @@ ghost use Rattle.lvl_report.specs.Hints.{IsEnd, IsMeasuredOutcome, IsOutcomeOf, 
 ghost use Rattle.lvl_report.specs.Steps.{IsDifferenceSaid};
 ghost use Rattle.lvl_report.specs.Writing.{AppendsBeginning, is_output};
 
+use crate::beside::{line_beside, line_beside_one};
 use crate::digest::form_digest;
 use crate::list::form_list;
 use crate::outcome::{Outcome, outcome_of, shown_outcome};
 use crate::output::put;
 use crate::status::{RunFault, Status};
-use crate::steps::{difference_line, line_beside, line_beside_one};
+use crate::steps::difference_line;
 use crate::text::{form, form_shown};
 use crate::why::{form_both, parts_of};
 use lvl::{CellList, Comparison, Digested, Head, Measured, Refusal, Shown, Why};

@@ -139,11 +139,11 @@ impl View {
         !self.pairs.is_empty()
     }
 
-    /// The sources of the map, in the order of its text.
-    pub fn sources(&self, alloc: Global) -> Result<Vec<Layer>, AllocError>
-        ensures { IfOk result (λ list. list.items ≡ sources self.now.pairs) }
+    /// The pairs of the map, in the order of its text.
+    pub fn pairs(&self) -> &[LayerPair]
+        ensures { result.now ≡ self.now.pairs }
     {
-        self.pairs.iter().map(|pair| pair.source).collect(alloc)
+        &self.pairs
     }
 
     /// The window, if there is one.

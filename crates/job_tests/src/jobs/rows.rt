@@ -37,7 +37,7 @@ const WHY_SQUARE: &str =
 const STEPS: &str = "lvl: the grid steps differ: 1 nm in the first file, 2 nm in the second\n";
 
 /// A job, how many files are asked for, the last line of what it writes, what it says, and its status.
-pub(super) static ROWS: [(&str, u8, &str, &str, u8); 71] = [
+pub(super) static ROWS: [(&str, u8, &str, &str, u8); 73] = [
     ("square square - - - - -", 2, "same\n", "", 0),
     ("square two - A - - -", 2, "same\n", "", 0),
     (
@@ -262,6 +262,21 @@ pub(super) static ROWS: [(&str, u8, &str, &str, u8); 71] = [
         2,
     ),
     ("none two - - 1/0 - -", 0, "", BAD_MAP, 3),
+    (
+        "square two - A 5/0=1/0,1/0=1/0 - -",
+        2,
+        "same\n",
+        "lvl: no shape of the second file is on layer 5 datatype 0, a source of --map\n",
+        0,
+    ),
+    (
+        "square tagged - - 7/4=1/0 - properties",
+        2,
+        "same\n",
+        "lvl: the grid steps differ: 1 nm in the first file, 2 nm in the second\n\
+        lvl: no shape of the second file is on layer 7 datatype 4, a source of --map\n",
+        0,
+    ),
     ("square tagged - - - - properties", 2, "same\n", STEPS, 0),
     ("units square tagged - - - - properties", 2, "", STEPS, 2),
     (

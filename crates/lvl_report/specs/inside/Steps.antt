@@ -2,7 +2,7 @@
 use Rattle.std.specs.Prelude.{◌≡◌, ⊤, ℕ, List, Option, Some, None, Result, Ok, Err}
 use Rattle.lvl.specs.declared.verdict.Comparison.{Comparison}
 use Rattle.lvl.specs.declared.verdict.Refusal.{Refusal}
-use Rattle.lvl_report.specs.Steps.{AreStepsSaid}
+use Rattle.lvl_report.specs.Beside.{IsSaidBeside}
 use Rattle.lvl_report.specs.Tops.{line_of_one, line_of_two}
 use Rattle.lvl_units.specs.Steps.{Fraction, IsNearest}
 
@@ -14,7 +14,7 @@ IsRoundedTo _ _ = ⊥
 
 -- the line beside an answer on two files
 abbrev pub IsLineOf : Result Comparison Refusal → Option (List ℕ) → Type 0
-IsLineOf (Ok comparison) text = AreStepsSaid comparison.first comparison.second text
+IsLineOf (Ok comparison) text = IsSaidBeside comparison text
 IsLineOf (Err refusal) text = text ≡ line_of_two refusal
 
 -- the line beside an answer on one file

@@ -41,7 +41,7 @@ returns-clause-compared g c xs ys known_first known_second =
     let b : File = record { profile = c.args.profile; bytes = ys; top = given_name c.args.tops.now.second } in
     compared_in c.args.view.now a b _ _ _ _ (c.in_ok-ours.ensures.read xs known_first)
     (c.in_ok-theirs.ensures.read ys known_second)
-    c.in_ok-judged.judged.verdict c.in_ok-judged.ensures.verdict
+    c.in_ok-judged.judged.verdict c.in_ok-judged.ensures.verdict c.in_ok-judged.undrawn c.in_ok-judged.ensures.undrawn
 
 pub returns-clause-reason : goal.returns-clause-reason
 returns-clause-reason g c xs ys known_first known_second asked =
