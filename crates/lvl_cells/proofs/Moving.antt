@@ -49,7 +49,7 @@ unmoved_point p =
     ap (λ x. let q : Point = record { x = x; y = p.y +ℤ pos 0 } in q) (+ℤ_idr p.x)
     ∙ ap (λ y. let q : Point = record { x = p.x; y = y } in q) (+ℤ_idr p.y)
 
-unmoved_ring : (ring : List Point) → map (shifted origin) ring ≡ ring
+pub unmoved_ring : (ring : List Point) → map (shifted origin) ring ≡ ring
 unmoved_ring [] = refl
 unmoved_ring (p ∷ ps) = rw (unmoved_point p, unmoved_ring ps) refl
 

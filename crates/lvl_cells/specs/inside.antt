@@ -9,4 +9,5 @@ pub mod Walking
 pub mod Rounding
 pub mod Topping
 pub mod Placings
+pub mod Beside
 pub mod Boxed

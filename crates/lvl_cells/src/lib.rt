@@ -57,6 +57,7 @@ mod rows;
 mod shape_lists;
 mod shapes;
 mod shared;
+mod single;
 mod targets;
 mod times;
 mod top;

@@ -8,7 +8,7 @@ ghost use Rattle.lvl_cells.specs.Cells.{shape_at};
 ghost use Rattle.lvl_cells.specs.inside.Spans.{IsPrefixOf, HasNumber};
 
 use crate::forms::Forms;
-use crate::lists::push_item;
+use crate::lists::push_lean;
 use crate::moved::MovedRing;
 use crate::shared::{figure_of_ring, figure_of_rings, move_of, number_of_move};
 use lvl_grid::{Point, Ring, Rings};
@@ -84,7 +84,7 @@ fn number_of(kept: &mut Vec<Offsets>, shifts: &Offsets) -> Result<u32, AllocErro
             return kept_count(kept.len());
         }
     }
-    push_item(kept, shifts.clone()?)?;
+    push_lean(kept, shifts.clone()?)?;
     kept_count(kept.len())
 }
 
@@ -166,13 +166,14 @@ impl ShapeLists {
         let figure = figure_of_ring(&mut self.rings, &mut self.forms, last, ring)?;
         let moved = number_of_move(&mut self.moves, figure.by)?;
         let number = number_of(&mut self.shifts, shifts)?;
-        self.spans.push(Span {
+        let span = Span {
             layer,
             begin: figure.begin,
             end: figure.end,
             moved,
             shifts: number,
-        })?;
+        };
+        push_lean(&mut self.spans, span)?;
         Ok(())
     }
 
@@ -191,13 +192,14 @@ impl ShapeLists {
         let figure = figure_of_rings(&mut self.rings, last, rings)?;
         let moved = number_of_move(&mut self.moves, figure.by)?;
         let number = number_of(&mut self.shifts, shifts)?;
-        self.spans.push(Span {
+        let span = Span {
             layer,
             begin: figure.begin,
             end: figure.end,
             moved,
             shifts: number,
-        })?;
+        };
+        push_lean(&mut self.spans, span)?;
         Ok(())
     }
 }

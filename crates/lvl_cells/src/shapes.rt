@@ -7,6 +7,7 @@ ghost use Rattle.lvl_cells.specs.Cells.{shape_at};
 
 use crate::moved::MovedRing;
 use crate::shape_lists::ShapeLists;
+use crate::single::Single;
 use lvl_grid::{Point, Ring};
 use lvl_names::{Layer, Offsets};
 use std::alloc::{AllocError, Global};
@@ -16,25 +17,35 @@ use std::marker::Model;
 /// of shifts.
 ///
 /// A boundary, a polygon or a rectangle is a shape of one ring, a path a shape of the rings of its
-/// bands. An empty list takes 16 bytes. A boundary at one place takes 32 bytes and its points, and up
-/// to 16 bytes in a table of points. If an earlier shape has its points, moved, both share them, and
-/// it takes 40 bytes; but the table forgets some of them, so not all that could be shared are. A path
-/// shares the points of the shape before it alone. Consecutive shapes with the same lattice share one
-/// list of shifts, and a shared list is never copied.
+/// bands. An empty list takes 16 bytes. One shape of one ring takes 64 bytes beside its points, and
+/// 64 more if it is repeated. The lists of several shapes take 160 bytes and what is in them: a
+/// boundary at one place 32 bytes and its points, and up to 16 bytes in a table of points. If an
+/// earlier shape has its points, moved, both share them, and it takes 40 bytes; but the table forgets
+/// some of them, so not all that could be shared are. A path shares the points of the shape before it
+/// alone. Consecutive shapes with the same lattice share one list of shifts, and a shared list is
+/// never copied.
 #[derive(Drop)]
 pub struct Shapes {
     alloc: Global,
-    lists: Option<Box<ShapeLists>>,
+    stored: StoredShapes,
+}
+
+/// How the shapes of a cell are stored.
+#[derive(Drop)]
+enum StoredShapes {
+    None,
+    One(Box<Single>),
+    Several(Box<ShapeLists>),
 }
 
 impl Model for Shapes {
     ghost use Rattle.std.specs.Prelude.{List};
     ghost use Rattle.lvl_cells.specs.Cells.{PlainShape, Rings as Figure};
-    ghost use Rattle.lvl_cells.specs.inside.Boxed.{boxed_list};
+    ghost use Rattle.lvl_cells.specs.inside.Boxed.{stored_shapes};
 
     ghost Value = { List (PlainShape Figure) };
 
-    ghost view = { λ s. boxed_list s.lists };
+    ghost view = { λ s. stored_shapes s.stored };
 }
 
 impl Shapes {
@@ -42,16 +53,20 @@ impl Shapes {
     pub fn new(alloc: Global) -> Shapes
         ensures { result ≡ [] }
     {
-        Shapes { alloc, lists: None }
+        Shapes {
+            alloc,
+            stored: StoredShapes::None,
+        }
     }
 
     /// The number of shapes.
     pub fn len(&self) -> usize
         ensures { result ≡ length self.now }
     {
-        match &self.lists {
-            Some(lists) => lists.len(),
-            None => 0,
+        match &self.stored {
+            StoredShapes::None => 0,
+            StoredShapes::One(_) => 1,
+            StoredShapes::Several(lists) => lists.len(),
         }
     }
 
@@ -67,10 +82,11 @@ impl Shapes {
         requires { i < length self.now }
         ensures { result ≡ (shape_at self.now i).layer }
     {
-        let Some(lists) = &self.lists else {
-            unreachable!()
-        };
-        lists.layer(i)
+        match &self.stored {
+            StoredShapes::None => unreachable!(),
+            StoredShapes::One(single) => single.layer(),
+            StoredShapes::Several(lists) => lists.layer(i),
+        }
     }
 
     /// The number of rings of the shape at this index.
@@ -78,10 +94,11 @@ impl Shapes {
         requires { i < length self.now }
         ensures { result ≡ length (shape_at self.now i).figure }
     {
-        let Some(lists) = &self.lists else {
-            unreachable!()
-        };
-        lists.ring_count(i)
+        match &self.stored {
+            StoredShapes::None => unreachable!(),
+            StoredShapes::One(single) => single.ring_count(),
+            StoredShapes::Several(lists) => lists.ring_count(i),
+        }
     }
 
     /// Ring `j` of shape `i`.
@@ -91,10 +108,11 @@ impl Shapes {
         ensures value { result ≡ get_or (shape_at self.now i).figure j [] }
         ensures ring { IsRing result }
     {
-        let Some(lists) = &self.lists else {
-            unreachable!()
-        };
-        lists.ring(i, j)
+        match &self.stored {
+            StoredShapes::None => unreachable!(),
+            StoredShapes::One(single) => single.ring(),
+            StoredShapes::Several(lists) => lists.ring(i, j),
+        }
     }
 
     /// The shifts of the shape at this index, or None for the zero shift alone.
@@ -103,10 +121,11 @@ impl Shapes {
         ensures some { IfSome result (λ shifts. shifts.now ≡ (shape_at self.now i).shifts) }
         ensures none { IfNone result ((shape_at self.now i).shifts ≡ one_place) }
     {
-        let Some(lists) = &self.lists else {
-            unreachable!()
-        };
-        lists.shifts(i)
+        match &self.stored {
+            StoredShapes::None => unreachable!(),
+            StoredShapes::One(single) => single.shifts(),
+            StoredShapes::Several(lists) => lists.shifts(i),
+        }
     }
 
     /// The number of shifts of the shape at this index.
@@ -154,12 +173,18 @@ impl Shapes {
             ++ record { layer = layer; figure = ring.now ∷ []; shifts = shifts.now } ∷ []) }
         ensures kept { OnErr result (self.new ≡ self.old) }
     {
-        if let Some(lists) = &mut self.lists {
-            return lists.push_ring(layer, ring, shifts);
+        match &mut self.stored {
+            StoredShapes::None => {
+                let single = Single::of(self.alloc, layer, ring, shifts)?;
+                self.stored = StoredShapes::One(Box::new(self.alloc, single)?);
+            }
+            StoredShapes::One(first) => {
+                let mut lists = first.lists(self.alloc)?;
+                lists.push_ring(layer, ring, shifts)?;
+                self.stored = StoredShapes::Several(Box::new(self.alloc, lists)?);
+            }
+            StoredShapes::Several(lists) => lists.push_ring(layer, ring, shifts)?,
         }
-        let mut lists = ShapeLists::new(self.alloc);
-        lists.push_ring(layer, ring, shifts)?;
-        self.lists = Some(Box::new(self.alloc, lists)?);
         Ok(())
     }
 
@@ -174,12 +199,13 @@ impl Shapes {
             ++ record { layer = layer; figure = rings.now; shifts = shifts.now } ∷ []) }
         ensures kept { OnErr result (self.new ≡ self.old) }
     {
-        if let Some(lists) = &mut self.lists {
-            return lists.push_rings(layer, rings, shifts);
-        }
-        let mut lists = ShapeLists::new(self.alloc);
+        let mut lists = match &mut self.stored {
+            StoredShapes::None => ShapeLists::new(self.alloc),
+            StoredShapes::One(first) => first.lists(self.alloc)?,
+            StoredShapes::Several(lists) => return lists.push_rings(layer, rings, shifts),
+        };
         lists.push_rings(layer, rings, shifts)?;
-        self.lists = Some(Box::new(self.alloc, lists)?);
+        self.stored = StoredShapes::Several(Box::new(self.alloc, lists)?);
         Ok(())
     }
 }

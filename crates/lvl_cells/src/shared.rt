@@ -4,7 +4,7 @@ ghost use Rattle.lvl_grid.specs.Winding.{IsRing};
 ghost use Rattle.lvl_cells.specs.inside.Spans.{displaced, IsPrefixOf, HasMove, IsAgain, IsFigure, IsStretch};
 
 use crate::forms::Forms;
-use crate::lists::push_item;
+use crate::lists::push_lean;
 use crate::moved::{ORIGIN, moved};
 use crate::shape_lists::{Span, kept_count, kept_sum};
 use lvl_grid::{Point, Ring, Rings};
@@ -198,6 +198,6 @@ pub(crate) fn number_of_move(moves: &mut Vec<Point>, by: Point) -> Result<u32, A
     if moves.last() == Some(&by) {
         return kept_count(moves.len());
     }
-    push_item(moves, by)?;
+    push_lean(moves, by)?;
     kept_count(moves.len())
 }

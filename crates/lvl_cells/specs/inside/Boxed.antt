@@ -1,14 +1,18 @@
 -- Lists that take little memory if they have no item, or one.
-use Rattle.std.specs.Prelude.{List, [], ◌∷◌, Option, Some, None}
+use Rattle.std.specs.Prelude.{List, [], ◌∷◌}
 use Rattle.std.specs.Global.{Box}
-use Rattle.lvl_cells.specs.Cells.{PlainReference}
+use Rattle.lvl_cells.specs.Cells.{PlainReference, PlainShape, Rings}
 use Rattle.lvl_cells.specs.declared.references.Stored.{Stored}
 use Rattle.lvl_cells.specs.declared.references.Stored.TheVariants.{None as NoReference, One, Several}
+use Rattle.lvl_cells.specs.declared.shapes.StoredShapes.{StoredShapes}
+use Rattle.lvl_cells.specs.declared.shapes.StoredShapes.TheVariants.{None as NoShape, One as OneShape}
+use Rattle.lvl_cells.specs.declared.shapes.StoredShapes.TheVariants.{Several as SeveralShapes}
 
--- the list in the box, or no items without a box
-abbrev pub boxed_list : {X : Type 0} → Option (Box (List X)) → List X
-boxed_list None = []
-boxed_list (Some b) = b.value
+-- the shapes that are stored so
+abbrev pub stored_shapes : StoredShapes → List (PlainShape Rings)
+stored_shapes NoShape = []
+stored_shapes (OneShape b) = b.value ∷ []
+stored_shapes (SeveralShapes b) = b.value
 
 -- the references that are stored so
 abbrev pub stored_list : Stored → List PlainReference

@@ -3,7 +3,7 @@ use Rattle.lvl_cells.specs.declared.shape_lists.Span.{Span}
 use Rattle.lvl_cells.proofs.Spanned.{AllGoOn, AreMore, AreSpans, shapes_in, one_more, refused, still, goes_on_same}
 use Rattle.lvl_cells.proofs.Spanned.{always_err}
 use Rattle.lvl_cells.proofs.shape_lists.ShapeLists.push_ring.Goals as goal
-use Rattle.lvl_cells.proofs.shape_lists.ShapeLists.push_ring.Goals.{In_ok-push}
+use Rattle.lvl_cells.proofs.shape_lists.ShapeLists.push_ring.Goals.{In_ok-push_lean}
 
 pub invariant_of-self : goal.invariant_of-self
 invariant_of-self c =
@@ -68,8 +68,8 @@ returns-in_err-number-clause-kept c =
     })
     c.self.invariant c.self.view_is)
 
-pub invariant_of-self-in_err-push : goal.invariant_of-self-in_err-push
-invariant_of-self-in_err-push c =
+pub invariant_of-self-in_err-push_lean : goal.invariant_of-self-in_err-push_lean
+invariant_of-self-in_err-push_lean c =
     let on : AllGoOn c.self.inside.rings c.figure_of_ring.new.rings c.self.inside.moves.items
     c.number_of_move.new.moves.items c.self.inside.shifts.items c.number_of.new.kept.items =
     record {
@@ -79,10 +79,10 @@ invariant_of-self-in_err-push c =
     } in
     subst
     (AreSpans c.figure_of_ring.new.rings c.number_of_move.new.moves.items c.number_of.new.kept.items)
-    (sym c.in_err-push.ensures.items) (still _ _ _ _ _ _ c.self.inside.spans.items on c.self.invariant)
+    (sym c.in_err-push_lean.ensures.kept) (still _ _ _ _ _ _ c.self.inside.spans.items on c.self.invariant)
 
-pub returns-in_err-push-clause-kept : goal.returns-in_err-push-clause-kept
-returns-in_err-push-clause-kept c =
+pub returns-in_err-push_lean-clause-kept : goal.returns-in_err-push_lean-clause-kept
+returns-in_err-push_lean-clause-kept c =
     let on : AllGoOn c.self.inside.rings c.figure_of_ring.new.rings c.self.inside.moves.items
     c.number_of_move.new.moves.items c.self.inside.shifts.items c.number_of.new.kept.items =
     record {
@@ -90,12 +90,12 @@ returns-in_err-push-clause-kept c =
       moves_on = c.number_of_move.ensures.before;
       kept_on = c.number_of.ensures.before;
     } in
-    always_err c.from_residual-in_err-push.result
+    always_err c.from_residual-in_err-push_lean.result
     (ap (shapes_in c.figure_of_ring.new.rings c.number_of_move.new.moves.items c.number_of.new.kept.items)
-    c.in_err-push.ensures.items
+    c.in_err-push_lean.ensures.kept
     ∙ refused _ _ _ _ _ _ c.self.inside.spans.items c.args.self.now on c.self.invariant c.self.view_is)
 
-abbrev span : (c : In_ok-push) → Span
+abbrev span : (c : In_ok-push_lean) → Span
 span c = record {
   layer = c.args.layer;
   begin = c.in_ok-figure.figure.begin;
@@ -104,7 +104,7 @@ span c = record {
   shifts = c.in_ok-number.number;
 }
 
-more : (c : In_ok-push)
+more : (c : In_ok-push_lean)
     → AreMore c.figure_of_ring.new.rings c.number_of_move.new.moves.items c.number_of.new.kept.items
     c.self.inside.spans.items (span c) (c.args.ring.now ∷ []) c.args.shifts.now c.args.self.now
 more c =
@@ -123,10 +123,10 @@ pub invariant_of-self-2 : goal.invariant_of-self-2
 invariant_of-self-2 c =
     subst
     (AreSpans c.figure_of_ring.new.rings c.number_of_move.new.moves.items c.number_of.new.kept.items)
-    (sym c.in_ok-push.ensures.items) (more c).are
+    (sym c.in_ok-push_lean.ensures.added) (more c).are
 
 pub returns-clause-added : goal.returns-clause-added
 returns-clause-added c =
     ap (shapes_in c.figure_of_ring.new.rings c.number_of_move.new.moves.items c.number_of.new.kept.items)
-    c.in_ok-push.ensures.items
+    c.in_ok-push_lean.ensures.added
     ∙ (more c).is
