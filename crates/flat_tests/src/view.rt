@@ -1,7 +1,7 @@
 //! Layers mapped and windows shown: flat layouts compared as a view says.
 use crate::rows::{cut, rows_give};
 use lvl_cells::{Cell, References, Shapes};
-use lvl_compare::{difference_by, first_difference_in};
+use lvl_compare::{difference_with, first_difference_in};
 use lvl_flat::{Flat, flatten_shapes};
 use lvl_grid::{Point, Ring, Square, Window};
 use lvl_names::{Layer, Name, Offsets};
@@ -143,8 +143,8 @@ fn found_in(
 
 /// What differs first by regions of both kinds, if they agree.
 fn found_by_kinds(alloc: Global, first: &Flat, second: &Flat) -> Result<Found, Fail> {
-    let found = difference_by::<GridRegion>(alloc, first, second)?;
-    if difference_by::<SlabRegion>(alloc, first, second)? != found {
+    let found = difference_with::<GridRegion>(alloc, first, second)?;
+    if difference_with::<SlabRegion>(alloc, first, second)? != found {
         return Err("the kinds of region differ".into());
     }
     Ok(numbered(found))

@@ -60,7 +60,7 @@ pub fn read_gds<R: Read>(
     ensures reads { CountsFailure (R.read_errors reader.old) (R.read_errors reader.new) (is_read result) }
     ensures same { R.lent reader.new ≡ R.lent reader.old }
 {
-    read_gds_by(alloc, reader, Profile::STANDARD)
+    read_gds_with(alloc, reader, Profile::STANDARD)
 }
 
 /// The library that a GDSII stream spells, and its head, with the records ignored and the limits that the
@@ -71,7 +71,7 @@ pub fn read_gds<R: Read>(
 /// FONTS, GENERATIONS and FORMAT 0 before UNITS; STRCLASS after STRNAME; and ELFLAGS and PLEX after the
 /// record that opens an element. `properties` are ATTRTABLE before GENERATIONS, and pairs of PROPATTR and
 /// PROPVALUE before ENDEL. Everything else is as in [`read_gds`].
-pub fn read_gds_by<R: Read>(
+pub fn read_gds_with<R: Read>(
     alloc: Global,
     reader: &mut R,
     profile: Profile,

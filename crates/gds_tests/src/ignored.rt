@@ -2,7 +2,7 @@
 
 use crate::cells::library_text;
 use crate::rows::{add_bytes, cut, gives};
-use gds_library::{GdsFault, GdsHead, GdsKind, Misplaced, read_gds_by};
+use gds_library::{GdsFault, GdsHead, GdsKind, Misplaced, read_gds_with};
 use lvl_cells::Library;
 use lvl_io::fake::Pieces;
 use lvl_profile::{Ignore, Profile};
@@ -111,7 +111,7 @@ fn text_of(alloc: Global, head: GdsHead, library: &Library) -> Result<String, Al
 
 /// A library and its head as text, or what is refused.
 fn read(alloc: Global, bytes: &[u8], most: usize, ignore: Ignore) -> Result<String, Fail> {
-    let text = match read_gds_by(alloc, &mut Pieces::new(bytes, most), under(ignore)) {
+    let text = match read_gds_with(alloc, &mut Pieces::new(bytes, most), under(ignore)) {
         Ok((library, head)) => text_of(alloc, head, &library),
         Err(Cause::Breach(fault)) => fault_text(alloc, fault),
         Err(Cause::OutOfMemory) => Err(AllocError),
@@ -332,7 +332,7 @@ fn reports_each_cut(rt: HostRuntime) -> Result<(), Fail> {
 fn cells_with(alloc: Global, index: usize, more: &str, ignore: Ignore) -> Result<usize, Fail> {
     let bytes = with(alloc, index, &bytes_of(alloc, more)?)?;
     let mut reader = Pieces::new(&bytes, usize::MAX);
-    let (library, _) = read_gds_by(alloc, &mut reader, under(ignore))?;
+    let (library, _) = read_gds_with(alloc, &mut reader, under(ignore))?;
     Ok(library.cells.len())
 }
 

@@ -2,7 +2,7 @@
 
 use crate::cells::library_text;
 use crate::rows::{cut, gives, points_of};
-use gds_library::{GdsFault, read_gds_by};
+use gds_library::{GdsFault, read_gds_with};
 use gds_records::fake::Stream;
 use lvl_io::fake::Pieces;
 use lvl_profile::{Ignore, Profile};
@@ -68,7 +68,7 @@ fn read(alloc: Global, bytes: &[u8], ignore: Ignore) -> Result<String, Fail> {
         ignore,
         ..Profile::STANDARD
     };
-    let text = match read_gds_by(alloc, &mut Pieces::new(bytes, 7), profile) {
+    let text = match read_gds_with(alloc, &mut Pieces::new(bytes, 7), profile) {
         Ok((library, _)) => library_text(alloc, &library),
         Err(Cause::Breach(fault)) => fault_text(alloc, fault),
         Err(Cause::OutOfMemory) => Err(AllocError),

@@ -3,7 +3,7 @@ use gds_library::{GdsFault, GdsKind, Misplaced};
 use gds_records::record_type;
 use lvl::{
     Digested, DigestedLayer, FileFault, Layout, Refusal, Tops, Verdict, compare_files,
-    compare_layouts, compare_view, digest_file, read_layout, read_layout_by, show_file,
+    compare_layouts, compare_view, digest_file, read_layout, read_layout_with, show_file,
 };
 use lvl_cells::CellFault;
 use lvl_corners::LayerDigest;
@@ -269,7 +269,7 @@ fn properties_ignored(rt: HostRuntime) -> Result<(), Fail> {
         (Ignore::NOTHING, Answer::Unread),
         (Ignore::EVERYTHING, Answer::Right),
     ] {
-        let is_read = read_layout_by(alloc, &mut Pieces::new(&bytes, 50), under(ignore)).is_ok();
+        let is_read = read_layout_with(alloc, &mut Pieces::new(&bytes, 50), under(ignore)).is_ok();
         assert_eq!(rt; is_read, want == Answer::Right);
         assert!(rt; compared(alloc, &bytes, ignore) == want);
         assert!(rt; shown(alloc, &bytes, ignore) == want);

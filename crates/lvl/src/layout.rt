@@ -11,12 +11,12 @@ ghost use Rattle.lvl.specs.Layouts.{HasFirst, IsLayoutOf, IsOasis};
 ghost use Rattle.lvl.specs.Answers.{IsEarlyFile, IsHopeless, IsUnreadAt, ReportsUnreadFile, is_failed_read, read_failed};
 ghost use Rattle.lvl.specs.Sides.{layout_parts, IsFileFault};
 
-use gds_library::{GdsFault, GdsHead, GdsKind, RecordFault, read_gds_by};
+use gds_library::{GdsFault, GdsHead, GdsKind, RecordFault, read_gds_with};
 use lvl_cells::Library;
 use lvl_io::{Failure, Peeked, Read};
 use lvl_profile::Profile;
 use lvl_refusal::Cause;
-use oasis_library::{OasisFault, OasisHead, read_oasis_by};
+use oasis_library::{OasisFault, OasisHead, read_oasis_with};
 use std::alloc::Global;
 use thiserror::Error;
 
@@ -98,7 +98,7 @@ fn read_as_gds<R: Read>(
     ensures reads { CountsFailure (R.read_errors reader.old) (R.read_errors reader.new) (is_failed_read result) }
     ensures same { R.lent reader.new ≡ R.lent reader.old }
 {
-    match read_gds_by(alloc, reader, profile) {
+    match read_gds_with(alloc, reader, profile) {
         Ok((library, head)) => Ok(Layout::Gds(library, head)),
         Err(Cause::Breach(fault)) => Err(Cause::Breach(FileFault::Gds(fault))),
         Err(Cause::OutOfMemory) => Err(Cause::OutOfMemory),
@@ -123,7 +123,7 @@ fn read_as_oasis<R: Read>(
     ensures reads { CountsFailure (R.read_errors reader.old) (R.read_errors reader.new) (is_failed_read result) }
     ensures same { R.lent reader.new ≡ R.lent reader.old }
 {
-    match read_oasis_by(alloc, reader, profile) {
+    match read_oasis_with(alloc, reader, profile) {
         Ok((library, head)) => Ok(Layout::Oasis(library, head)),
         Err(Cause::Breach(fault)) => Err(Cause::Breach(FileFault::Oasis(fault))),
         Err(Cause::OutOfMemory) => Err(Cause::OutOfMemory),
@@ -138,7 +138,7 @@ fn is_oasis(first: Option<u8>) -> bool
 }
 
 /// Reads a file that has this first byte.
-fn read_by<R: Read>(
+fn read_with<R: Read>(
     alloc: Global,
     first: Option<u8>,
     reader: &mut R,
@@ -214,12 +214,12 @@ pub fn read_layout<R: Read>(alloc: Global, reader: &mut R) -> Result<Layout, Cau
         → IfErr result (λ refusal. Says refusal (IsUnreadAt strict xs (R.remaining reader.new))) }
     ensures reads { CountsFailure (R.read_errors reader.old) (R.read_errors reader.new) (is_failed_read result) }
 {
-    read_layout_by(alloc, reader, Profile::STANDARD)
+    read_layout_with(alloc, reader, Profile::STANDARD)
 }
 
 /// Reads a file as [`read_layout`] does, under a profile, by
-/// [`read_gds_by`](gds_library::read_gds_by) or [`read_oasis_by`](oasis_library::read_oasis_by).
-pub fn read_layout_by<R: Read>(
+/// [`read_gds_with`](gds_library::read_gds_with) or [`read_oasis_with`](oasis_library::read_oasis_with).
+pub fn read_layout_with<R: Read>(
     alloc: Global,
     reader: &mut R,
     profile: Profile,
@@ -242,7 +242,7 @@ pub fn read_layout_by<R: Read>(
         return Err(Cause::Breach(empty()));
     }
     let mut whole = Peeked::new(first, reader);
-    let read = read_by(alloc, first, &mut whole, profile);
+    let read = read_with(alloc, first, &mut whole, profile);
     let _reader = whole.into_rest();
     read
 }

@@ -30,7 +30,7 @@ pub use compare::{compare_files, compare_layouts, compare_measured, compare_view
 pub use digest::{digest_file, digests_decide};
 pub use digested::{Digested, MaskDigest};
 pub use explained::Explained;
-pub use layout::{FileFault, Head, Layout, read_layout, read_layout_by, widening_keeps};
+pub use layout::{FileFault, Head, Layout, read_layout, read_layout_with, widening_keeps};
 pub use lvl_corners::{DigestedLayer, layer_line};
 pub use lvl_count::ListedCell;
 pub use lvl_why::{NamedStep, Why};

@@ -12,7 +12,7 @@ ghost use Rattle.lvl.specs.Sides.{kept_named};
 ghost use Rattle.lvl.specs.declared.layout.FileFault.{FileFault as FaultOfFile};
 ghost use Rattle.lvl.specs.declared.verdict.Refusal.TheVariants.{File as FileRefused, OutOfMemory};
 
-use crate::layout::{Head, read_layout_by};
+use crate::layout::{Head, read_layout_with};
 use crate::verdict::{CellRefusal, Refusal};
 use lvl_cells::{Checked, Library, check_or_return};
 use lvl_count::top_names;
@@ -43,7 +43,7 @@ pub(crate) fn read_side<R: Read>(
     ensures own { IfErr result (IsOfFile side) }
     ensures reads { CountsFailure (R.read_errors reader.old) (R.read_errors reader.new) (is_read_of side result) }
 {
-    match read_layout_by(alloc, reader, profile) {
+    match read_layout_with(alloc, reader, profile) {
         Ok(layout) => Ok(layout.into_parts()),
         Err(Cause::Breach(fault)) => Err(Refusal::File(side, fault)),
         Err(Cause::OutOfMemory) => Err(Refusal::OutOfMemory),

@@ -24,7 +24,7 @@
 
 pub use flats::{first_difference, first_difference_in, lesser, past};
 pub use listed::difference_on_layers;
-pub use regions::difference_by;
+pub use regions::difference_with;
 pub use windows::{difference_by_strips, difference_in_windows};
 
 mod flats;

@@ -55,7 +55,7 @@ fn difference_of<R: Region>(
 /// covers, with its side; None if both cover the same squares on every Layer. Which square it is
 /// depends on the type of region: [`crate::first_difference`] returns the least. Fails only if out
 /// of memory.
-pub fn difference_by<R: Region>(
+pub fn difference_with<R: Region>(
     alloc: Global,
     first: &Flat,
     second: &Flat,

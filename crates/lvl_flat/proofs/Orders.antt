@@ -1,5 +1,5 @@
 -- The order of the Layers, and of sheets.
-use Rattle.std.proofs.Common.{◌≡◌, ◌<◌, ◌≤◌, ℕ, List, length, get_or, Some, inl, inr, refl, subst, sym, ap, arith}
+use Rattle.std.proofs.Common.{◌≡◌, ◌<◌, ◌≤◌, ◌+◌, ℕ, List, length, get_or, Some, inl, inr, refl, subst, sym, ap, arith}
 use Rattle.std.proofs.Common.{slice_get, All, ◌∙◌, ◌≢◌, [], ◌∷◌, zero, suc, cond}
 use Rattle.std.proofs.lemmas.Option.{slice_get_within, get_or_from_slice_get, slice_get-get_or}
 use Rattle.std.proofs.lemmas.Bool.{cases_lt}
@@ -65,6 +65,29 @@ nowhere sheets layer low sorted below above other k d in' same =
                 other s (subst (λ (j : ℕ). slice_get sheets j ≡ Some s) here at) same
           ]
     ]
+
+-- a Layer before that of the first sheet has no sheet
+pub before_first : (sheets : List PlainSheet) (layer : Layer) (first : PlainSheet) → AreSorted sheets
+    → slice_get sheets 0 ≡ Some first → ComesBefore layer first.layer → All (λ s. s.layer ≢ layer) sheets
+before_first sheets layer first sorted at before =
+    let late : ComesBefore first.layer layer → ⊥ =
+    λ b. before_itself layer (before_trans layer first.layer layer before b) in
+    nowhere sheets layer 0 sorted (λ k s lt there. absurd (omega (arith, lt)))
+    (λ k s le there. from_on sheets layer 0 k first s sorted at late le there)
+    (λ s there e.
+    let one : Some s ≡ Some first = sym there ∙ at in
+    let here : s ≡ first = cc in
+    before_itself layer
+    (subst (λ (x : Layer). ComesBefore layer x) (sym (ap (λ (u : PlainSheet). u.layer) here) ∙ e) before))
+
+-- a Layer after that of the last sheet has no sheet
+pub after_last : (sheets : List PlainSheet) (layer : Layer) (m : ℕ) (last : PlainSheet) → AreSorted sheets
+    → slice_get sheets m ≡ Some last → length sheets ≤ m + 1 → ComesBefore last.layer layer
+    → All (λ s. s.layer ≢ layer) sheets
+after_last sheets layer m last sorted there short before k d in' same =
+    before_itself layer (subst (λ (x : Layer). ComesBefore x layer) same
+    (up_to sheets layer m k last (get_or sheets k d) sorted there before (omega (arith, in', short))
+    (slice_get-get_or sheets k d in')))
 
 pub sorted_tail : (s : PlainSheet) (sheets : List PlainSheet) → AreSorted (s ∷ sheets) → AreSorted sheets
 sorted_tail s sheets sorted = λ i j d lt in'. sorted (suc i) (suc j) d (omega (arith, lt)) (omega (arith, in'))

@@ -100,12 +100,29 @@ impl Flat {
     }
 }
 
-/// The index of the sheet for the Layer, or None if there is none. A binary search.
+/// Whether the Layer comes before those of all sheets, or after them.
+fn is_outside(sheets: &[Sheet], layer: Layer) -> bool
+    requires { AreSorted sheets.now }
+    ensures { IsTrue result → All (λ s. s.layer ≢ layer) sheets.now }
+{
+    if sheets.is_empty() {
+        return true;
+    }
+    let first = &sheets[0];
+    let last = &sheets[sheets.len() - 1];
+    comes_before(layer, first.layer) || comes_before(last.layer, layer)
+}
+
+/// The index of the sheet for the Layer, or None if there is none. A binary search, unless the Layer is outside of all
+/// sheets, as most are of a group of many Layers.
 pub(crate) fn place_of(sheets: &[Sheet], layer: Layer) -> Option<usize>
     requires { AreSorted sheets.now }
     ensures found { IfSome result (λ i. SheetAt sheets.now i layer) }
     ensures absent { IfNone result (All (λ s. s.layer ≢ layer) sheets.now) }
 {
+    if is_outside(sheets, layer) {
+        return None;
+    }
     let mut low = 0;
     let mut high = sheets.len();
     while low < high {

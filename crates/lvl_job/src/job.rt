@@ -27,7 +27,7 @@ use lvl_io::Write;
 use lvl_line::Job;
 use lvl_profile::{Ignore, Limits, Profile};
 use lvl_refusal::Cause;
-use lvl_report::{Outcome, RunFault, run_cells, run_digest, run_show_by};
+use lvl_report::{Outcome, RunFault, run_cells, run_digest, run_show_with};
 use lvl_view::View;
 use std::alloc::Global;
 
@@ -139,7 +139,7 @@ fn show<F: Files, O: Write>(
     ensures errors { CountsFailure (O.write_errors out.old) (O.write_errors out.new) (is_cut result) }
 {
     let mut file = open(files, name)?;
-    match run_show_by(alloc, &mut file, top, profile, out) {
+    match run_show_with(alloc, &mut file, top, profile, out) {
         Ok(outcome) => Ok(outcome),
         Err(fault) => Err(fault_of(fault)),
     }
@@ -311,7 +311,7 @@ fn answer<F: Files, O: Write, E: Write>(
 /// which no cell of the second file has a shape, one line that names it. After a refusal that none of these lines
 /// explains, its files are looked at, and one line is written for each that is a directory or gzipped.
 ///
-/// It writes an answer that [`run_by`], [`run_view_by`], [`run_why`], [`run_measured`], [`run_show_by`],
+/// It writes an answer that [`run_with`], [`run_view_with`], [`run_why`], [`run_measured`], [`run_show_with`],
 /// [`run_digest`] or [`run_cells`] may write for these files.
 ///
 /// A list of digests has a line for each file that has one, in the order of the files; why a file has none is a line on

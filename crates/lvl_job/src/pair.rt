@@ -19,7 +19,7 @@ use crate::job::{fault_of, open};
 use lvl::Tops;
 use lvl_io::{Read, Write};
 use lvl_profile::Profile;
-use lvl_report::{Outcome, RunFault, run_by, run_measured, run_view_by, run_why};
+use lvl_report::{Outcome, RunFault, run_with, run_measured, run_view_with, run_why};
 use lvl_view::View;
 use std::alloc::Global;
 
@@ -61,8 +61,8 @@ fn run_under<A: Read, B: Read, O: Write>(
     ensures errors { CountsFailure (O.write_errors out.old) (O.write_errors out.new) (is_output result) }
 {
     match view {
-        Some(view) => run_view_by(alloc, first, second, tops, view, profile, out),
-        None => run_by(alloc, first, second, tops, profile, out),
+        Some(view) => run_view_with(alloc, first, second, tops, view, profile, out),
+        None => run_with(alloc, first, second, tops, profile, out),
     }
 }
 

@@ -26,7 +26,7 @@ pub use hint::Hint;
 pub use list::form_list;
 pub use outcome::Outcome;
 pub use runs::{
-    run, run_by, run_cells, run_digest, run_measured, run_show, run_show_by, run_view, run_view_by,
+    run, run_with, run_cells, run_digest, run_measured, run_show, run_show_with, run_view, run_view_with,
     run_why,
 };
 pub use status::{RunFault, Status};

@@ -51,7 +51,7 @@ pub fn run<A: Read, B: Read, W: Write>(
     ensures errors { CountsFailure (W.write_errors out.old) (W.write_errors out.new) (is_output result) }
     ensures same { W.lent out.new ≡ W.lent out.old }
 {
-    let outcome = run_by(alloc, first, second, tops, Profile::STANDARD, out)?;
+    let outcome = run_with(alloc, first, second, tops, Profile::STANDARD, out)?;
     Ok(outcome.status)
 }
 
@@ -59,7 +59,7 @@ pub fn run<A: Read, B: Read, W: Write>(
 ///
 /// It writes an answer that [`compare_files`](lvl::compare_files) may return for these files without a map
 /// and a window.
-pub fn run_by<A: Read, B: Read, W: Write>(
+pub fn run_with<A: Read, B: Read, W: Write>(
     alloc: Global,
     first: &mut A,
     second: &mut B,
@@ -83,7 +83,7 @@ pub fn run_by<A: Read, B: Read, W: Write>(
     ensures errors { CountsFailure (W.write_errors out.old) (W.write_errors out.new) (is_output result) }
     ensures same { W.lent out.new ≡ W.lent out.old }
 {
-    run_view_by(
+    run_view_with(
         alloc,
         first,
         second,
@@ -122,14 +122,14 @@ pub fn run_view<A: Read, B: Read, W: Write>(
     ensures errors { CountsFailure (W.write_errors out.old) (W.write_errors out.new) (is_output result) }
     ensures same { W.lent out.new ≡ W.lent out.old }
 {
-    let outcome = run_view_by(alloc, first, second, tops, view, Profile::STANDARD, out)?;
+    let outcome = run_view_with(alloc, first, second, tops, view, Profile::STANDARD, out)?;
     Ok(outcome.status)
 }
 
 /// Compares two files under a view with some records ignored, and writes the answer as [`run`] does.
 ///
 /// It writes an answer that [`compare_files`](lvl::compare_files) may return for these files.
-pub fn run_view_by<A: Read, B: Read, W: Write>(
+pub fn run_view_with<A: Read, B: Read, W: Write>(
     alloc: Global,
     first: &mut A,
     second: &mut B,
@@ -192,7 +192,7 @@ pub fn run_why<A: Read, B: Read, W: Write>(
     tell_both(alloc, profile, &answer, &why, out)
 }
 
-/// Compares two files as [`run_view_by`] or, if the reason is asked for, as [`run_why`] does, and writes the answer as
+/// Compares two files as [`run_view_with`] or, if the reason is asked for, as [`run_why`] does, and writes the answer as
 /// these do, but only if the grid steps of both files agree. If they don't, nothing is written, and the run ends with the
 /// status of a refusal and the line that says so.
 ///
@@ -250,14 +250,14 @@ pub fn run_show<R: Read, W: Write>(
     ensures errors { CountsFailure (W.write_errors out.old) (W.write_errors out.new) (is_output result) }
     ensures same { W.lent out.new ≡ W.lent out.old }
 {
-    let outcome = run_show_by(alloc, reader, top, Profile::STANDARD, out)?;
+    let outcome = run_show_with(alloc, reader, top, Profile::STANDARD, out)?;
     Ok(outcome.status)
 }
 
 /// Shows a file with some records ignored, and writes the answer as [`run_show`] does.
 ///
 /// It writes an answer that [`show_file`](lvl::show_file) may return for this file.
-pub fn run_show_by<R: Read, W: Write>(
+pub fn run_show_with<R: Read, W: Write>(
     alloc: Global,
     reader: &mut R,
     top: Option<&[u8]>,

@@ -23,7 +23,7 @@ pub use oasis_figures::{FigureRule, Variable};
 pub use oasis_records::RecordRule;
 pub use oasis_stream::{BlockRule, NameRule, OasisKind};
 pub use oasis_values::{Real, ValueFault};
-pub use read::{read_oasis, read_oasis_by};
+pub use read::{read_oasis, read_oasis_with};
 
 mod blocks;
 mod cells;

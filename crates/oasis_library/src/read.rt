@@ -66,7 +66,7 @@ pub fn read_oasis<R: Read>(
     ensures reads { CountsFailure (R.read_errors reader.old) (R.read_errors reader.new) (is_read result) }
     ensures same { R.lent reader.new ≡ R.lent reader.old }
 {
-    read_oasis_by(alloc, reader, Profile::STANDARD)
+    read_oasis_with(alloc, reader, Profile::STANDARD)
 }
 
 /// The library that an OASIS file spells, and its head, with what is ignored and the limits that the
@@ -74,7 +74,7 @@ pub fn read_oasis<R: Read>(
 ///
 /// Everything else is as in [`read_oasis`]. What that reads is read in the same way
 /// under each wider profile.
-pub fn read_oasis_by<R: Read>(
+pub fn read_oasis_with<R: Read>(
     alloc: Global,
     reader: &mut R,
     profile: Profile,

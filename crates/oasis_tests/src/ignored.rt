@@ -8,7 +8,7 @@ use lvl_io::Read;
 use lvl_io::fake::Pieces;
 use lvl_profile::{Ignore, Profile};
 use lvl_refusal::Cause;
-use oasis_library::{OasisFault, ValueFault, read_oasis_by};
+use oasis_library::{OasisFault, ValueFault, read_oasis_with};
 use oasis_records::{Record, RecordFault, RecordType, read_fields, read_id};
 use oasis_values::{Input, Repetition, Text};
 use std::alloc::{AllocError, Global};
@@ -278,7 +278,7 @@ fn read_by(
     ignore: Ignore,
 ) -> Result<Library, Cause<OasisFault>> {
     let mut reader = Pieces::new(bytes, most);
-    let (library, _) = read_oasis_by(alloc, &mut reader, under(ignore))?;
+    let (library, _) = read_oasis_with(alloc, &mut reader, under(ignore))?;
     Ok(library)
 }
 

@@ -6,7 +6,7 @@ use crate::library_faults::fault_text;
 use crate::rows::{bytes_of, check_text, cut};
 use lvl_io::fake::Pieces;
 use lvl_profile::{Ignore, Profile};
-use oasis_library::read_oasis_by;
+use oasis_library::read_oasis_with;
 use std::alloc::{AllocError, Global};
 use std::process::Abort;
 use std::test::Fail;
@@ -135,7 +135,7 @@ fn a_polygon_keeps_its_points(rt: HostRuntime) -> Result<(), Fail> {
 
 /// How many rings the first shape of a file has, or what is refused, where this is ignored.
 fn rings_text(alloc: Global, bytes: &[u8], ignore: Ignore) -> Result<String, Fail> {
-    match read_oasis_by(alloc, &mut Pieces::new(bytes, 5), under(ignore)) {
+    match read_oasis_with(alloc, &mut Pieces::new(bytes, 5), under(ignore)) {
         Ok((library, _)) => {
             let shapes = &library.cells.first().ok_or("a cell")?.shapes;
             if shapes.is_empty() {

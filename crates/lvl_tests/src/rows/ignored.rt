@@ -5,7 +5,7 @@ use super::words::{SQUARE, cut, file};
 use super::{Answer, is_answer, no_tops, sink, status_of};
 use lvl_io::fake::Pieces;
 use lvl_profile::{Ignore, Profile};
-use lvl_report::{Status, run_by, run_digest, run_show_by};
+use lvl_report::{Status, run_with, run_digest, run_show_with};
 use std::alloc::{AllocError, Global};
 use std::process::Abort;
 use std::test::Fail;
@@ -71,7 +71,7 @@ fn compared(
 ) -> Result<Answer, AllocError> {
     let mut out = sink(alloc, 100)?;
     let (mut first, mut second) = (Pieces::new(first, 7), Pieces::new(second, 50));
-    let ran = run_by(
+    let ran = run_with(
         alloc,
         &mut first,
         &mut second,
@@ -84,7 +84,7 @@ fn compared(
 
 fn shown(alloc: Global, file: &[u8], ignore: Ignore) -> Result<Answer, AllocError> {
     let mut out = sink(alloc, 100)?;
-    let ran = run_show_by(
+    let ran = run_show_with(
         alloc,
         &mut Pieces::new(file, 7),
         None,

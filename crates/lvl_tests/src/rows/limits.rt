@@ -4,7 +4,7 @@ use super::words::{cut, file};
 use super::{Answer, is_answer, sink};
 use lvl_io::fake::Pieces;
 use lvl_profile::{Limits, Profile};
-use lvl_report::{Hint, Status, run_show_by};
+use lvl_report::{Hint, Status, run_show_with};
 use std::alloc::{AllocError, Global};
 use std::process::Abort;
 use std::test::Fail;
@@ -36,7 +36,7 @@ fn shown(
         limits,
         ..Profile::STANDARD
     };
-    match run_show_by(alloc, &mut Pieces::new(bytes, 7), None, profile, &mut out) {
+    match run_show_with(alloc, &mut Pieces::new(bytes, 7), None, profile, &mut out) {
         Ok(outcome) => Ok(((out.taken, Ok(outcome.status)), outcome.hint)),
         Err(fault) => Ok(((out.taken, Err(fault)), None)),
     }

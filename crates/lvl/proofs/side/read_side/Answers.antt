@@ -13,13 +13,13 @@ pub returns-in-Err-Breach-clause-early : goal.returns-in-Err-Breach-clause-early
 returns-in-Err-Breach-clause-early g c xs known soon =
     let e = c.in-Err-Breach in
     subst (λ r. Says r (λ f. IsEarlyFile f → IsHopeless c.args.profile xs
-    (g.R.Read.remaining c.read_layout_by.new.reader))) e.field-0-is
+    (g.R.Read.remaining c.read_layout_with.new.reader))) e.field-0-is
     (e.ensures.early xs known) soon.1
 
 pub returns-in-Err-Breach-clause-unread : goal.returns-in-Err-Breach-clause-unread
 returns-in-Err-Breach-clause-unread g c xs known fault is =
     let e = c.in-Err-Breach in
     let one : e.fault ≡ fault = cc in
-    subst (λ f. IsUnreadAt c.args.profile xs (g.R.Read.remaining c.read_layout_by.new.reader) f) one
-    (subst (λ r. Says r (IsUnreadAt c.args.profile xs (g.R.Read.remaining c.read_layout_by.new.reader))) e.field-0-is
+    subst (λ f. IsUnreadAt c.args.profile xs (g.R.Read.remaining c.read_layout_with.new.reader) f) one
+    (subst (λ r. Says r (IsUnreadAt c.args.profile xs (g.R.Read.remaining c.read_layout_with.new.reader))) e.field-0-is
     (e.ensures.unread xs known))

@@ -1,7 +1,7 @@
 use Rattle.std.proofs.Common.{subst}
 use Rattle.lvl.specs.Layouts.{HasFirst}
 use Rattle.lvl.proofs.Formats.{not_oasis}
-use Rattle.lvl.proofs.layout.read_by.Goals as goal
+use Rattle.lvl.proofs.layout.read_with.Goals as goal
 
 pub returns-then-is_oasis-clause-refused : goal.returns-then-is_oasis-clause-refused
 returns-then-is_oasis-clause-refused g c xs known first =

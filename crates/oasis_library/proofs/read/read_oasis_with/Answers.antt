@@ -1,6 +1,6 @@
 use Rattle.std.proofs.Common.{◌∙◌, rules}
 use Rattle.oasis_library.proofs.Readable.{refused_reports, refused_none, unread_left, early_left}
-use Rattle.oasis_library.proofs.read.read_oasis_by.Goals as goal
+use Rattle.oasis_library.proofs.read.read_oasis_with.Goals as goal
 
 pub returns-clause-refused : goal.returns-clause-refused
 returns-clause-refused g c =

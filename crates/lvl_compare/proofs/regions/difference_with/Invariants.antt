@@ -1,7 +1,7 @@
 use Rattle.std.proofs.Common.{drop, length, ◌+◌}
 use Rattle.lvl_compare.specs.Flats.{AlikeOn}
 use Rattle.lvl_compare.proofs.After.{IsWalked}
-use Rattle.lvl_compare.proofs.regions.difference_by.Given as goal
+use Rattle.lvl_compare.proofs.regions.difference_with.Given as goal
 
 -- both cover the same on the Layers so far
 abbrev pub invariant-loop-layer : goal.invariant-loop-layer

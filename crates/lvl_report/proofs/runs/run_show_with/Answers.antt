@@ -1,7 +1,7 @@
 use Rattle.lvl_report.specs.Texts.{text_of_shown}
 use Rattle.lvl_report.specs.Hints.{IsShownOutcome}
 use Rattle.lvl_report.proofs.Running.{was_written, was_begun}
-use Rattle.lvl_report.proofs.runs.run_show_by.Goals as goal
+use Rattle.lvl_report.proofs.runs.run_show_with.Goals as goal
 
 pub returns-clause-written : goal.returns-clause-written
 returns-clause-written g c =

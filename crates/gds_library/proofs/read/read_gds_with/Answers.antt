@@ -1,6 +1,6 @@
 use Rattle.std.proofs.Common.{◌∙◌, rules}
 use Rattle.gds_library.proofs.Readable.{none_in_hand, refused_reports, refused_none, unread_left, early_left}
-use Rattle.gds_library.proofs.read.read_gds_by.Goals as goal
+use Rattle.gds_library.proofs.read.read_gds_with.Goals as goal
 
 pub returns-clause-refused : goal.returns-clause-refused
 returns-clause-refused g c =

@@ -2,7 +2,7 @@ use Rattle.std.proofs.Common.{ap}
 use Rattle.lvl_report.specs.Texts.{text_of}
 use Rattle.lvl_report.specs.Hints.{IsOutcomeOf}
 use Rattle.lvl_report.proofs.Running.{was_written, was_begun}
-use Rattle.lvl_report.proofs.runs.run_view_by.Goals as goal
+use Rattle.lvl_report.proofs.runs.run_view_with.Goals as goal
 
 pub returns-clause-written : goal.returns-clause-written
 returns-clause-written g c =

@@ -2,7 +2,7 @@ use Rattle.std.proofs.Common.{[], rules, sym, subst, ap, not, arith, ◌∙◌}
 use Rattle.lvl.specs.Sides.{IsFileFault}
 use Rattle.lvl.proofs.Spelling.{early_rest, unread_rest}
 use Rattle.lvl.proofs.Unbegun.{no_bytes, none_given}
-use Rattle.lvl.proofs.layout.read_layout_by.Goals as goal
+use Rattle.lvl.proofs.layout.read_layout_with.Goals as goal
 
 pub returns-in_default-clause-refused : goal.returns-in_default-clause-refused
 returns-in_default-clause-refused g c xs known = c.unread.ensures.reported c.args.profile xs
@@ -15,8 +15,8 @@ returns-then-is_none-clause-refused g c xs known =
 
 pub returns-clause-early : goal.returns-clause-early
 returns-clause-early g c xs known =
-    early_rest c.args.profile xs _ _ _ c.read_by-read.result
-    (c.read_by-read.ensures.early xs (search rules) (c.in-Ok.ensures.first xs known)) (search rules)
+    early_rest c.args.profile xs _ _ _ c.read_with-read.result
+    (c.read_with-read.ensures.early xs (search rules) (c.in-Ok.ensures.first xs known)) (search rules)
 
 pub returns-in_default-clause-unread : goal.returns-in_default-clause-unread
 returns-in_default-clause-unread g c xs known =
@@ -32,5 +32,5 @@ returns-then-is_none-clause-unread g c xs known = record {
 
 pub returns-clause-unread : goal.returns-clause-unread
 returns-clause-unread g c xs known =
-    unread_rest c.args.profile xs _ _ _ c.read_by-read.result
-    (c.read_by-read.ensures.unread xs (search rules)) (search rules)
+    unread_rest c.args.profile xs _ _ _ c.read_with-read.result
+    (c.read_with-read.ensures.unread xs (search rules)) (search rules)

@@ -8,7 +8,7 @@ use Rattle.lvl_flat.specs.Sheets.{rings_on}
 use Rattle.lvl_compare.specs.Flats.{AlikeOn, IsLesser, head_layer}
 use Rattle.lvl_compare.proofs.After.{alike_absent, sorted_drop, walked_none, walked_more, walked_all, walked_before}
 use Rattle.lvl_compare.proofs.After.{walked_less, lesser_heads}
-use Rattle.lvl_compare.proofs.regions.difference_by.Goals as goal
+use Rattle.lvl_compare.proofs.regions.difference_with.Goals as goal
 
 pub loop-layer-init : goal.loop-layer-init
 loop-layer-init g c =
