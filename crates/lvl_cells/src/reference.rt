@@ -98,9 +98,16 @@ impl Reference {
                 turn: self.turn,
                 at: self.at,
             },
-            shifts: &self.shifts,
+            shifts: KeptShifts::Listed(&self.shifts),
         }
     }
+}
+
+/// The shifts of a borrowed reference. What keeps no list for the zero shift alone makes one.
+#[derive(Debug, Drop)]
+pub(crate) enum KeptShifts<'a> {
+    Single(Offsets),
+    Listed(&'a Offsets),
 }
 
 /// A reference of a cell, borrowed from its [`crate::References`].
@@ -108,13 +115,14 @@ impl Reference {
 pub struct KeptReference<'a> {
     pub(crate) cell: &'a Name,
     pub(crate) by: Map,
-    pub(crate) shifts: &'a Offsets,
+    pub(crate) shifts: KeptShifts<'a>,
 }
 
 impl<'a> Model for KeptReference<'a> {
     ghost use Rattle.std.specs.Prelude.{All};
     ghost use Rattle.lvl_grid.specs.Turn.{FitsPoint, shifted};
     ghost use Rattle.lvl_cells.specs.Cells.{PlainReference};
+    ghost use Rattle.lvl_cells.specs.inside.Borrowed.{borrowed_shifts};
 
     ghost Value = { PlainReference };
 
@@ -123,10 +131,10 @@ impl<'a> Model for KeptReference<'a> {
       flip = r.by.flip;
       turn = r.by.turn;
       at = r.by.at;
-      shifts = r.shifts.now;
+      shifts = borrowed_shifts r.shifts;
     } };
 
-    ghost invariant = { λ r. All (λ e. FitsPoint (shifted r.by.at e)) r.shifts.now };
+    ghost invariant = { λ r. All (λ e. FitsPoint (shifted r.by.at e)) (borrowed_shifts r.shifts) };
 }
 
 impl<'a> KeptReference<'a> {
@@ -164,7 +172,10 @@ impl<'a> KeptReference<'a> {
         ensures all { result.now ≡ self.now.shifts }
         ensures in_range { All (λ e. FitsPoint (shifted self.now.at e)) self.now.shifts }
     {
-        self.shifts
+        match &self.shifts {
+            KeptShifts::Single(shifts) => shifts,
+            KeptShifts::Listed(shifts) => shifts,
+        }
     }
 
     /// A copy, which shares the name and a shared list of shifts.
@@ -176,7 +187,7 @@ impl<'a> KeptReference<'a> {
             flip: self.by.flip,
             turn: self.by.turn,
             at: self.by.at,
-            shifts: self.shifts.clone()?,
+            shifts: self.shifts().clone()?,
         })
     }
 }
