@@ -38,7 +38,7 @@ fn rectangles(alloc: Global, rings: &Rings) -> Result<(Vec<Window>, Rings), Allo
     ensures { IfOk result (λ parts. (s : GridSquare)
         → (SomeCovers parts.1 s ⊎ IsWithinSome parts.0.items s) ↔ SomeCovers rings.now s) }
 {
-    let mut windows = Vec::new(alloc);
+    let mut windows = Vec::with_capacity(alloc, rings.len())?;
     let mut rest = Rings::with_capacity(alloc, rings.points().len(), rings.len())?;
     for i in 0..rings.len() {
         part_rectangle(&mut windows, &mut rest, rings.ring(i))?;
@@ -47,10 +47,11 @@ fn rectangles(alloc: Global, rings: &Rings) -> Result<(Vec<Window>, Rings), Allo
 }
 
 /// Rings that cover the same squares, with the rectangles of the same abscissas joined.
-fn all_stacked(alloc: Global, rings: &Rings) -> Result<Rings, AllocError>
-    ensures { IfOk result (λ stacked. (s : GridSquare) → SomeCovers stacked s ↔ SomeCovers rings.now s) }
+fn all_stacked(alloc: Global, rings: Rings) -> Result<Rings, AllocError>
+    ensures { IfOk result (λ stacked. (s : GridSquare) → SomeCovers stacked s ↔ SomeCovers rings s) }
 {
-    let (windows, mut stacked) = rectangles(alloc, rings)?;
+    let (windows, mut stacked) = rectangles(alloc, &rings)?;
+    drop(rings);
     let windows = joined_windows(alloc, windows)?;
     push_windows(&mut stacked, &windows)?;
     Ok(stacked)
@@ -65,8 +66,9 @@ pub(crate) fn stacked(alloc: Global, rings: Rings) -> Result<Rings, AllocError>
         return Ok(rings);
     }
     let some = some_of(alloc, &rings)?;
-    if all_stacked(alloc, &some)?.len() > some.len() / 2 {
+    let half = some.len() / 2;
+    if all_stacked(alloc, some)?.len() > half {
         return Ok(rings);
     }
-    all_stacked(alloc, &rings)
+    all_stacked(alloc, rings)
 }

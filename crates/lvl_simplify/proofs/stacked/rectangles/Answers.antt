@@ -7,7 +7,7 @@ use Rattle.lvl_simplify.proofs.Joining.{any_next, same_next, none_parted}
 use Rattle.lvl_simplify.proofs.stacked.rectangles.Goals as goal
 
 pub loop-i-init : goal.loop-i-init
-loop-i-init c = λ s. none_parted s _ _ c.in_ok-rest.ensures c.new-windows.ensures.items
+loop-i-init c = λ s. none_parted s _ _ c.in_ok-rest.ensures c.in_ok-windows.ensures.items
 
 pub loop-i-preserved : goal.loop-i-preserved
 loop-i-preserved c = λ s.
