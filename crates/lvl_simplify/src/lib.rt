@@ -25,3 +25,4 @@ mod redraw;
 mod rows;
 mod simplify;
 mod spanning;
+mod stacked;

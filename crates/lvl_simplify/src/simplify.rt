@@ -6,6 +6,7 @@ ghost use Rattle.lvl_grid.specs.Winding.{Covers, SomeCovers, IsRing};
 use crate::outline::Outline;
 use crate::redraw::redrawn;
 use crate::spanning::{extent, joined};
+use crate::stacked::stacked;
 use lvl_grid::{Point, Ring, Rings};
 use std::alloc::{AllocError, Global};
 
@@ -82,5 +83,6 @@ fn all_shorter(alloc: Global, rings: Rings) -> Result<Rings, AllocError>
 pub fn simplified(alloc: Global, rings: Rings) -> Result<Rings, AllocError>
     ensures { IfOk result (λ simplified. (s : GridSquare) → SomeCovers simplified s ↔ SomeCovers rings s) }
 {
-    joined(alloc, all_shorter(alloc, rings)?)
+    let shorter = all_shorter(alloc, rings)?;
+    joined(alloc, stacked(alloc, shorter)?)
 }

@@ -143,11 +143,15 @@ fn push_joined(windows: &mut Vec<Window>, next: Window) -> Result<(), AllocError
     Ok(())
 }
 
-/// The windows in order from below, joined if their rows overlap or touch.
-fn joined_windows(alloc: Global, mut windows: Vec<Window>) -> Result<Vec<Window>, AllocError>
+/// The windows in order of their abscissas and then from below, joined if these are the same and the
+/// rows overlap or touch.
+pub(crate) fn joined_windows(
+    alloc: Global,
+    mut windows: Vec<Window>,
+) -> Result<Vec<Window>, AllocError>
     ensures { IfOk result (λ joined. (s : GridSquare) → IsWithinSome joined.items s ↔ IsWithinSome windows.items s) }
 {
-    windows.sort_unstable_by_key(|window| window.y0);
+    windows.sort_unstable_by_key(|window| (window.x0, window.x1, window.y0));
     let mut joined = Vec::new(alloc);
     for window in &windows {
         push_joined(&mut joined, *window)?;
@@ -173,7 +177,7 @@ fn push_window(rings: &mut Rings, window: Window) -> Result<(), AllocError>
 }
 
 /// Appends the rectangles of windows.
-fn push_windows(rings: &mut Rings, windows: &[Window]) -> Result<(), AllocError>
+pub(crate) fn push_windows(rings: &mut Rings, windows: &[Window]) -> Result<(), AllocError>
     ensures { OnOk result ((s : GridSquare)
         → SomeCovers rings.new s ↔ (SomeCovers rings.old s ⊎ IsWithinSome windows.now s)) }
 {
@@ -237,7 +241,7 @@ fn uncovered(alloc: Global, rings: &Rings, windows: &[Window]) -> Result<Rings, 
 const LOOKED_AT: usize = 64;
 
 /// At most [`LOOKED_AT`] rings of a list, evenly spaced.
-fn some_of(alloc: Global, rings: &Rings) -> Result<Rings, AllocError> {
+pub(crate) fn some_of(alloc: Global, rings: &Rings) -> Result<Rings, AllocError> {
     let step = rings.len() / LOOKED_AT + 1;
     let mut some = Rings::new(alloc);
     for i in 0..LOOKED_AT {
