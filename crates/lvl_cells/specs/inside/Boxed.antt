@@ -1,6 +1,5 @@
 -- Lists that take little memory if they have no item, or one.
 use Rattle.std.specs.Prelude.{List, [], ◌∷◌}
-use Rattle.std.specs.Global.{Box}
 use Rattle.lvl_cells.specs.Cells.{PlainReference, PlainShape, Rings}
 use Rattle.lvl_cells.specs.declared.references.Stored.{Stored}
 use Rattle.lvl_cells.specs.declared.references.Stored.TheVariants.{None as NoReference, One, Several}
