@@ -61,6 +61,23 @@ fn what_lies_within_a_row_is_dropped(rt: HostRuntime) -> Result<(), Fail> {
     Ok(())
 }
 
+/// Two rectangles of which neither spans the other's columns, drawn 3,000 times each.
+fn two_many_times(alloc: Global) -> Result<Rings, Fail> {
+    let mut rings = Rings::new(alloc);
+    for _ in 0..3000 {
+        push_rectangle(alloc, &mut rings, (0, 5), (0, 4))?;
+        push_rectangle(alloc, &mut rings, (3, 9), (2, 6))?;
+    }
+    Ok(rings)
+}
+
+#[test]
+fn rectangles_drawn_many_times_are_joined(rt: HostRuntime) -> Result<(), Fail> {
+    let simpler = simplified(rt.alloc(), two_many_times(rt.alloc())?)?;
+    assert!(rt; simpler.len() == 2);
+    Ok(())
+}
+
 /// A ring that winds 600 times, in a column in which it has ten vertical edges.
 fn winding_in_a_column(alloc: Global) -> Result<Rings, Fail> {
     let column = Part::Within(Window {

@@ -5,6 +5,9 @@
 //! out many times runs up and down the borders of the column again and again. Of these edges only
 //! the winding in each row counts, so the ring is redrawn with shorter ones.
 //!
+//! A path that runs on itself again and again draws the same few rectangles thousands of times. In a
+//! long list those of the same abscissas are joined, whether they span the column or not.
+//!
 //! ```
 //! use lvl_grid::{Point, Ring, Rings};
 //! use lvl_simplify::simplified;

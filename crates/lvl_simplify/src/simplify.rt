@@ -1,4 +1,5 @@
-//! Rings are made simpler: long ones are redrawn, and those that span all abscissas are joined.
+//! Rings are made simpler: long ones are redrawn, those that span all abscissas are joined, and so
+//! are rectangles of the same abscissas in a long list.
 ghost use Rattle.std.specs.Prelude.{◌↔◌, ◌⊎◌, IfOk, IfSome, OnOk};
 ghost use Rattle.lvl_grid.specs.declared.point.Square.{Square as GridSquare};
 ghost use Rattle.lvl_grid.specs.Winding.{Covers, SomeCovers, IsRing};
@@ -78,8 +79,9 @@ fn all_shorter(alloc: Global, rings: Rings) -> Result<Rings, AllocError>
 }
 
 /// Rings that cover the same squares as the given ones. Those that span all abscissas are joined if
-/// their rows overlap or touch. A long one that goes in and out many times is redrawn if its
-/// vertical edges are then less than half as long in all (own rule). Fails only if out of memory.
+/// their rows overlap or touch, and in a long list also rectangles of the same abscissas, if that
+/// halves some of its rings. A long ring that goes in and out many times is redrawn if its vertical
+/// edges are then less than half as long in all (own rule). Fails only if out of memory.
 pub fn simplified(alloc: Global, rings: Rings) -> Result<Rings, AllocError>
     ensures { IfOk result (λ simplified. (s : GridSquare) → SomeCovers simplified s ↔ SomeCovers rings s) }
 {

@@ -143,20 +143,24 @@ fn push_joined(windows: &mut Vec<Window>, next: Window) -> Result<(), AllocError
     Ok(())
 }
 
-/// The windows in order of their abscissas and then from below, joined if these are the same and the
-/// rows overlap or touch.
-pub(crate) fn joined_windows(
-    alloc: Global,
-    mut windows: Vec<Window>,
-) -> Result<Vec<Window>, AllocError>
-    ensures { IfOk result (λ joined. (s : GridSquare) → IsWithinSome joined.items s ↔ IsWithinSome windows.items s) }
+/// The windows, each joined with the one before it if both have the same abscissas and the rows
+/// overlap or touch.
+pub(crate) fn joined_in_order(alloc: Global, windows: &[Window]) -> Result<Vec<Window>, AllocError>
+    ensures { IfOk result (λ joined. (s : GridSquare) → IsWithinSome joined.items s ↔ IsWithinSome windows.now s) }
 {
-    windows.sort_unstable_by_key(|window| (window.x0, window.x1, window.y0));
     let mut joined = Vec::new(alloc);
-    for window in &windows {
+    for window in windows {
         push_joined(&mut joined, *window)?;
     }
     Ok(joined)
+}
+
+/// The windows in order from below, joined if their rows overlap or touch.
+fn joined_windows(alloc: Global, mut windows: Vec<Window>) -> Result<Vec<Window>, AllocError>
+    ensures { IfOk result (λ joined. (s : GridSquare) → IsWithinSome joined.items s ↔ IsWithinSome windows.items s) }
+{
+    windows.sort_unstable_by_key(|window| window.y0);
+    joined_in_order(alloc, &windows)
 }
 
 /// Appends the rectangle of a window, if it has squares.

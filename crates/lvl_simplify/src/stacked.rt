@@ -7,7 +7,7 @@ ghost use Rattle.lvl_grid.specs.declared.point.Square.{Square as GridSquare};
 ghost use Rattle.lvl_grid.specs.Winding.{Covers, SomeCovers, IsRing};
 ghost use Rattle.lvl_simplify.specs.Spanning.{IsWithinSome};
 
-use crate::spanning::{joined_windows, push_windows, some_of, window_of};
+use crate::spanning::{joined_in_order, push_windows, some_of, window_of};
 use lvl_grid::{Point, Rings, Window};
 use std::alloc::{AllocError, Global};
 
@@ -50,9 +50,10 @@ fn rectangles(alloc: Global, rings: &Rings) -> Result<(Vec<Window>, Rings), Allo
 fn all_stacked(alloc: Global, rings: Rings) -> Result<Rings, AllocError>
     ensures { IfOk result (λ stacked. (s : GridSquare) → SomeCovers stacked s ↔ SomeCovers rings s) }
 {
-    let (windows, mut stacked) = rectangles(alloc, &rings)?;
+    let (mut windows, mut stacked) = rectangles(alloc, &rings)?;
     drop(rings);
-    let windows = joined_windows(alloc, windows)?;
+    windows.sort_unstable_by_key(|window| (window.x0, window.x1, window.y0));
+    let windows = joined_in_order(alloc, &windows)?;
     push_windows(&mut stacked, &windows)?;
     Ok(stacked)
 }
