@@ -250,7 +250,15 @@ fn compare_both<A: Read, B: Read>(
         return Ok(Measured::StepsDiffer { first, second });
     }
     let limits = profile.limits;
-    let (judged, undrawn) = compare_libraries(alloc, limits, ours, theirs, tops, view, asked.reason)?;
+    let (judged, undrawn) = compare_libraries(
+        alloc,
+        limits,
+        ours,
+        theirs,
+        tops,
+        view,
+        asked.reason,
+    )?;
     let Judged { verdict, why } = judged;
     let comparison = Comparison {
         first,

@@ -57,9 +57,10 @@ pub fn first_undrawn(
         return Ok(None);
     }
     let drawn = drawn_layers(alloc, cells)?;
-    Ok(view
-        .pairs()
-        .iter()
-        .map(|pair| pair.source)
-        .find(|source| !drawn.contains(source)))
+    Ok(
+        view.pairs()
+            .iter()
+            .map(|pair| pair.source)
+            .find(|source| !drawn.contains(source)),
+    )
 }

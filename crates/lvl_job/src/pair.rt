@@ -19,7 +19,7 @@ use crate::job::{fault_of, open};
 use lvl::Tops;
 use lvl_io::{Read, Write};
 use lvl_profile::Profile;
-use lvl_report::{Outcome, RunFault, run_with, run_measured, run_view_with, run_why};
+use lvl_report::{Outcome, RunFault, run_measured, run_view_with, run_why, run_with};
 use lvl_view::View;
 use std::alloc::Global;
 

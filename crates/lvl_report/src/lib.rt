@@ -26,8 +26,8 @@ pub use hint::Hint;
 pub use list::form_list;
 pub use outcome::Outcome;
 pub use runs::{
-    run, run_with, run_cells, run_digest, run_measured, run_show, run_show_with, run_view, run_view_with,
-    run_why,
+    run, run_cells, run_digest, run_measured, run_show, run_show_with, run_view, run_view_with,
+    run_why, run_with,
 };
 pub use status::{RunFault, Status};
 pub use text::{form, form_shown};

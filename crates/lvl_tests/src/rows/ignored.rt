@@ -5,7 +5,7 @@ use super::words::{SQUARE, cut, file};
 use super::{Answer, is_answer, no_tops, sink, status_of};
 use lvl_io::fake::Pieces;
 use lvl_profile::{Ignore, Profile};
-use lvl_report::{Status, run_with, run_digest, run_show_with};
+use lvl_report::{Status, run_digest, run_show_with, run_with};
 use std::alloc::{AllocError, Global};
 use std::process::Abort;
 use std::test::Fail;
