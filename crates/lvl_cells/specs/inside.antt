@@ -10,5 +10,4 @@ pub mod Rounding
 pub mod Topping
 pub mod Placings
 pub mod Beside
-pub mod Borrowed
 pub mod Boxed

@@ -98,16 +98,9 @@ impl Reference {
                 turn: self.turn,
                 at: self.at,
             },
-            shifts: KeptShifts::Listed(&self.shifts),
+            shifts: &self.shifts,
         }
     }
-}
-
-/// The shifts of a borrowed reference. What keeps no list for the zero shift alone makes one.
-#[derive(Debug, Drop)]
-pub(crate) enum KeptShifts<'a> {
-    Single(Offsets),
-    Listed(&'a Offsets),
 }
 
 /// A reference of a cell, borrowed from its [`crate::References`].
@@ -115,14 +108,13 @@ pub(crate) enum KeptShifts<'a> {
 pub struct KeptReference<'a> {
     pub(crate) cell: &'a Name,
     pub(crate) by: Map,
-    pub(crate) shifts: KeptShifts<'a>,
+    pub(crate) shifts: &'a Offsets,
 }
 
 impl<'a> Model for KeptReference<'a> {
     ghost use Rattle.std.specs.Prelude.{All};
     ghost use Rattle.lvl_grid.specs.Turn.{FitsPoint, shifted};
     ghost use Rattle.lvl_cells.specs.Cells.{PlainReference};
-    ghost use Rattle.lvl_cells.specs.inside.Borrowed.{borrowed_shifts};
 
     ghost Value = { PlainReference };
 
@@ -131,10 +123,10 @@ impl<'a> Model for KeptReference<'a> {
       flip = r.by.flip;
       turn = r.by.turn;
       at = r.by.at;
-      shifts = borrowed_shifts r.shifts;
+      shifts = r.shifts.now;
     } };
 
-    ghost invariant = { λ r. All (λ e. FitsPoint (shifted r.by.at e)) (borrowed_shifts r.shifts) };
+    ghost invariant = { λ r. All (λ e. FitsPoint (shifted r.by.at e)) r.shifts.now };
 }
 
 impl<'a> KeptReference<'a> {
@@ -172,10 +164,7 @@ impl<'a> KeptReference<'a> {
         ensures all { result.now ≡ self.now.shifts }
         ensures in_range { All (λ e. FitsPoint (shifted self.now.at e)) self.now.shifts }
     {
-        match &self.shifts {
-            KeptShifts::Single(shifts) => shifts,
-            KeptShifts::Listed(shifts) => shifts,
-        }
+        self.shifts
     }
 
     /// A copy, which shares the name and a shared list of shifts.
@@ -187,7 +176,7 @@ impl<'a> KeptReference<'a> {
             flip: self.by.flip,
             turn: self.by.turn,
             at: self.by.at,
-            shifts: self.shifts().clone()?,
+            shifts: self.shifts.clone()?,
         })
     }
 }

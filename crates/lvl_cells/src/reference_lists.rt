@@ -7,7 +7,7 @@ ghost use Rattle.lvl_cells.specs.inside.Placings.{IsAt};
 
 use crate::lists::push_lean;
 use crate::placements::Placements;
-use crate::reference::{KeptReference, KeptShifts, Reference};
+use crate::reference::{KeptReference, Reference};
 use lvl_grid::Map;
 use lvl_names::Name;
 use std::alloc::{AllocError, Global};
@@ -97,7 +97,7 @@ impl ReferenceLists {
                 turn: placing.turn,
                 at: placing.at,
             },
-            shifts: KeptShifts::Listed(shifts),
+            shifts,
         }
     }
 

@@ -7,16 +7,15 @@ ghost use Rattle.lvl_cells.specs.inside.Boxed.{stored_list};
 use crate::placements::Placements;
 use crate::reference::{KeptReference, Reference};
 use crate::reference_lists::ReferenceLists;
-use crate::single::SingleReference;
 use lvl_names::Name;
 use std::alloc::{AllocError, Global};
 use std::marker::Model;
 
 /// The references of a cell in file order.
 ///
-/// An empty list allocates nothing. A single reference takes 80 bytes, and 64 more if it is repeated.
-/// Of several, a reference takes 32 bytes if its name and its shifts are those of the reference
-/// before, or if it has a single place; a name and a list of shifts that aren't are kept beside it.
+/// An empty list allocates nothing. A single reference is kept as it is. Of several, a reference
+/// takes 32 bytes if its name and its shifts are those of the reference before, or if it has a
+/// single place; a name and a list of shifts that aren't are kept beside it.
 #[derive(Drop)]
 pub struct References {
     alloc: Global,
@@ -27,7 +26,7 @@ pub struct References {
 #[derive(Drop)]
 enum Stored {
     None,
-    One(Box<SingleReference>),
+    One(Box<Reference>),
     Several(Box<ReferenceLists>),
 }
 
@@ -48,7 +47,7 @@ fn smallest(alloc: Global, lists: ReferenceLists) -> Result<Stored, AllocError>
     match lists.len() {
         0 => Ok(Stored::None),
         1 => {
-            let single = SingleReference::of(alloc, &lists.reference(0))?;
+            let single = lists.reference(0).copied()?;
             Ok(Stored::One(Box::new(alloc, single)?))
         }
         _ => Ok(Stored::Several(Box::new(alloc, lists)?)),
@@ -58,7 +57,7 @@ fn smallest(alloc: Global, lists: ReferenceLists) -> Result<Stored, AllocError>
 /// The lists of two references.
 fn lists_of(
     alloc: Global,
-    first: &SingleReference,
+    first: &Reference,
     second: Reference,
 ) -> Result<ReferenceLists, AllocError>
     ensures { IfOk result (λ lists. lists ≡ first.now ∷ second ∷ []) }
@@ -120,7 +119,7 @@ impl References {
     {
         match &self.stored {
             Stored::None => unreachable!(),
-            Stored::One(single) => single.kept(),
+            Stored::One(reference) => reference.kept(),
             Stored::Several(lists) => lists.reference(j),
         }
     }
@@ -141,10 +140,7 @@ impl References {
         ensures kept { OnErr result (self.new ≡ self.old) }
     {
         match &mut self.stored {
-            Stored::None => {
-                let single = SingleReference::of(self.alloc, &reference.kept())?;
-                self.stored = Stored::One(Box::new(self.alloc, single)?);
-            }
+            Stored::None => self.stored = Stored::One(Box::new(self.alloc, reference)?),
             Stored::One(first) => {
                 let lists = lists_of(self.alloc, first, reference)?;
                 self.stored = Stored::Several(Box::new(self.alloc, lists)?);

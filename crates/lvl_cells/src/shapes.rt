@@ -7,7 +7,7 @@ ghost use Rattle.lvl_cells.specs.Cells.{shape_at};
 
 use crate::moved::MovedRing;
 use crate::shape_lists::ShapeLists;
-use crate::single::SingleShape;
+use crate::single::Single;
 use lvl_grid::{Point, Ring};
 use lvl_names::{Layer, Offsets};
 use std::alloc::{AllocError, Global};
@@ -34,7 +34,7 @@ pub struct Shapes {
 #[derive(Drop)]
 enum StoredShapes {
     None,
-    One(Box<SingleShape>),
+    One(Box<Single>),
     Several(Box<ShapeLists>),
 }
 
@@ -175,7 +175,7 @@ impl Shapes {
     {
         match &mut self.stored {
             StoredShapes::None => {
-                let single = SingleShape::of(self.alloc, layer, ring, shifts)?;
+                let single = Single::of(self.alloc, layer, ring, shifts)?;
                 self.stored = StoredShapes::One(Box::new(self.alloc, single)?);
             }
             StoredShapes::One(first) => {

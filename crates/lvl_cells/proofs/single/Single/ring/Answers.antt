@@ -3,7 +3,7 @@ use Rattle.lvl_grid.specs.Winding.{IsRing}
 use Rattle.lvl_cells.specs.Cells.{PlainShape, Rings}
 use Rattle.lvl_cells.specs.inside.Spans.{origin}
 use Rattle.lvl_cells.proofs.Moving.{IsRing-moved, unmoved_ring}
-use Rattle.lvl_cells.proofs.single.SingleShape.ring.Goals as goal
+use Rattle.lvl_cells.proofs.single.Single.ring.Goals as goal
 
 pub returns-clause-value : goal.returns-clause-value
 returns-clause-value c =
