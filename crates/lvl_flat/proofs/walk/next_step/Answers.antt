@@ -61,8 +61,8 @@ returns-in-None c =
     c.in-Some.ensures.some c.in-Some-target.ensures.target
     (λ fits. let no = c.in-None.ensures.fits.1 fits in cc)
 
-pub returns : goal.returns
-returns c =
+pub returns-in-Some-then : goal.returns-in-Some-then
+returns-in-Some-then c =
     let cells : List (PlainCell Rings) = c.args.checked.now.cells in
     let cell : PlainCell Rings = c.index-cells-visit.result in
     let listed : slice_get c.cells.result.now c.args.visit.now.cell ≡ Some cell =
