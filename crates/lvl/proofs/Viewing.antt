@@ -112,6 +112,7 @@ pub compared_in : (view : PlainView) (a b : File) (ours theirs : List (PlainCell
     → IsKeptVerdict view (record { limits = a.profile.limits; cells = ours; top = a.top }) (record { limits = b.profile.limits; cells = theirs; top = b.top }) v
     → (u : Option Layer) → u ≡ first_undrawn theirs (sources view.pairs)
     → IsComparedIn view a b (record { first = g; second = h; verdict = v; undrawn = u })
+unfolding kept_viewed
 compared_in view a b ours theirs g h p q v k u is = record {
   first = (p.cells, p.spelled);
   second = (q.cells, q.spelled);

@@ -1,5 +1,5 @@
 -- What a result says about two files: a verdict, or why one of them is refused.
-use Rattle.std.specs.Prelude.{◌≡◌, ◌≢◌, ◌≤◌, ⊤, ℕ, Bool, false, List, ◌++◌, length, Option, Some, Result, Ok, Err}
+use Rattle.std.specs.Prelude.{◌≡◌, ◌≢◌, ◌≤◌, ⊤, ℕ, Bool, false, List, ◌++◌, length, Option, Some, Result, Ok, Err, None}
 use Rattle.std.specs.Io.KnownBytes.{prepend_known}
 use Rattle.lvl_profile.specs.declared.profile.Profile.{Profile}
 use Rattle.lvl_path.specs.Figure.{figure_rings}
