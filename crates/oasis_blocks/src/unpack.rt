@@ -16,7 +16,7 @@ use lvl_refusal::Cause;
 use std::alloc::{AllocError, Global};
 
 /// How many bytes are unpacked at a time.
-const PIECE: usize = 1024;
+const PIECE: usize = 256;
 
 /// How many bytes a block may have that is kept unpacked, 16 MB. A longer one is unpacked twice.
 const MOST_KEPT: u64 = 1 << 24;

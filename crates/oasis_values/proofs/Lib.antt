@@ -3,6 +3,7 @@ pub mod Reading
 pub mod Integers
 pub mod Found
 pub mod Loops
+pub mod Moved
 pub mod Values
 pub mod Ranges
 pub mod Lists

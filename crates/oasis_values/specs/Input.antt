@@ -8,6 +8,10 @@ use Rattle.oasis_values.specs.declared.input.Input.{Input}
 abbrev pub bytes_left : {R : Type 0} → (R → Option (List ℕ)) → Input R → Option (List ℕ)
 bytes_left remaining i = prepend_known i.ahead (remaining i.reader)
 
+-- the bytes that were read from the reader and not yet taken
+abbrev pub bytes_in_hand : {R : Type 0} → Input R → List ℕ
+bytes_in_hand i = i.ahead
+
 -- how many bytes were read from the reader and not yet taken
 abbrev pub in_hand : {R : Type 0} → Input R → ℕ
 in_hand i = length i.ahead

@@ -1,3 +1,4 @@
 pub mod Leading
 pub mod Stopped
+pub mod Moved
 pub mod Sizes

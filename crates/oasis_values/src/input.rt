@@ -11,9 +11,9 @@ use lvl_profile::Profile;
 #[derive(Drop)]
 pub struct Input<R> {
     reader: R,
-    ahead: Buffer<4096>,
-    offset: u64,
-    profile: Profile,
+    pub(crate) ahead: Buffer<4096>,
+    pub(crate) offset: u64,
+    pub(crate) profile: Profile,
     failed: bool,
     ghost within: { offset ≤ profile.limits.file },
 }

@@ -1,12 +1,12 @@
 //! Strings: a length and that many bytes.
-ghost use Rattle.std.specs.Prelude.{◌≡◌, false};
+ghost use Rattle.std.specs.Prelude.{◌≡◌, ◌<◌, ◌≤◌, ◌++◌, All, IfOk, OnErr, Some, false, take};
 ghost use Rattle.oasis_values.specs.Texts.{any_length, character, least_length, text_length};
 
 use crate::fault::ValueFault;
 use crate::input::Input;
 use lvl_io::Read;
 use lvl_refusal::Cause;
-use std::alloc::Global;
+use std::alloc::{AllocError, Global};
 
 /// How many bytes of a string memory is taken for before any is read, at most. A longer one takes more as they come, so
 /// that a length alone takes no memory.
@@ -72,7 +72,8 @@ fn character(kind: Text, byte: u8) -> Option<u8>
 }
 
 impl<R: Read> Input<R> {
-    ghost use Rattle.oasis_values.specs.Input.{has_failed};
+    ghost use Rattle.oasis_values.specs.Input.{has_failed, bytes_in_hand};
+    ghost use Rattle.oasis_values.specs.inside.Moved.{HasMovedOn};
     ghost use Rattle.oasis_values.specs.Reads.{Reads, Refutes};
     ghost use Rattle.oasis_values.specs.Faults.{as_breach, items};
     ghost use Rattle.oasis_values.specs.Texts.{IsCharacter, IsString, AreCharacters, AreUnkeptCharacters};
@@ -109,14 +110,51 @@ impl<R: Read> Input<R> {
             self.stop();
             return Err(Cause::OutOfMemory);
         };
-        for n in 0..len {
+        let mut left = len;
+        'characters: while left > 0 {
             let byte = self.character(kind)?;
             let Ok(()) = text.push(byte) else {
                 self.stop();
                 return Err(Cause::OutOfMemory);
             };
+            left -= 1;
+            let Ok(taken) = self.take_in_hand(kind, &mut text, left) else {
+                self.stop();
+                return Err(Cause::OutOfMemory);
+            };
+            left -= taken;
         }
         Ok(text)
+    }
+
+    // Puts bytes that were read ahead after the text, at most `most`, if a string of that kind may have any, and returns
+    // how many.
+    fn take_in_hand(
+        &mut self,
+        kind: Text,
+        text: &mut Vec<u8>,
+        most: usize,
+    ) -> Result<usize, AllocError>
+        ensures bound { IfOk result (λ n. n ≤ most) }
+        ensures none { IfOk result (λ n. n ≡ 0 → self.new ≡ self.old) }
+        ensures moved { IfOk result (λ n. 0 < n → HasMovedOn n self.old self.new) }
+        ensures text { IfOk result (λ n. text.new.items ≡ text.old.items ++ take n (bytes_in_hand self.old)) }
+        ensures any { IfOk result (λ n. All (λ c. character kind c ≡ Some c) (take n (bytes_in_hand self.old))) }
+        ensures kept { OnErr result (self.new ≡ self.old) }
+    {
+        let room = self.profile.limits.file - self.offset;
+        let hand = self.ahead.ahead();
+        let n = match kind {
+            Text::B => hand.len().min(room as usize).min(most),
+            Text::A | Text::N => 0,
+        };
+        if n == 0 {
+            return Ok(0);
+        }
+        text.extend_from_slice(&hand[..n])?;
+        self.ahead.skip(n);
+        self.offset += n as u64;
+        Ok(n)
     }
 
     /// Reads a string of any length, and keeps nothing of it. It doesn't allocate.
