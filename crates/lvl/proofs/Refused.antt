@@ -13,7 +13,7 @@ use Rattle.lvl.specs.Accepted.{IsAccepted}
 use Rattle.lvl.specs.Kept.{Kept, Passes, IsFitted, IsKeptRefusal}
 use Rattle.lvl.specs.Answers.{HasPassed, IsEarlyOf, IsRefusalOf, PassesCheck}
 use Rattle.lvl.specs.declared.layout.FileFault.{FileFault}
-use Rattle.lvl.specs.Sides.{IsOfFile, IsReadRefusal}
+use Rattle.lvl.specs.Sides.{IsOfFile}
 use Rattle.lvl.proofs.Lifting.{cell_reported, cell_unaccepted, range_reported, range_unaccepted, top_lifted}
 
 first_second : First ≡ Second → ⊥
@@ -46,28 +46,7 @@ pub no_memory : (side : Side) (file : File) → IsRefusalOf side file OutOfMemor
 no_memory First file = record { unaccepted = λ b. absurd b; reported = tt; passed = tt }
 no_memory Second file = record { unaccepted = λ b. absurd b; reported = tt; passed = tt }
 
-pub file_refused : (side : Side) (file : File) (r : Refusal) → IsReadRefusal side file.profile file.bytes r
-    → IsRefusalOf side file r
-file_refused side file (FileRefusal s f) h = record {
-  unaccepted = λ b cells top accepted. h.1.nothing b.1 cells accepted.head accepted.spelled;
-  reported = λ e. h.1.reported;
-  passed = none_before side file s f h.0;
-}
-file_refused side file (CellsRefusal s f) h = absurd h
-file_refused side file (FlatRefusal s f) h = absurd h
-file_refused side file OutOfMemory h = no_memory side file
-
 -- a refusal of the second file says that the first was read, and one of the first says nothing about the second
-
-pub second_of_first : (file : File) (r : Refusal) → IsOfFile First r → IsRefusalOf Second file r
-second_of_first file (FileRefusal s f) h = record {
-  unaccepted = λ b. absurd (first_second (sym h ∙ b.0));
-  reported = λ e. absurd (first_second (sym h ∙ e));
-  passed = tt;
-}
-second_of_first file (CellsRefusal s f) h = absurd h
-second_of_first file (FlatRefusal s f) h = absurd h
-second_of_first file OutOfMemory h = no_memory Second file
 
 pub first_of_second : (file : File) (cells : List (PlainCell Rings)) (head : Head)
     → IsLayoutOf file.profile file.bytes cells head
@@ -139,12 +118,6 @@ second_refused b k cells head read (FlatRefusal Second f) h = record {
 second_refused b k cells head read OutOfMemory h = no_memory Second b
 
 -- only the file that wasn't read can have been refused early
-
-pub not_early : (side : Side) (a b : Kept) (r : Refusal) → IsKeptRefusal a b r → IsEarlyOf side r → ⊥
-not_early side a b (FileRefusal s f) h e = h
-not_early side a b (CellsRefusal s f) h e = e
-not_early side a b (FlatRefusal s f) h e = e
-not_early side a b OutOfMemory h e = e
 
 pub not_early_of : (side other : Side) (r : Refusal) → (side ≡ other → ⊥) → IsOfFile side r → IsEarlyOf other r → ⊥
 not_early_of side other (FileRefusal s f) apart h e = apart (sym h ∙ e.0)

@@ -23,11 +23,10 @@ ghost use Rattle.lvl.specs.Views.{IsComparedIn, IsViewVerdict};
 use crate::explained::{Explained, Judged};
 use crate::measured::{Asked, Measured, explained_of};
 use crate::reason::judge;
-use crate::side::{check_side, fit_side, read_side};
+use crate::side::{check_side, fit_side, read_side, undrawn_of};
 use crate::steps::may_compare;
 use crate::verdict::{Comparison, Refusal, Tops, Verdict};
 use lvl_cells::{Checked, Library};
-use lvl_count::first_undrawn;
 use lvl_io::Read;
 use lvl_names::Layer;
 use lvl_profile::{Limits, Profile};
@@ -35,19 +34,8 @@ use lvl_region::Side;
 use lvl_view::View;
 use std::alloc::Global;
 
-/// The first source of the map on which no cell of the second library has a shape, if there is one.
-fn undrawn_of(alloc: Global, library: &Library, view: &View) -> Result<Option<Layer>, Refusal>
-    ensures undrawn { IfOk result (λ found. found ≡ first_undrawn library.now (sources view.now.pairs)) }
-    ensures memory { IfErr result (λ refusal. refusal ≡ OutOfMemory) }
-{
-    match first_undrawn(alloc, &library.cells, view) {
-        Ok(found) => Ok(found),
-        Err(_) => Err(Refusal::OutOfMemory),
-    }
-}
-
-/// Checks the libraries of both files and compares them under the view. Returns the verdict, and which source of the map
-/// says nothing of the second library.
+/// Checks the libraries of both files and compares them under the view. Returns the verdict, and which source of the
+/// map says nothing of the second library.
 fn compare_libraries(
     alloc: Global,
     limits: Limits,
@@ -60,7 +48,8 @@ fn compare_libraries(
     ensures verdict { IfOk result (λ found. IsKeptVerdict view.now
         (library_of limits ours tops.now.first) (library_of limits theirs tops.now.second) found.0.verdict) }
     ensures reason { IsTrue explained → IfOk result (λ found. IsKeptReason view.now
-        (library_of limits ours tops.now.first) (library_of limits theirs tops.now.second) found.0.verdict found.0.why) }
+        (library_of limits ours tops.now.first) (library_of limits theirs tops.now.second)
+        found.0.verdict found.0.why) }
     ensures plain { explained ≡ false → IfOk result (λ found. found.0.why ≡ None) }
     ensures undrawn { IfOk result (λ found. found.1 ≡ first_undrawn theirs (sources view.now.pairs)) }
     ensures refused { IfErr result
@@ -99,12 +88,11 @@ fn compare_checked(
 
 /// Whether two files draw the same mask.
 ///
-/// A file is accepted if its bytes spell a library that is sound for its top and within the
-/// standard limits ([`lvl_profile::Limits`]), and each coordinate as placed fits in 64 signed bits
-/// (own rule). `Same` is returned only if both files are accepted and cover the same unit squares
-/// on every Layer, through all references. `Differ` names the least Layer on which they differ, and
-/// the least square on it, by y and then x, that only one side covers. A refusal names a file that
-/// isn't accepted, unless it is out of memory or a failed read.
+/// A file is accepted if its bytes spell a library that is sound for its top and within the standard limits
+/// ([`lvl_profile::Limits`]), and each coordinate as placed fits in 64 signed bits (own rule). `Same` is returned only
+/// if both files are accepted and cover the same unit squares on every Layer, through all references. `Differ` names
+/// the least Layer on which they differ, and the least square on it, by y and then x, that only one side covers. A
+/// refusal names a file that isn't accepted, unless it is out of memory or a failed read.
 pub fn compare_layouts<A: Read, B: Read>(
     alloc: Global,
     first: &mut A,
@@ -159,11 +147,11 @@ pub fn compare_layouts<A: Read, B: Read>(
 
 /// Whether two files draw the same mask under a view (own rule).
 ///
-/// The second file covers a square on a Layer if its top covers it on some Layer that is mapped to this
-/// one. All pairs of the map apply at once, and a Layer that isn't the source of a pair is mapped to
-/// itself. Only squares in the window count. Both whole files must be accepted, whatever the view. `Differ`
-/// names the least Layer after mapping, and the least square in the window. Without pairs and window the
-/// verdict is that of [`compare_layouts`]. Refusals are the same, in the same order.
+/// The second file covers a square on a Layer if its top covers it on some Layer that is mapped to this one. All pairs
+/// of the map apply at once, and a Layer that isn't the source of a pair is mapped to itself. Only squares in the
+/// window count. Both whole files must be accepted, whatever the view. `Differ` names the least Layer after mapping,
+/// and the least square in the window. Without pairs and window the verdict is that of [`compare_layouts`]. Refusals
+/// are the same, in the same order.
 pub fn compare_view<A: Read, B: Read>(
     alloc: Global,
     first: &mut A,
@@ -269,9 +257,9 @@ fn compare_both<A: Read, B: Read>(
     Ok(Measured::Compared(Explained { comparison, why }))
 }
 
-/// Compares two files under a view and a profile, and returns the head of each, the verdict of [`compare_view`], and the
-/// first source of the map on which no cell of the second file has a shape. The second file isn't read if the first is refused. [`compare_layouts`] and
-/// [`compare_view`] are this call with the standard profile and without the heads.
+/// Compares two files under a view and a profile, and returns the head of each, the verdict of [`compare_view`], and
+/// the first source of the map on which no cell of the second file has a shape. The second file isn't read if the first
+/// is refused. [`compare_layouts`] and [`compare_view`] are this call with the standard profile and without the heads.
 pub fn compare_files<A: Read, B: Read>(
     alloc: Global,
     first: &mut A,
@@ -317,9 +305,9 @@ pub fn compare_files<A: Read, B: Read>(
     }
 }
 
-/// Compares two files as [`compare_files`] does, and if they differ, also says why: by which references and which
-/// shape the side that alone covers the square does so. On the second side, a shape counts whose Layer is mapped to
-/// that of the difference.
+/// Compares two files as [`compare_files`] does, and if they differ, also says why: by which references and which shape
+/// the side that alone covers the square does so. On the second side, a shape counts whose Layer is mapped to that of
+/// the difference.
 pub fn explain_files<A: Read, B: Read>(
     alloc: Global,
     first: &mut A,
@@ -360,7 +348,8 @@ pub fn explain_files<A: Read, B: Read>(
 }
 
 /// Compares two files as [`compare_files`] or, if the reason is asked for, as [`explain_files`] does, but only if their
-/// grid steps agree ([`agree_in_steps`](crate::agree_in_steps)). If they don't, the files are read and nothing else is done.
+/// grid steps agree ([`agree_in_steps`](crate::agree_in_steps)). If they don't, the files are read and nothing else is
+/// done.
 pub fn compare_measured<A: Read, B: Read>(
     alloc: Global,
     first: &mut A,

@@ -1,9 +1,11 @@
-//! The steps for one of two files: read it, check its cells, and test where its top places
-//! anything outside 64 bits.
+//! The steps for one of two files: read it, check its cells, test where its top places anything outside 64 bits, and
+//! look for its shapes on the sources of a map.
 ghost use Rattle.std.specs.Prelude.{◌≡◌, ◌≢◌, List, ℕ, Some, None, Err, IfOk, IfErr, option_copied};
 ghost use Rattle.lvl_io.specs.Bytes.{CountsFailure};
+ghost use Rattle.lvl_count.specs.Drawn.{first_undrawn};
 ghost use Rattle.lvl_count.specs.Listed.{tops};
 ghost use Rattle.lvl_flat.specs.Flattened.{IsTopInRange};
+ghost use Rattle.lvl_view.specs.Views.{sources};
 ghost use Rattle.lvl.specs.Layouts.{IsLayoutOf};
 ghost use Rattle.lvl.specs.Kept.{IsCheckedAs};
 ghost use Rattle.lvl.specs.Answers.{IsEarlyOf, IsHopeless, IsUnreadAt, is_read_of};
@@ -15,13 +17,14 @@ ghost use Rattle.lvl.specs.declared.verdict.Refusal.TheVariants.{File as FileRef
 use crate::layout::{Head, read_layout_with};
 use crate::verdict::{CellRefusal, Refusal};
 use lvl_cells::{Checked, Library, check_or_return};
-use lvl_count::top_names;
+use lvl_count::{first_undrawn, top_names};
 use lvl_flat::Fitted;
 use lvl_io::Read;
-use lvl_names::Name;
+use lvl_names::{Layer, Name};
 use lvl_profile::{Limits, Profile};
 use lvl_refusal::Cause;
 use lvl_region::Side;
+use lvl_view::View;
 use std::alloc::Global;
 
 /// Reads a file, and returns its library and what it says about itself.
@@ -119,5 +122,20 @@ pub(crate) fn fit_side(alloc: Global, side: Side, checked: Checked) -> Result<Fi
         Ok(fitted) => Ok(fitted),
         Err(Cause::Breach(fault)) => Err(Refusal::Flat(side, fault)),
         Err(Cause::OutOfMemory) => Err(Refusal::OutOfMemory),
+    }
+}
+
+/// The first source of the map on which no cell of the second library has a shape, if there is one.
+pub(crate) fn undrawn_of(
+    alloc: Global,
+    library: &Library,
+    view: &View,
+) -> Result<Option<Layer>, Refusal>
+    ensures undrawn { IfOk result (λ found. found ≡ first_undrawn library.now (sources view.now.pairs)) }
+    ensures memory { IfErr result (λ refusal. refusal ≡ OutOfMemory) }
+{
+    match first_undrawn(alloc, &library.cells, view) {
+        Ok(found) => Ok(found),
+        Err(_) => Err(Refusal::OutOfMemory),
     }
 }

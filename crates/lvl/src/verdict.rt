@@ -37,8 +37,8 @@ pub struct Comparison {
     pub first: Head,
     pub second: Head,
     pub verdict: Verdict,
-    /// The first source of the map on which no cell of the second file has a shape, if there is one. What it says is
-    /// then said of nothing, as if its number were mistyped (own rule).
+    /// The first source of the map on which no cell of the second file has a shape, if there is one: its pair moves
+    /// nothing, perhaps since a number in it is mistyped (own rule).
     pub undrawn: Option<Layer>,
 }
 

@@ -34,10 +34,6 @@ moved_on pairs a b s q l more m = record {
   covers = more m.source m.is_target m.covers;
 }
 
-pub alike_then : (w : Area) (a b c : Draws) → AlikeOutside w a b → AlikeOutside w b c → AlikeOutside w a c
-alike_then w a b c p q l s out =
-    (λ x. (q l s out).0 ((p l s out).0 x), λ y. (p l s out).1 ((q l s out).1 y))
-
 -- outside of a larger area
 pub alike_wider : (v w : Area) (a b : Draws) → Grows v w → AlikeOutside v a b → AlikeOutside w a b
 alike_wider v w a b wide same l s out = same l s (λ has. out (wide.has l s has))

@@ -156,16 +156,6 @@ precedes_further l s x y (inl b) (inr c) = inl (subst (λ (m : Layer). ComesBefo
 precedes_further l s x y (inr b) (inl c) = inl (subst (λ (m : Layer). ComesBefore m y.0) (sym b.0) c)
 precedes_further l s x y (inr b) (inr c) = inr (b.0 ∙ c.0, before_before s x.1 y.1 b.1 c.1)
 
--- what is found in a part is found in any part with the same squares
-pub found_alike : (a b : Draws) (V W : Part) (found : Option Difference) → ((l : Layer) (q : Square) → V l q → W l q)
-    → ((l : Layer) (q : Square) → W l q → V l q) → IsFoundIn a b V found → IsFoundIn a b W found
-found_alike a b V W None to back h = λ l q shown. h l q (back l q shown)
-found_alike a b V W (Some at) to back h = record {
-  shown = to at.0 at.1 h.shown;
-  alone = h.alone;
-  least = λ l q shown before. h.least l q (back l q shown) before;
-}
-
 -- a square of the part W that is left out: it doesn't come before what is known, or both draw it or neither
 abbrev pub IsSpared : Draws → Draws → Option Difference → Layer → Square → Type 0
 IsSpared a b known l q = (IsOpen known l q → ⊥) ⊎ (a l q ↔ b l q)
@@ -294,15 +284,6 @@ improved_none a b P (Some x) none = record {
   new = inl refl;
   kept = λ e. e;
 }
-
--- in a part with the same squares
-pub improved_alike : (a b : Draws) (V W : Part) (known found : Option Difference)
-    → ((l : Layer) (q : Square) → V l q → W l q) → ((l : Layer) (q : Square) → W l q → V l q)
-    → IsImproved a b V known found → IsImproved a b W known found
-improved_alike a b V W known found to back h =
-    let Nowhere : Part = λ l q. ⊥ in
-    improved_more a b V Nowhere W known found found to (λ l q none. absurd none) (λ l q w. inl (back l q w)) h
-    (improved_none a b Nowhere found (λ l q none. none))
 
 -- what is found where nothing was known
 pub improved_found : (a b : Draws) (P : Part) (found : Option Difference) → IsImproved a b P None found

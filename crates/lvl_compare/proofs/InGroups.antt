@@ -2,7 +2,6 @@
 use Rattle.std.proofs.Common.{◌≡◌, ◌↔◌, ◌⊎◌, inl, inr, List, [], Option, Some, None, Bool, true, false, not, filter}
 use Rattle.std.proofs.Common.{Contains, refl, sym, subst, ap, ◌∙◌, arith, zero, suc, ◌∷◌, cond, ◌&&◌, ◌||◌, ◌==◌}
 use Rattle.std.proofs.Common.{IsSomeAnd, is_some, ℤ, ◌<◌, ltb}
-use Rattle.std.specs.Prelude.{IsTrue}
 use Rattle.std.proofs.lemmas.Bool.{and_from, and_parts, both_ways, cases_Bool, eq-eqb, eqb-true, lt-ltb, ltb-true}
 use Rattle.std.proofs.lemmas.Bool.{not-false, not-true, or_cases}
 use Rattle.std.proofs.lemmas.List.Elements.{All-contains, filter_passes}
@@ -52,18 +51,6 @@ true_before a b (inr h) =
     (lt-ltb a.datatype b.datatype h.1) in
     elim (ltb a.layer b.layer) as (λ t. (t || ((a.layer == b.layer) && ltb a.datatype b.datatype)) ≡ true)
     [ true ↦ refl | false ↦ both ]
-
-before_false : (a b : Layer) → is_before a b ≡ false → ComesBefore a b → ⊥
-before_false a b e h = let never : true ≡ false = sym (true_before a b h) ∙ e in cc
-
--- what a test of the order returns
-pub tested_before : (a b : Layer) (t : Bool) → IsTrue t ↔ ComesBefore a b → t ≡ is_before a b
-tested_before a b true h = sym (true_before a b (h.0 refl))
-tested_before a b false h =
-    elim (cases_Bool (is_before a b)) [
-      | inl before ↦ absurd (let never : false ≡ true = h.1 (before_true a b before) in cc)
-      | inr not ↦ sym not
-    ]
 
 -- a Layer isn't after another exactly if the other doesn't come before it
 pub not_after : (k l : Layer) → (ComesBefore k l → ⊥) → is_until (Some k) l ≡ true

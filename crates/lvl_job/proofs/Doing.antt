@@ -12,12 +12,10 @@ use Rattle.lvl_report.specs.declared.status.RunFault.TheVariants.{Output as RunO
 use Rattle.lvl_report.specs.Runs.{Input, input, IsBegun, IsDigestedBy, IsListedBy, IsShownBy}
 use Rattle.lvl_report.specs.Texts.{text_of_digested, text_of_list, text_of_shown}
 use Rattle.lvl_report.specs.Hints.{IsShownOutcome}
-use Rattle.lvl_report.specs.Writing.{is_output}
 use Rattle.lvl_view.specs.Views.{PlainView}
 use Rattle.lvl_job.specs.declared.fault.JobFault.{JobFault}
 use Rattle.lvl_job.specs.declared.fault.JobFault.TheVariants.{BadView, BadIgnore, NotOpened, OutOfMemory, Output}
 use Rattle.lvl_job.specs.declared.fault.JobFault.TheVariants.{BadLine, LongList, UnreadList}
-use Rattle.lvl_job.specs.Ends.{is_cut}
 use Rattle.lvl_profile.specs.declared.profile.Profile.{Profile}
 use Rattle.lvl_job.specs.Jobs.{IsAnswered, IsBadIgnore, IsCut, IsFaultOfJob, IsPairBegun, IsProfileAsked}
 use Rattle.lvl_job.specs.Jobs.{IsIgnoreFault, IsNotOpened, IsViewAsked, Named, UnderView, UnderProfile}
@@ -258,7 +256,3 @@ module _ {S : Type 0} (opens : S → List ℕ → Opened → S → Type 0) where
       → IsFaultOfJob opens (Cells file ignored is_large unpack) old old from from fault
   cells_ignore_fault file ignored is_large unpack old from fault =
       no_ignore (Cells file ignored is_large unpack) (option_map string_bytes ignored) old from fault (λ h. h)
-
-pub cut_is : (fault : RunFault) → is_cut {A = Outcome} (Err (fault_of_run fault)) ≡ is_output {A = Outcome} (Err fault)
-cut_is RunOutput = refl
-cut_is RunOutOfMemory = refl

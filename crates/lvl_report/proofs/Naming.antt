@@ -1,24 +1,9 @@
 -- The line that names the cells that could be the top.
-use Rattle.std.proofs.Common.{◌≡◌, ◌≤◌, ◌<◌, ◌∙◌, ℕ, List, [], ◌∷◌, ◌++◌, length, take, drop, flat_map, get_or, if◌then◌else◌}
-use Rattle.std.proofs.Common.{refl, sym, ap, append_assoc}
+use Rattle.std.proofs.Common.{◌≡◌, ◌∙◌, ℕ, List, [], ◌++◌, length, take}
+use Rattle.std.proofs.Common.{refl, ap, append_assoc}
 use Rattle.std.specs.Prelude.{codes, decimal, Option}
-use Rattle.std.proofs.lemmas.Bool.{le-ltb, lt-ltb}
-use Rattle.std.proofs.lemmas.List.{append-nil, take_all}
 use Rattle.lvl_region.specs.declared.region.Side.{Side}
 use Rattle.lvl_report.specs.Tops.{names_text, others_text, top_option, tops_text, which_file}
-
--- at most eight names are all named
-pub few_names : (names : List (List ℕ)) → length names ≤ 8
-    → names_text (take 8 names) ++ others_text names ≡ names_text names
-few_names names few =
-    ap (λ b. names_text (take 8 names) ++ (if b then codes ", .." else [])) (le-ltb 8 (length names) few)
-    ∙ append-nil (names_text (take 8 names)) ∙ ap names_text (take_all 8 names few)
-
--- of more, the others aren't
-pub many_names : (names : List (List ℕ)) → 8 < length names
-    → names_text (take 8 names) ++ others_text names ≡ names_text (take 8 names) ++ codes ", .."
-many_names names many =
-    ap (λ b. names_text (take 8 names) ++ (if b then codes ", .." else [])) (lt-ltb 8 (length names) many)
 
 -- a text to which five parts were added
 made_of : (t0 t1 t2 t3 t4 t5 a b c d e : List ℕ) → t0 ≡ [] → t1 ≡ t0 ++ a → t2 ≡ t1 ++ b → t3 ≡ t2 ++ c

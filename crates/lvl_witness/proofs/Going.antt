@@ -8,7 +8,7 @@ use Rattle.lvl_cells.specs.Soundness.{AreLinked, IsOrder}
 use Rattle.lvl_flat.specs.inside.Walking.{toil}
 use Rattle.lvl_witness.specs.declared.frame.Frame.{Frame}
 use Rattle.lvl_witness.specs.declared.witness.Step.{Step}
-use Rattle.lvl_witness.specs.inside.Moves.{begun, frame_weight, references_left, IsPast, Enters}
+use Rattle.lvl_witness.specs.inside.Moves.{begun, frame_weight, references_left, Enters}
 use Rattle.lvl_witness.specs.inside.Searching.{work_left}
 use Rattle.lvl_witness.proofs.Covering.{weight_begun, weight_entered}
 use Rattle.lvl_witness.proofs.Skipping.{left_at}
@@ -17,19 +17,6 @@ pub less_out : (cells : List (PlainCell Rings)) (front : List Frame) (f : Frame)
     → work_left cells front < work_left cells (front ++ f ∷ [])
 less_out cells front f =
     omega (arith, sum_by_push (frame_weight toil cells) front f, sum_by_push (λ g. 1 + references_left cells g) front f)
-
-pub less_past : (cells : List (PlainCell Rings)) (q : Square) (front : List Frame) (f rest : Frame)
-    → IsPast cells q f rest → work_left cells (front ++ rest ∷ []) < work_left cells (front ++ f ∷ [])
-less_past cells q front f rest past =
-    omega (
-      arith,
-      past.less toil,
-      past.fewer,
-      sum_by_push (frame_weight toil cells) front f,
-      sum_by_push (frame_weight toil cells) front rest,
-      sum_by_push (λ g. 1 + references_left cells g) front f,
-      sum_by_push (λ g. 1 + references_left cells g) front rest,
-    )
 
 pub less_into : (cells : List (PlainCell Rings)) (order : List ℕ) (q : Square) (front : List Frame) (f : Frame)
     (step : Step) (m : Map) (rest : Frame) → AreLinked cells → IsOrder cells order → Enters cells q f step m rest

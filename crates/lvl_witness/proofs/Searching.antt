@@ -346,11 +346,6 @@ entered_reached s layers q front f steps step m rest w e = record {
       (leads_into s layers q front f steps step m rest w e);
 }
 
--- the top itself
-pub top_reached : (s : Settled) (top : PlainCell Rings) → slice_get s.cells s.top ≡ Some top
-    → IsReached s (begun s.top unmoved)
-top_reached s top at = record { top = top; is_top = at; cell = top; there = at; steps = 0; chain = (refl, refl) }
-
 -- the search begins with the top, if no own shape of it covers the square
 pub search_begins : (s : Settled) (layers : List Layer) (q : Square) (top : PlainCell Rings) → IsChecked s
     → slice_get s.cells s.top ≡ Some top → HasNoRing s.cells s.top unmoved layers q

@@ -1,13 +1,12 @@
 -- A wider profile changes no answer that was given under a narrower one.
 use Rattle.std.proofs.Common.{ℕ, List}
 use Rattle.lvl_path.specs.Figure.{Figure}
-use Rattle.lvl_cells.specs.Cells.{PlainCell, Rings}
+use Rattle.lvl_cells.specs.Cells.{PlainCell}
 use Rattle.lvl_profile.specs.Profiles.{IsWider}
 use Rattle.lvl_profile.specs.declared.profile.Profile.{Profile}
 use Rattle.oasis_stream.proofs.Growing.{whole_grows}
-use Rattle.oasis_library.specs.Library.{SpellsLibrary, IsRead}
+use Rattle.oasis_library.specs.Library.{SpellsLibrary}
 use Rattle.oasis_library.specs.declared.head.OasisHead.{OasisHead}
-use Rattle.oasis_library.proofs.Readable.{law_only}
 
 -- a file that spells a library under a profile spells the same library, with the same head, under each wider one
 pub library_grows : (less more : Profile) → IsWider less more → (bytes : List ℕ) (cells : List (PlainCell Figure))
@@ -18,16 +17,4 @@ library_grows less more within bytes cells h p =
       whole = whole_grows less more within bytes p.items p.whole;
       cells_are = p.cells_are;
       head_is = p.head_is;
-    }
-
--- what is read under a profile is read under each wider one
-pub read_grows : (less more : Profile) → IsWider less more → (bytes : List ℕ) (found : List (PlainCell Rings))
-    (h : OasisHead) → IsRead less bytes found h → IsRead more bytes found h
-read_grows less more within bytes found h p =
-    let spelled = library_grows less more within bytes p.cells h p.spelled in
-    record {
-      cells = p.cells;
-      spelled = spelled;
-      only = λ others g q. law_only more bytes p.cells others h g spelled q;
-      kept_as = p.kept_as;
     }

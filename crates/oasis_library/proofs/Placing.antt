@@ -1,13 +1,12 @@
 -- The placements of a cell stay the same after more targets are kept, and one more.
 use Rattle.std.proofs.Common.{◌≡◌, ◌<◌, get_or, List, [], ◌∷◌, ◌++◌, map, length, All, refl, sym, ap}
-use Rattle.std.proofs.Common.{arith, ◌∙◌}
+use Rattle.std.proofs.Common.{◌∙◌}
 use Rattle.std.proofs.lemmas.List.{get_or-take, map-append}
-use Rattle.std.proofs.lemmas.List.Elements.{All-head, All-tail, All-weaker}
+use Rattle.std.proofs.lemmas.List.Elements.{All-head, All-tail}
 use Rattle.lvl_grid.specs.declared.map.Map.{Map}
 use Rattle.lvl_grid.specs.declared.point.Point.{Point}
 use Rattle.lvl_cells.specs.Cells.{PlainPlacement}
 use Rattle.lvl_cells.specs.inside.Spans.{IsPrefixOf}
-use Rattle.lvl_cells.proofs.Spanned.{no_fewer}
 use Rattle.oasis_records.specs.declared.cell.CellRef.{CellRef}
 use Rattle.oasis_figures.specs.Figures.{Placed}
 use Rattle.oasis_library.specs.declared.placement.Target.{Target}
@@ -16,13 +15,6 @@ use Rattle.oasis_library.specs.inside.Kept.{target_ref, placed, placed_from, IsK
 
 abbrev pub HaveTargets : List Target → List PlainPlacement → Type 0
 HaveTargets targets placements = All (λ p. p.key < length targets) placements
-
--- keys stay indexes of targets after more targets are kept
-pub targets_still : (old new : List Target) (placements : List PlainPlacement)
-    → IsPrefixOf old new → HaveTargets old placements → HaveTargets new placements
-targets_still old new placements on h =
-    All-weaker {X = PlainPlacement} (λ p. p.key < length old) (λ p. p.key < length new)
-    (λ p low. omega (arith, low, no_fewer old new on)) placements h
 
 -- placements stay the same after more targets are kept
 pub placed_same : (old new : List Target) (placements : List PlainPlacement)

@@ -207,12 +207,6 @@ unsigned_grows less more within b n p =
       fits = p.fits;
     }
 
--- fewer than ten groups fit
-pub power_fits : (k v : ℕ) → k < 10 → v < 128 ^ k → v < 2 ^ 64
-power_fits k v h lt =
-    let most : 128 ^ k ≤ 128 ^ 9 = pow-le-pow_right {n = 128} (omega arith) {i = k} {j = 9} (omega arith) in
-    omega (arith, most)
-
 -- bytes that continue, of which there are few and whose number fits, begin an integer: a zero byte ends it
 pub continues_begun : (i : Profile) (xs : List ℕ) → Continues xs → length xs < most_bytes i → groups xs < 2 ^ 64
     → IsBegun (IsUnsigned i) xs

@@ -127,8 +127,8 @@ impl<R: Read> Input<R> {
         Ok(text)
     }
 
-    // Puts bytes that were read ahead after the text, at most `most`, if a string of that kind may have any, and returns
-    // how many.
+    // Puts bytes that were read ahead after the text, at most `most`, if a string of that kind may have any bytes. It
+    // returns how many.
     fn take_in_hand(
         &mut self,
         kind: Text,
