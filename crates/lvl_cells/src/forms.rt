@@ -4,7 +4,6 @@ ghost use Rattle.std.specs.Prelude.{◌<◌, IfSome};
 
 use lvl_grid::Point;
 use std::alloc::{AllocError, Global};
-use std::hash::{FoldHasher, Hasher};
 
 /// With fewer rings there is no table.
 const FEWEST: usize = 64;
@@ -21,6 +20,21 @@ pub(crate) struct Forms {
     slots: Vec<u32>,
 }
 
+/// The multiplier of std's `FoldHasher`.
+const MULTIPLIER: u64 = 0x9e37_79b9_7f4a_7c15;
+
+/// The halves of a product, joined by xor.
+fn folded(a: u64, b: u64) -> u64 {
+    let product = a as u128 * b as u128;
+    (product & 0xFFFF_FFFF_FFFF_FFFF) as u64 ^ (product >> 64) as u64
+}
+
+/// A hash with a number mixed into it, as `FoldHasher` does with eight bytes, but without a look at each byte: every
+/// ring that is read is hashed.
+fn mixed(hash: u64, number: i64) -> u64 {
+    folded(hash ^ number.cast_unsigned(), MULTIPLIER)
+}
+
 /// The slots of a ring in a table of this size, or None if there is no table. They depend only on the
 /// differences between successive points, so they are the same for the ring moved.
 fn slots_of(ring: &[Point], slots: usize) -> Option<(usize, usize)>
@@ -29,14 +43,14 @@ fn slots_of(ring: &[Point], slots: usize) -> Option<(usize, usize)>
     if slots == 0 {
         return None;
     }
-    let mut hasher = FoldHasher::default();
+    let mut hash = 0;
     let mut last = *ring.first()?;
     for point in ring {
-        hasher.write_i64(point.x.saturating_sub(last.x));
-        hasher.write_i64(point.y.saturating_sub(last.y));
+        hash = mixed(hash, point.x.saturating_sub(last.x));
+        hash = mixed(hash, point.y.saturating_sub(last.y));
         last = *point;
     }
-    let slot = hasher.finish() as usize % slots;
+    let slot = hash as usize % slots;
     Some((slot, (slot + 1) % slots))
 }
 
