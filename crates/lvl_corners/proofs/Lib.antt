@@ -12,3 +12,4 @@ pub mod Vectors
 pub mod Pairs
 pub mod Lines
 pub mod Masks
+pub mod Parts
