@@ -5,10 +5,12 @@ ghost use Rattle.lvl_corners.specs.Digests.{HasHashed};
 ghost use Rattle.lvl_corners.specs.declared.digest.LayerHash.{LayerHash as HashOfLayer};
 ghost use Rattle.lvl.specs.Hashes.{below_at, IsHashedTo, IsPushed};
 
-use crate::pace::Pace;
-use crate::strip::next_strip;
+use crate::pace::{Pace, Points};
+use crate::parts::push_column;
+use crate::strip::{Axis, Strip, end_before, next_strip, slice_around};
 use lvl_corners::{LayerHash, Span};
 use lvl_flat::{Fitted, Flat};
+use lvl_grid::Window;
 use lvl_names::Layer;
 use std::alloc::{AllocError, Global};
 
@@ -41,16 +43,58 @@ fn push_strip(
     Ok(())
 }
 
-/// The abscissa `end`, or None if the columns of a window end there: their last corners are on their
-/// right sides.
-fn end_before(end: i64, last: i64) -> Option<i64>
-    ensures { result ≡ below_at end last }
+/// Hashes the corners of a strip of width 1 where much is drawn. If the window ends there, these are the
+/// corners at two abscissas, one after the other: on the right side of the last column nothing is drawn.
+fn push_narrow(
+    alloc: Global,
+    hashes: &mut [LayerHash],
+    fitted: &Fitted,
+    layers: &[Layer],
+    window: &Window,
+    from: i64,
+    end: i64,
+    most: usize,
+) -> Result<Points, AllocError>
 {
-    if end < last { Some(end) } else { None }
+    let column = slice_around(window, Axis::X, from, end);
+    let points = push_column(alloc, hashes, fitted, layers, &column, from, most)?;
+    if end < window.x1 {
+        return Ok(points);
+    }
+    let column = slice_around(window, Axis::X, end, end);
+    push_column(alloc, hashes, fitted, layers, &column, end, most)?;
+    Ok(points)
+}
+
+/// Hashes the corners of a strip that begins at `from`, those of each Layer by its hash. Returns the pace
+/// of the next strip.
+fn push_next(
+    alloc: Global,
+    hashes: &mut [LayerHash],
+    fitted: &Fitted,
+    layers: &[Layer],
+    window: &Window,
+    from: i64,
+    strip: Strip,
+    most: usize,
+) -> Result<Pace, AllocError>
+{
+    let Strip { flat, end, pace } = strip;
+    let Some(flat) = flat else {
+        let points = push_narrow(alloc, hashes, fitted, layers, window, from, end, most)?;
+        return Ok(pace.after(1, points));
+    };
+    let span = Span {
+        from: Some(from),
+        below: end_before(end, window.x1),
+    };
+    push_strip(alloc, hashes, &flat, span)?;
+    Ok(pace)
 }
 
 /// The hashes of what the top covers on some Layers. The Layers must be in their order, without
-/// duplicates. Strips are so wide that the rings have at most `most` points in one.
+/// duplicates. Strips are so wide that the rings have at most `most` points in one, and where they have
+/// more in a strip of width 1, its corners are hashed part by part.
 pub(crate) fn hash_layers(
     alloc: Global,
     fitted: &Fitted,
@@ -64,16 +108,12 @@ pub(crate) fn hash_layers(
     let mut hashes = hashes_of(alloc, layers)?;
     let window = fitted.extent();
     let mut from = window.x0;
-    let mut pace = Pace::new(&window, most);
+    let mut pace = Pace::new(window.x0, window.x1, most);
     while from < window.x1 {
-        let strip = next_strip(alloc, fitted, layers, &window, from, pace)?;
-        let span = Span {
-            from: Some(from),
-            below: end_before(strip.end, window.x1),
-        };
-        push_strip(alloc, &mut hashes, &strip.flat, span)?;
-        from = strip.end;
-        pace = strip.pace;
+        let strip = next_strip(alloc, fitted, layers, &window, Axis::X, from, pace)?;
+        let end = strip.end;
+        pace = push_next(alloc, &mut hashes, fitted, layers, &window, from, strip, most)?;
+        from = end;
     }
     Ok(hashes)
 }

@@ -1,7 +1,6 @@
-//! How wide the strips of a digest are, and how many points the rings may have in one.
+//! How wide the strips of a digest are, or how high the parts of a column, and how many points the rings
+//! may have in one.
 ghost use Rattle.std.specs.Prelude.{◌≡◌, ◌<◌, ◌/◌};
-
-use lvl_grid::Window;
 
 /// How often a strip is halved with one number of points. It is then doubled, so strips aren't
 /// halved without end where dense columns and empty ones take turns.
@@ -10,7 +9,8 @@ const MOST_TRIES: u32 = 256;
 /// How many more strips may be halved after a strip that has used much of its room.
 const PAID_TRIES: u32 = 4;
 
-/// How many points the rings of a strip have, and how many of them are on its left and right sides.
+/// How many points the rings of a strip have, and how many of them are on its left and right sides, or
+/// on the lower and upper sides of a part.
 #[derive(Clone, Copy)]
 pub(crate) struct Points {
     pub all: usize,
@@ -18,6 +18,14 @@ pub(crate) struct Points {
 }
 
 impl Points {
+    /// The number of the points of both.
+    pub(crate) fn with(self, others: Points) -> Points {
+        Points {
+            all: self.all.saturating_add(others.all),
+            on_sides: self.on_sides.saturating_add(others.on_sides),
+        }
+    }
+
     /// The number of points that aren't on the sides.
     fn inner(self) -> usize {
         self.all.saturating_sub(self.on_sides)
@@ -49,12 +57,13 @@ fn next_width(width: u64, inner: usize, room: usize) -> u64
 }
 
 impl Pace {
-    /// The pace of the first strip, which may be as wide as the window.
-    pub(crate) fn new(window: &Window, points: usize) -> Pace
+    /// The pace of the first of the strips from one abscissa (or ordinate) up to another, which may be as
+    /// wide as all of them.
+    pub(crate) fn new(from: i64, end: i64, points: usize) -> Pace
         ensures { 0 < result.width }
     {
         Pace {
-            width: window.x0.abs_diff(window.x1).max(1),
+            width: from.abs_diff(end).max(1),
             points,
             least: points,
             tries: MOST_TRIES,

@@ -13,3 +13,4 @@ pub mod Pairs
 pub mod Lines
 pub mod Masks
 pub mod Parts
+pub mod Hashings

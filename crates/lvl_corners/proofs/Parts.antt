@@ -1,10 +1,10 @@
 -- The corners of two parts of a column, one above the other.
-use Rattle.std.proofs.Common.{◌≡◌, Bool, true, ◌||◌, List, ◌++◌}
+use Rattle.std.proofs.Common.{◌≡◌, Bool, true, false, ◌||◌, List, [], ◌++◌, Some, None}
 use Rattle.std.proofs.Common.{ℤ, pos, ◌+ℤ◌, ◌-ℤ◌, ◌<ℤ◌, ◌≤ℤ◌, int_lt, int_le, ◌↔◌, inl, inr, Contains}
 use Rattle.std.proofs.Common.{refl, sym, ◌∙◌, ap, arith}
 use Rattle.std.specs.Bool.{Decides}
 use Rattle.std.proofs.lemmas.Int.{ints, by_lt_z}
-use Rattle.std.proofs.lemmas.Bool.{and_parts, and_from, or_cases, or_left, or_right}
+use Rattle.std.proofs.lemmas.Bool.{and_parts, and_from, cases_Bool, or_cases, or_left, or_right}
 use Rattle.std.proofs.lemmas.Bool.Decides.{same_from_decides}
 use Rattle.std.proofs.lemmas.List.Elements.{Contains-append_cases, Contains-append_left}
 use Rattle.std.proofs.lemmas.List.Elements.{Contains-append_right}
@@ -137,3 +137,55 @@ corners_at_all P x ks h = record {
         (h.each k).1 (omega (arith, ints, low, high), refl, all.1, all.2),
   );
 }
+
+-- a set without squares has no corners at an abscissa
+pub no_corners_at : (P : Square → Type 0) (x : ℤ) (rows : Span) → ((s : Square) → P s → ⊥) → AreCornersAt P x rows []
+no_corners_at P x rows none = record {
+  covered = λ s. false;
+  is_covered = λ s. (λ t. cc, λ p. absurd (none s p));
+  bounded = record { left = pos 0; bottom = pos 0; each = λ s t. absurd (cc) };
+  rising = λ i j d lt far. absurd (omega (arith, far));
+  each = λ k. (λ c. let none = c.1 in absurd (omega (arith, none)), λ all. absurd (all.2 all.3));
+}
+
+-- the corners at an abscissa are those from it on, if all squares are left of it
+pub corners_beyond : (P : Square → Type 0) (x : ℤ) (ks : List Corner) → ((s : Square) → P s → s.x <ℤ x)
+    → AreCornersIn P (only x) ks → AreCornersIn P (record { from = Some x; below = None }) ks
+corners_beyond P x ks left h =
+    let empty : (u v : ℤ) → x ≤ℤ u → h.covered (record { x = u; y = v }) ≡ false = λ u v le.
+    elim (cases_Bool (h.covered (record { x = u; y = v }))) [
+      | inl t ↦ let lt = left (record { x = u; y = v }) ((h.is_covered (record { x = u; y = v })).0 t) in
+          absurd (omega (arith, ints, lt, le))
+      | inr f ↦ f
+    ] in
+    let none : (u v : ℤ) → x <ℤ u → change_at h.covered u v ≡ pos 0 = λ u v lt.
+    rw (
+      ap bit (empty u v (omega (arith, ints, lt))),
+      ap bit (empty (u -ℤ pos 1) v (omega (arith, ints, lt))),
+      ap bit (empty u (v -ℤ pos 1) (omega (arith, ints, lt))),
+      ap bit (empty (u -ℤ pos 1) (v -ℤ pos 1) (omega (arith, ints, lt))),
+    ) refl in
+    record {
+      covered = h.covered;
+      is_covered = h.is_covered;
+      bounded = h.bounded;
+      rising = h.rising;
+      each = λ k. (
+        λ there.
+            let all = (h.each k).0 there in (
+              and_from (int_le x k.x) true (and_parts (int_le x k.x) (int_lt k.x (x +ℤ pos 1)) all.0).0 refl,
+              all.1,
+              all.2,
+            ),
+        λ all.
+            let low : x ≤ℤ k.x = le_of x k.x (and_parts (int_le x k.x) true all.0).0 in
+            by_lt_z x k.x
+            (λ lt. absurd (all.1 (all.2 ∙ none k.x k.y lt)))
+            (λ ge. (h.each k).1 (
+              and_from (int_le x k.x) (int_lt k.x (x +ℤ pos 1)) (le_test x k.x low)
+                  (lt_test k.x (x +ℤ pos 1) (omega (arith, ints, ge))),
+              all.1,
+              all.2,
+            )),
+      );
+    }

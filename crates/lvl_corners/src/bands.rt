@@ -4,7 +4,8 @@ ghost use Rattle.std.specs.Ordering.{int_eq};
 ghost use Rattle.lvl_grid.specs.Winding.{SomeCovers};
 ghost use Rattle.lvl_sweep.specs.Bands.{slab_of};
 ghost use Rattle.lvl_corners.specs.inside.Marks.{net, signed, interval_step, row_step, band_net};
-ghost use Rattle.lvl_corners.specs.inside.Marks.{AreInOrder, AreMarksOf};
+ghost use Rattle.lvl_corners.specs.inside.Marks.{AreInOrder, AreMarksAt, AreMarksOf};
+ghost use Rattle.lvl_corners.specs.Spans.{whole};
 ghost use Rattle.lvl_corners.specs.inside.Rows.{ended_net};
 
 use crate::mark::Mark;
@@ -150,15 +151,9 @@ fn push_band(marks: &mut Vec<Mark>, row: &mut Row, band: &Band) -> Result<(), Al
     Ok(())
 }
 
-/// The corners, at the abscissas of a span, of all rectangles of the bands of rings, in order of
-/// abscissa and then of ordinate.
-pub(crate) fn marks_of<R: RingList>(
-    alloc: Global,
-    rings: &R,
-    span: Span,
-) -> Result<Vec<Mark>, AllocError>
-    ensures marks { IfOk result (λ marks. AreMarksOf (SomeCovers (R.rings rings.now)) span marks.items) }
-    ensures order { IfOk result (λ marks. AreInOrder marks.items) }
+/// The corners of all rectangles of the bands of rings, in no order.
+fn all_marks<R: RingList>(alloc: Global, rings: &R) -> Result<Vec<Mark>, AllocError>
+    ensures { IfOk result (λ marks. AreMarksOf (SomeCovers (R.rings rings.now)) whole marks.items) }
 {
     let mut marks = Vec::new(alloc);
     let mut row = Row {
@@ -171,7 +166,38 @@ pub(crate) fn marks_of<R: RingList>(
         sweep.advance();
     }
     push_row(&mut marks, row.y, &row.intervals, false)?;
+    Ok(marks)
+}
+
+/// The corners, at the abscissas of a span, of all rectangles of the bands of rings, in order of
+/// abscissa and then of ordinate.
+pub(crate) fn marks_of<R: RingList>(
+    alloc: Global,
+    rings: &R,
+    span: Span,
+) -> Result<Vec<Mark>, AllocError>
+    ensures marks { IfOk result (λ marks. AreMarksOf (SomeCovers (R.rings rings.now)) span marks.items) }
+    ensures order { IfOk result (λ marks. AreInOrder marks.items) }
+{
+    let mut marks = all_marks(alloc, rings)?;
     marks.retain(|mark| span.has(mark.x));
+    marks.sort_unstable_by_key(|mark| (mark.x, mark.y));
+    Ok(marks)
+}
+
+/// The corners, at one abscissa and at the ordinates of some rows, of all rectangles of the bands of
+/// rings, in order.
+pub(crate) fn marks_at<R: RingList>(
+    alloc: Global,
+    rings: &R,
+    x: i64,
+    rows: Span,
+) -> Result<Vec<Mark>, AllocError>
+    ensures marks { IfOk result (λ marks. AreMarksAt (SomeCovers (R.rings rings.now)) x rows marks.items) }
+    ensures order { IfOk result (λ marks. AreInOrder marks.items) }
+{
+    let mut marks = all_marks(alloc, rings)?;
+    marks.retain(|mark| mark.x == x && rows.has(mark.y));
     marks.sort_unstable_by_key(|mark| (mark.x, mark.y));
     Ok(marks)
 }

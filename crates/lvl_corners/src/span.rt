@@ -1,10 +1,10 @@
-//! Spans: the abscissas of a column or a strip.
+//! Spans: the abscissas of a column or a strip, or the ordinates of some rows.
 ghost use Rattle.std.specs.Prelude.{◌≡◌, ◌<ℤ◌, negsuc, ◌-◌, ◌^◌, true, Some, IsTrue};
 ghost use Rattle.lvl_sweep.specs.Ahead.{is_from};
 ghost use Rattle.lvl_corners.specs.Spans.{is_below, spanned, whole, left_part, right_part, StripsAppend};
 ghost use Rattle.lvl_corners.specs.Parts.{PartsAppend, PartsAreAll};
 
-/// The abscissas from `from` on, if it is given, and below `below`, if that is given.
+/// The abscissas (or ordinates) from `from` on, if it is given, and below `below`, if that is given.
 #[derive(Clone, Copy)]
 pub struct Span {
     pub from: Option<i64>,

@@ -1,7 +1,7 @@
 use Rattle.std.proofs.Common.{◌≡◌, ◌+ℤ◌, ℤ, length}
 use Rattle.lvl_corners.specs.inside.Marks.{net, bands_net}
 use Rattle.lvl_corners.specs.inside.Rows.{ended_net}
-use Rattle.lvl_corners.proofs.bands.marks_of.Given as goal
+use Rattle.lvl_corners.proofs.bands.all_marks.Given as goal
 
 -- the marks of the bands so far, those of the row at which the last one ends, and those of the bands still to come are
 -- all marks
