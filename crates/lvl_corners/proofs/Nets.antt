@@ -178,3 +178,8 @@ net_filter x y test ms =
     let plus = filtered x y test (λ m. m.is_plus) ms in
     let minus = filtered x y test (λ m. not m.is_plus) ms in
     rw (plus, minus) (both_kept (test x y) (pluses x y ms) (minuses x y ms))
+
+-- two numbers that are equal where a test is true
+pub cond_same : (t : Bool) (a b : ℤ) → (t ≡ true → a ≡ b) → cond t a (pos 0) ≡ cond t b (pos 0)
+cond_same true a b same = same refl
+cond_same false a b same = refl
