@@ -18,14 +18,6 @@ pub(crate) struct Points {
 }
 
 impl Points {
-    /// The number of the points of both.
-    pub(crate) fn with(self, others: Points) -> Points {
-        Points {
-            all: self.all.saturating_add(others.all),
-            on_sides: self.on_sides.saturating_add(others.on_sides),
-        }
-    }
-
     /// The number of points that aren't on the sides.
     fn inner(self) -> usize {
         self.all.saturating_sub(self.on_sides)
@@ -33,13 +25,15 @@ impl Points {
 }
 
 /// How wide the next strip may be, how many points the rings may have in it (`least`, or `points` if
-/// they can't be joined so far), and how many more strips may be halved with these numbers.
+/// they can't be joined so far), how many more strips may be halved with these numbers, and whether the
+/// last strip was hashed part by part.
 #[derive(Clone, Copy)]
 pub(crate) struct Pace {
     pub width: u64,
     pub points: usize,
     pub least: usize,
     tries: u32,
+    is_in_parts: bool,
 }
 
 /// The width of the strip after one of this width, with `inner` points where there was room for
@@ -67,6 +61,7 @@ impl Pace {
             points,
             least: points,
             tries: MOST_TRIES,
+            is_in_parts: false,
         }
     }
 
@@ -88,6 +83,23 @@ impl Pace {
             points: most,
             least: self.least,
             tries: self.tries.saturating_add(paid).min(MOST_TRIES),
+            is_in_parts: false,
+        }
+    }
+
+    /// The pace after a strip of width 1 that was hashed part by part, whose rings have so many points on
+    /// its right side. All of them may end there, so there is room for more only after a second such strip.
+    pub(crate) fn after_parts(self, on_right: usize) -> Pace
+        ensures { 0 < self.width → 0 < result.width }
+    {
+        if self.is_in_parts {
+            let all = on_right.saturating_mul(2);
+            return self.after(1, Points { all, on_sides: all });
+        }
+        Pace {
+            points: self.least,
+            is_in_parts: true,
+            ..self
         }
     }
 
@@ -109,6 +121,7 @@ impl Pace {
             points: more,
             least: more,
             tries: MOST_TRIES,
+            is_in_parts: self.is_in_parts,
         }
     }
 }

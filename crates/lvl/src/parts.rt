@@ -3,11 +3,11 @@ ghost use Rattle.std.specs.Prelude.{◌≡◌, ◌<◌, ◌<ℤ◌, ◌≤ℤ◌
 ghost use Rattle.lvl_names.specs.Layers.{ComesBefore};
 ghost use Rattle.lvl_corners.specs.declared.digest.LayerHash.{LayerHash as HashOfLayer};
 ghost use Rattle.lvl_flat.specs.Flattened.{IsFlattenedWithin};
-ghost use Rattle.lvl.specs.Hashes.{below_at, sliced, IsColumnPushed, IsPartPushed};
+ghost use Rattle.lvl.specs.Hashes.{sliced, HasRows, IsColumnPushed, IsPartPushed};
 ghost use Rattle.lvl.specs.declared.strip.Axis.TheVariants.{Y};
 
-use crate::pace::{Pace, Points};
-use crate::strip::{Axis, Strip, end_before, next_strip, points_of, slice_around};
+use crate::pace::Pace;
+use crate::strip::{Axis, Strip, end_before, next_strip, slice_around};
 use lvl_corners::{LayerHash, Span};
 use lvl_flat::{Fitted, Flat};
 use lvl_grid::Window;
@@ -31,6 +31,18 @@ fn push_part(
         hash.push_rows(alloc, rings, x, rows)?;
     }
     Ok(())
+}
+
+/// The number of points of the rings of a layout from an abscissa on.
+fn count_right(flat: &Flat, x: i64) -> usize {
+    let mut count: usize = 0;
+    for place in 0..flat.len() {
+        if let Some(layer) = flat.layer(place) {
+            let points = flat.rings(layer).points();
+            count = count.saturating_add(points.iter().filter(|point| x <= point.x).count());
+        }
+    }
+    count
 }
 
 /// What is drawn in a part, the ordinate at which it ends, which is excluded, and the pace of the next
@@ -72,7 +84,7 @@ fn next_part(
 
 /// Hashes the corners, at one abscissa, of what the top covers on some Layers in a window, each by its
 /// hash. Parts are so high that the rings have at most `most` points in one, unless it is one row.
-/// Returns how many points they have in all parts, and how many of them are on the sides of the window.
+/// Returns how many points they have on the right side of the window.
 pub(crate) fn push_column(
     alloc: Global,
     hashes: &mut [LayerHash],
@@ -81,16 +93,14 @@ pub(crate) fn push_column(
     window: &Window,
     x: i64,
     most: usize,
-) -> Result<Points, AllocError>
+) -> Result<usize, AllocError>
     requires rising { AllPairs ComesBefore layers.now }
     requires layers { map (λ h. h.layer) hashes.old ≡ layers.now }
+    requires rows { HasRows fitted.now window.now }
     ensures { OnOk result ((k : ℕ) (h : HashOfLayer) → k < length hashes.old
         → IsColumnPushed fitted.now window.now x (slice_index_or hashes.old k h) (slice_index_or hashes.new k h)) }
 {
-    let mut points = Points {
-        all: 0,
-        on_sides: 0,
-    };
+    let mut on_right: usize = 0;
     let mut y = window.y0;
     let mut pace = Pace::new(window.y0, window.y1, most);
     while y < window.y1 {
@@ -100,9 +110,9 @@ pub(crate) fn push_column(
             below: end_before(part.end, window.y1),
         };
         push_part(alloc, hashes, &part.flat, x, rows)?;
-        points = points.with(points_of(&part.flat, window, Axis::X));
+        on_right = on_right.saturating_add(count_right(&part.flat, window.x1));
         y = part.end;
         pace = part.pace;
     }
-    Ok(points)
+    Ok(on_right)
 }

@@ -36,13 +36,15 @@ fn is_on_sides(point: Point, strip: &Window, axis: Axis) -> bool {
 }
 
 /// The points of the rings of a layout that was flattened in a strip.
-pub(crate) fn points_of(flat: &Flat, strip: &Window, axis: Axis) -> Points {
+fn points_of(flat: &Flat, strip: &Window, axis: Axis) -> Points {
     let mut all: usize = 0;
     let mut on_sides: usize = 0;
     for place in 0..flat.len() {
         if let Some(layer) = flat.layer(place) {
             let points = flat.rings(layer).points();
-            let sides = points.iter().filter(|point| is_on_sides(**point, strip, axis));
+            let sides = points
+                .iter()
+                .filter(|point| is_on_sides(**point, strip, axis));
             all = all.saturating_add(points.len());
             on_sides = on_sides.saturating_add(sides.count());
         }
@@ -86,7 +88,7 @@ fn end_of(last: i64, from: i64, width: u64) -> i64
     requires squares { from <ℤ last }
     ensures further { from <ℤ result }
     ensures inside { result ≤ℤ last }
-    ensures narrow { result ≤ℤ from +ℤ pos width }
+    ensures narrow { result ≤ℤ (from +ℤ pos width) }
 {
     from.saturating_add_unsigned(width).min(last)
 }
