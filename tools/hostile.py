@@ -142,6 +142,7 @@ def full_columns():
     """Files that have about a million points in every column."""
     n, m = 1_000_000, 200_000
     yield case("a column of %d squares" % n, n, one(rectangle(0, 0, 1, 1, 1, column(n, 2))))
+    yield case("a column of %d rectangles, 10 wide" % n, n, one(rectangle(0, 0, 10, 1, 1, column(n, 2))))
     yield case("%d bars, 10^9 wide" % m, m, one(rectangle(0, 0, 10**9, 1, 1, column(m, 2))))
 
 

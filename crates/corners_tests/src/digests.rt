@@ -112,6 +112,45 @@ fn digests_of_layers(rt: HostRuntime) -> Result<(), Fail> {
     Ok(())
 }
 
+/// The digest of what the rings cover from x = -5 to x = 7, column by column, each in two parts.
+fn digest_by_parts(
+    alloc: Global,
+    layer: Layer,
+    rings: &Rings,
+    at: i64,
+) -> Result<Option<LayerDigest>, Fail> {
+    let mut hash = LayerHash::new(alloc, layer)?;
+    let low = Span {
+        from: None,
+        below: Some(at),
+    };
+    let high = Span {
+        from: Some(at),
+        below: None,
+    };
+    for x in -5..8 {
+        hash.push_rows(alloc, rings, x, low)?;
+        hash.push_rows(alloc, rings, x, high)?;
+    }
+    Ok(hash.finish())
+}
+
+#[test]
+fn digest_of_parts(rt: HostRuntime) -> Result<(), Fail> {
+    let alloc = rt.alloc();
+    let rings = rectangles(alloc, "0,0 4,9; 2,3 7,5; 2,3 7,5; -5,-5 0,0")?;
+    let whole = digest_of(alloc, layer(3), &rings, 3)?;
+    assert!(rt; whole.is_some());
+    for at in -6..11 {
+        assert!(rt;
+            digest_by_parts(alloc, layer(3), &rings, at)? == whole,
+            "{at}"
+        );
+    }
+    assert!(rt; digest_by_parts(alloc, layer(3), &Rings::new(alloc), 0)?.is_none());
+    Ok(())
+}
+
 #[test]
 fn digest_of_nothing(rt: HostRuntime) -> Result<(), Fail> {
     let alloc = rt.alloc();

@@ -1,6 +1,6 @@
 -- The hashes of Layers, strip by strip.
 use Rattle.std.proofs.Common.{◌≡◌, ◌↔◌, ℕ, suc, ◌<◌, ◌^◌, ◌-◌, true, false, List, [], ◌∷◌, ◌++◌}
-use Rattle.std.proofs.Common.{ℤ, pos, negsuc, ◌-ℤ◌, ◌<ℤ◌, ◌≤ℤ◌, int_lt, length, take, drop, map, get_or}
+use Rattle.std.proofs.Common.{ℤ, pos, negsuc, ◌+ℤ◌, ◌-ℤ◌, ◌<ℤ◌, ◌≤ℤ◌, int_lt, length, take, drop, map, get_or}
 use Rattle.std.proofs.Common.{Contains, IsSomeAnd, Option, None, Some, refl, sym, ◌∙◌, ap, subst}
 use Rattle.std.proofs.Common.{arith}
 use Rattle.std.specs.Int.{saturate_signed, w64}
@@ -24,12 +24,14 @@ use Rattle.lvl_corners.specs.Corners.{AreCornersOf, FitsCorner}
 use Rattle.lvl_corners.specs.Digests.{HasHashed}
 use Rattle.lvl_corners.specs.Spans.{AreCornersIn, is_below}
 use Rattle.lvl_corners.proofs.Spans.{AreHalves, corners_in_all, corners_of_halves, corners_same, no_corners_in}
-use Rattle.lvl.specs.Hashes.{around, below_at, up_to, IsLeft, IsHashedTo, IsPushed}
+use Rattle.lvl_corners.proofs.Parts.{corners_beyond}
+use Rattle.lvl.specs.Hashes.{around, below_at, up_to, CoversIn, HasAll, IsColumnPushed, IsHashedTo, IsLeft, IsPushed}
+use Rattle.lvl.specs.Hashes.{IsPushedOf, IsStep}
 
-lt_test : (a b : ℤ) → a <ℤ b → int_lt a b ≡ true
+pub lt_test : (a b : ℤ) → a <ℤ b → int_lt a b ≡ true
 lt_test a b h = grind (arith, ints)
 
-lt_of : (a b : ℤ) → int_lt a b ≡ true → a <ℤ b
+pub lt_of : (a b : ℤ) → int_lt a b ≡ true → a <ℤ b
 lt_of a b h = grind (arith, ints)
 
 ge_test : (a b : ℤ) → b ≤ℤ a → int_lt a b ≡ false
@@ -38,36 +40,32 @@ ge_test a b h = grind (arith, ints)
 pub below_some : (end last : ℤ) → end <ℤ last → below_at end last ≡ Some end
 below_some end last lt = rw (lt_test end last lt) refl
 
-below_none : (end last : ℤ) → last ≤ℤ end → below_at end last ≡ None
+pub below_none : (end last : ℤ) → last ≤ℤ end → below_at end last ≡ None
 below_none end last ge = rw (ge_test end last ge) refl
 
 -- what is left of the end of a strip
-below_left : (end last z : ℤ) → z <ℤ end → is_below (below_at end last) z ≡ true
+pub below_left : (end last z : ℤ) → z <ℤ end → is_below (below_at end last) z ≡ true
 below_left end last z lt =
     by_lt_z end last
     (λ more. subst (λ o. is_below o z ≡ true) (sym (below_some end last more)) (lt_test z end lt))
     (λ all. subst (λ o. is_below o z ≡ true) (sym (below_none end last all)) refl)
 
-left_below : (end last z : ℤ) → z <ℤ last → is_below (below_at end last) z ≡ true → z <ℤ end
+pub left_below : (end last z : ℤ) → z <ℤ last → is_below (below_at end last) z ≡ true → z <ℤ end
 left_below end last z lt h =
     by_lt_z end last
     (λ more. lt_of z end (subst (λ o. is_below o z ≡ true) (below_some end last more) h))
     (λ all. omega (arith, ints, lt, all))
 
-saturated_from : (z : ℤ) → z ≤ℤ pos (2 ^ 63 - 1) → z ≤ℤ saturate_signed w64 z
+pub saturated_from : (z : ℤ) → z ≤ℤ pos (2 ^ 63 - 1) → z ≤ℤ saturate_signed w64 z
 saturated_from (pos n) h = omega (arith, ints, h)
 saturated_from (negsuc n) h = omega (arith, ints, h)
 
-saturated_to : (z v : ℤ) → z ≤ℤ v → negsuc (2 ^ 63 - 1) ≤ℤ v → saturate_signed w64 z ≤ℤ v
+pub saturated_to : (z v : ℤ) → z ≤ℤ v → negsuc (2 ^ 63 - 1) ≤ℤ v → saturate_signed w64 z ≤ℤ v
 saturated_to (pos n) v h low = omega (arith, ints, h, low)
 saturated_to (negsuc n) v h low = omega (arith, ints, h, low)
 
--- the window has all that the top covers
-abbrev pub HasAll : Settled → Window → Type 0
-HasAll s w = (layer : Layer) (q : Square) → TopCovers s layer q → IsInWindow w q
-
 -- the rings of a Layer that was flattened cover what the top covers there in the window
-covers_within : (s : Settled) (layers : List Layer) (w : Window) (f : List PlainSheet) → IsFlattenedWithin s layers w f
+pub covers_within : (s : Settled) (layers : List Layer) (w : Window) (f : List PlainSheet) → IsFlattenedWithin s layers w f
     → (layer : Layer) (q : Square)
     → SomeCovers (rings_on layer f) q ↔ (IsOfPart layers w layer q × TopCovers s layer q)
 covers_within s layers w f flat layer q =
@@ -91,62 +89,125 @@ hashed_none s w h all hashed = record {
   hashed = hashed;
 }
 
--- the parts of what a Layer covers that a strip adds to
-strip_halves : (s : Settled) (layers : List Layer) (w : Window) (f : List PlainSheet) (layer : Layer)
-    → (from end : ℤ) → HasAll s w → negsuc (2 ^ 63 - 1) ≤ℤ w.x0 → from ≤ℤ pos (2 ^ 63 - 1) → Contains layers layer
-    → from <ℤ end → end ≤ℤ w.x1 → IsFlattenedWithin s layers (around w from end) f
-    → AreHalves (IsLeft (below_at end w.x1) (TopCovers s layer)) (IsLeft (Some from) (TopCovers s layer))
-    (SomeCovers (rings_on layer f)) from
-strip_halves s layers w f layer from end all low high listed further inside flat =
-    let covers = covers_within s layers (around w from end) f flat layer in
-    record {
-      left = λ q. (
-        λ l.
-            let lt = lt_of q.x from l.0 in
-            (lt, (below_left end w.x1 q.x (omega (arith, ints, lt, further)), l.1)),
-        λ both. (lt_test q.x from both.0, both.1.1),
-      );
-      right = λ q. (
-        λ r.
-            let c = (covers q).0 r in
-            let x_from = c.0.1.x_from in
-            let least = saturated_from (from -ℤ pos 1) (omega (arith, ints, high)) in
-            (omega (arith, ints, x_from, least), (below_left end w.x1 q.x c.0.1.x_below, c.1)),
-        λ both.
-            let there = all layer q both.1.1 in
-            let x_from = there.x_from in
-            let ge = both.0 in
-            let x_low : negsuc (2 ^ 63 - 1) ≤ℤ q.x = omega (arith, ints, low, x_from) in
-            let columns : IsInWindow (around w from end) q = record {
-              x_from = saturated_to (from -ℤ pos 1) q.x ge x_low;
-              x_below = left_below end w.x1 q.x there.x_below both.1.0;
-              y_from = there.y_from;
-              y_below = there.y_below;
-            } in
-            (covers q).1 ((listed, columns), both.1.1),
-      );
-    }
+-- a number is below the end of a strip exactly if it is below the bound of the span, for what is in the window
+abbrev pub Ends : Option ℤ → ℤ → ℤ → Type 0
+Ends o end last = (z : ℤ) → z <ℤ last → (is_below o z ≡ true) ↔ (z <ℤ end)
 
--- the hash has taken one more strip
-pub hashed_strip : (s : Settled) (layers : List Layer) (w : Window) (f : List PlainSheet) (old new : LayerHash)
-    → (from end : ℤ) → HasAll s w → negsuc (2 ^ 63 - 1) ≤ℤ w.x0 → from ≤ℤ pos (2 ^ 63 - 1)
-    → Contains layers old.layer → from <ℤ end → end ≤ℤ w.x1 → IsFlattenedWithin s layers (around w from end) f
-    → IsHashedTo s (Some from) old → IsPushed f (record { from = Some from; below = below_at end w.x1 }) old new
-    → IsHashedTo s (below_at end w.x1) new
-hashed_strip s layers w f old new from end all low high listed further inside flat h p =
-    let o : Option ℤ = below_at end w.x1 in
+pub ends_below : (end last : ℤ) → Ends (below_at end last) end last
+ends_below end last z lt = (left_below end last z lt, below_left end last z)
+
+pub ends_at : (end last : ℤ) → Ends (Some end) end last
+ends_at end last z lt = (lt_of z end, lt_test z end)
+
+pub ends_none : (last : ℤ) → Ends None last last
+ends_none last z lt = (λ t. lt, λ l. refl)
+
+-- the parts of what a Layer covers that a strip adds to
+step_halves : (s : Settled) (w : Window) (layer : Layer) (R : Square → Type 0) (from end : ℤ) (o : Option ℤ)
+    → HasAll s w → negsuc (2 ^ 63 - 1) ≤ℤ w.x0 → from ≤ℤ pos (2 ^ 63 - 1) → from ≤ℤ end → Ends o end w.x1
+    → ((q : Square) → R q ↔ CoversIn s (around w from end) layer q)
+    → AreHalves (IsLeft o (TopCovers s layer)) (IsLeft (Some from) (TopCovers s layer)) R from
+step_halves s w layer R from end o all low high further ends covers = record {
+  left = λ q. (
+    λ l.
+        let there = all layer q l.1 in
+        let lt = lt_of q.x from l.0 in
+        (lt, ((ends q.x there.x_below).1 (omega (arith, ints, lt, further)), l.1)),
+    λ both. (lt_test q.x from both.0, both.1.1),
+  );
+  right = λ q. (
+    λ r.
+        let c = (covers q).0 r in
+        let there = all layer q c.1 in
+        let x_from = c.0.x_from in
+        let least = saturated_from (from -ℤ pos 1) (omega (arith, ints, high)) in
+        (omega (arith, ints, x_from, least), ((ends q.x there.x_below).1 c.0.x_below, c.1)),
+    λ both.
+        let there = all layer q both.1.1 in
+        let x_from = there.x_from in
+        let ge = both.0 in
+        let x_low : negsuc (2 ^ 63 - 1) ≤ℤ q.x = omega (arith, ints, low, x_from) in
+        let columns : IsInWindow (around w from end) q = record {
+          x_from = saturated_to (from -ℤ pos 1) q.x ge x_low;
+          x_below = (ends q.x there.x_below).0 both.1.0;
+          y_from = there.y_from;
+          y_below = there.y_below;
+        } in
+        (covers q).1 (columns, both.1.1),
+  );
+}
+
+-- the hash has taken the corners of one more strip, which are those of a set R of squares
+pub step_of : (s : Settled) (w : Window) (R : Square → Type 0) (old new : LayerHash) (from end : ℤ) (o : Option ℤ)
+    → HasAll s w → negsuc (2 ^ 63 - 1) ≤ℤ w.x0 → from ≤ℤ pos (2 ^ 63 - 1) → from ≤ℤ end → Ends o end w.x1
+    → is_below o from ≡ true → ((q : Square) → R q ↔ CoversIn s (around w from end) old.layer q)
+    → IsPushedOf R (record { from = Some from; below = o }) old new → IsStep s from o old new
+step_of s w R old new from end o all low high further ends inner covers p =
     let C : Layer → Square → Type 0 = λ layer. IsLeft o (TopCovers s layer) in
     record {
-      corners = h.corners ++ p.corners;
-      are =
-          subst (λ (layer : Layer). AreCornersIn (C layer) (up_to o) (h.corners ++ p.corners)) (sym p.layer)
-          (corners_of_halves (C old.layer) (IsLeft (Some from) (TopCovers s old.layer))
-          (SomeCovers (rings_on old.layer f)) (up_to o) from h.corners p.corners
-          (strip_halves s layers w f old.layer from end all low high listed further inside flat)
-          (below_left end w.x1 from further) h.are p.are);
-      fits = All-append FitsCorner h.corners p.corners h.fits p.fits;
-      hashed = p.hashes h.corners h.hashed;
+      layer = p.layer;
+      step = λ h. record {
+        corners = h.corners ++ p.corners;
+        are =
+            subst (λ (layer : Layer). AreCornersIn (C layer) (up_to o) (h.corners ++ p.corners)) (sym p.layer)
+            (corners_of_halves (C old.layer) (IsLeft (Some from) (TopCovers s old.layer)) R (up_to o) from h.corners
+            p.corners (step_halves s w old.layer R from end o all low high further ends covers) inner h.are p.are);
+        fits = All-append FitsCorner h.corners p.corners h.fits p.fits;
+        hashed = p.hashes h.corners h.hashed;
+      };
     }
+
+-- the hash has taken the corners of a strip that was flattened
+pub step_flat : (s : Settled) (layers : List Layer) (w : Window) (f : List PlainSheet) (old new : LayerHash)
+    → (from end : ℤ) → HasAll s w → negsuc (2 ^ 63 - 1) ≤ℤ w.x0 → from ≤ℤ pos (2 ^ 63 - 1)
+    → Contains layers old.layer → from <ℤ end → IsFlattenedWithin s layers (around w from end) f
+    → IsPushed f (record { from = Some from; below = below_at end w.x1 }) old new
+    → IsStep s from (below_at end w.x1) old new
+step_flat s layers w f old new from end all low high listed further flat p =
+    let R : Square → Type 0 = SomeCovers (rings_on old.layer f) in
+    let covers = covers_within s layers (around w from end) f flat old.layer in
+    step_of s w R old new from end (below_at end w.x1) all low high (omega (arith, ints, further))
+    (ends_below end w.x1) (below_left end w.x1 from further)
+    (λ q. (
+      λ r. let c = (covers q).0 r in (c.0.1, c.1),
+      λ both. (covers q).1 ((listed, both.0), both.1),
+    ))
+    (record { layer = p.layer; corners = p.corners; are = p.are; fits = p.fits; hashes = p.hashes })
+
+-- the hash has taken the corners at one abscissa, left of which the next strip begins
+pub step_column : (s : Settled) (w : Window) (old new : LayerHash) (from end : ℤ) → HasAll s w
+    → negsuc (2 ^ 63 - 1) ≤ℤ w.x0 → from ≤ℤ pos (2 ^ 63 - 1) → end ≡ from +ℤ pos 1
+    → IsColumnPushed s (around w from end) from old new → IsStep s from (Some end) old new
+step_column s w old new from end all low high narrow p =
+    step_of s w (CoversIn s (around w from end) old.layer) old new from end (Some end) all low high
+    (omega (arith, ints, narrow)) (ends_at end w.x1) (lt_test from end (omega (arith, ints, narrow)))
+    (λ q. (λ h. h, λ h. h))
+    (subst (λ z. IsPushedOf (CoversIn s (around w from end) old.layer) (record { from = Some from; below = Some z }) old
+    new) (sym narrow) p)
+
+-- the hash has taken the corners on the right side of the last column
+pub step_last : (s : Settled) (w : Window) (old new : LayerHash) (end : ℤ) → HasAll s w
+    → negsuc (2 ^ 63 - 1) ≤ℤ w.x0 → end ≤ℤ pos (2 ^ 63 - 1) → end ≡ w.x1
+    → IsColumnPushed s (around w end end) end old new → IsStep s end None old new
+step_last s w old new end all low high last p =
+    let C : Square → Type 0 = CoversIn s (around w end end) old.layer in
+    step_of s w C old new end end None all low high (omega (arith, ints)) (subst (Ends None end) last (ends_none end))
+    refl (λ q. (λ h. h, λ h. h))
+    (record {
+      layer = p.layer;
+      corners = p.corners;
+      are = corners_beyond C end p.corners (λ q h. h.0.x_below) p.are;
+      fits = p.fits;
+      hashes = p.hashes;
+    })
+
+-- two steps, one after the other
+pub steps_both : (s : Settled) (from mid : ℤ) (end : Option ℤ) (a b c : LayerHash) → IsStep s from (Some mid) a b
+    → IsStep s mid end b c → IsStep s from end a c
+steps_both s from mid end a b c first second = record {
+  layer = second.layer ∙ first.layer;
+  step = λ h. second.step (first.step h);
+}
 
 -- the Layer of a hash at an index is listed
 pub listed_at : (layers : List Layer) (hashes : List LayerHash) (k : ℕ) (h : LayerHash)

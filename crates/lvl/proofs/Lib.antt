@@ -9,6 +9,7 @@ pub mod Viewing
 pub mod Showing
 pub mod Digesting
 pub mod Hashing
+pub mod Columns
 pub mod Listing
 pub mod Reasoning
 pub mod Measuring

@@ -51,6 +51,7 @@ mod hashes;
 mod layout;
 mod measured;
 mod pace;
+mod parts;
 mod reason;
 mod show;
 mod shown;

@@ -1,7 +1,6 @@
-//! How wide the strips of a digest are, and how many points the rings may have in one.
+//! How wide the strips of a digest are, or how high the parts of a column, and how many points the rings
+//! may have in one.
 ghost use Rattle.std.specs.Prelude.{◌≡◌, ◌<◌, ◌/◌};
-
-use lvl_grid::Window;
 
 /// How often a strip is halved with one number of points. It is then doubled, so strips aren't
 /// halved without end where dense columns and empty ones take turns.
@@ -10,7 +9,8 @@ const MOST_TRIES: u32 = 256;
 /// How many more strips may be halved after a strip that has used much of its room.
 const PAID_TRIES: u32 = 4;
 
-/// How many points the rings of a strip have, and how many of them are on its left and right sides.
+/// How many points the rings of a strip have, and how many of them are on its left and right sides, or
+/// on the lower and upper sides of a part.
 #[derive(Clone, Copy)]
 pub(crate) struct Points {
     pub all: usize,
@@ -25,13 +25,15 @@ impl Points {
 }
 
 /// How wide the next strip may be, how many points the rings may have in it (`least`, or `points` if
-/// they can't be joined so far), and how many more strips may be halved with these numbers.
+/// they can't be joined so far), how many more strips may be halved with these numbers, and whether the
+/// last strip was hashed part by part.
 #[derive(Clone, Copy)]
 pub(crate) struct Pace {
     pub width: u64,
     pub points: usize,
     pub least: usize,
     tries: u32,
+    is_in_parts: bool,
 }
 
 /// The width of the strip after one of this width, with `inner` points where there was room for
@@ -49,15 +51,17 @@ fn next_width(width: u64, inner: usize, room: usize) -> u64
 }
 
 impl Pace {
-    /// The pace of the first strip, which may be as wide as the window.
-    pub(crate) fn new(window: &Window, points: usize) -> Pace
+    /// The pace of the first of the strips from one abscissa (or ordinate) up to another, which may be as
+    /// wide as all of them.
+    pub(crate) fn new(from: i64, end: i64, points: usize) -> Pace
         ensures { 0 < result.width }
     {
         Pace {
-            width: window.x0.abs_diff(window.x1).max(1),
+            width: from.abs_diff(end).max(1),
             points,
             least: points,
             tries: MOST_TRIES,
+            is_in_parts: false,
         }
     }
 
@@ -79,6 +83,23 @@ impl Pace {
             points: most,
             least: self.least,
             tries: self.tries.saturating_add(paid).min(MOST_TRIES),
+            is_in_parts: false,
+        }
+    }
+
+    /// The pace after a strip of width 1 that was hashed part by part, whose rings have so many points on
+    /// its right side. All of them may end there, so there is room for more only after a second such strip.
+    pub(crate) fn after_parts(self, on_right: usize) -> Pace
+        ensures { 0 < self.width → 0 < result.width }
+    {
+        if self.is_in_parts {
+            let all = on_right.saturating_mul(2);
+            return self.after(1, Points { all, on_sides: all });
+        }
+        Pace {
+            points: self.least,
+            is_in_parts: true,
+            ..self
         }
     }
 
@@ -100,6 +121,7 @@ impl Pace {
             points: more,
             least: more,
             tries: MOST_TRIES,
+            is_in_parts: self.is_in_parts,
         }
     }
 }

@@ -1,8 +1,9 @@
-//! What a layout draws in a strip: a few columns of squares, and the one left of them.
-ghost use Rattle.std.specs.Prelude.{◌≡◌, ◌<◌, ◌<ℤ◌, ◌≤ℤ◌, AllPairs, IfOk};
+//! What a layout draws in a strip: a few columns of squares, and the one left of them, or a few rows, and
+//! the one below them.
+ghost use Rattle.std.specs.Prelude.{◌≡◌, ◌<◌, ◌<ℤ◌, ◌≤ℤ◌, ◌+ℤ◌, pos, None, AllPairs, IfOk, IfSome};
 ghost use Rattle.lvl_names.specs.Layers.{ComesBefore};
 ghost use Rattle.lvl_flat.specs.Flattened.{IsFlattenedWithin};
-ghost use Rattle.lvl.specs.Hashes.{around};
+ghost use Rattle.lvl.specs.Hashes.{below_at, last_of, sliced};
 
 use crate::pace::{Pace, Points};
 use lvl_flat::{Fitted, Flat};
@@ -10,110 +11,154 @@ use lvl_grid::{Point, Window};
 use lvl_names::Layer;
 use std::alloc::{AllocError, Global};
 
-/// What is drawn in a strip, the abscissa at which the strip ends, which is excluded, and the pace
-/// of the next one.
+/// The direction in which strips follow one another: columns along x, or rows along y.
+#[derive(Clone, Copy)]
+pub(crate) enum Axis {
+    X,
+    Y,
+}
+
+/// What is drawn in a strip, unless it is of width 1 and has more points than there is room for. Then the
+/// abscissa (or ordinate) at which the strip ends, which is excluded, and the pace of the next one.
 #[derive(Drop)]
 pub(crate) struct Strip {
-    pub flat: Flat,
+    pub flat: Option<Flat>,
     pub end: i64,
     pub pace: Pace,
 }
 
-/// The number of points on the left or the right side of some columns.
-fn count_on_sides(points: &[Point], columns: &Window) -> usize {
-    points
-        .iter()
-        .filter(|point| point.x <= columns.x0 || columns.x1 <= point.x)
-        .count()
+/// Whether a point is on one of the sides at which a strip begins and ends.
+fn is_on_sides(point: Point, strip: &Window, axis: Axis) -> bool {
+    match axis {
+        Axis::X => point.x <= strip.x0 || strip.x1 <= point.x,
+        Axis::Y => point.y <= strip.y0 || strip.y1 <= point.y,
+    }
 }
 
-/// The points of the rings of a layout that was flattened in some columns.
-fn points_of(flat: &Flat, columns: &Window) -> Points {
+/// The points of the rings of a layout that was flattened in a strip.
+fn points_of(flat: &Flat, strip: &Window, axis: Axis) -> Points {
     let mut all: usize = 0;
     let mut on_sides: usize = 0;
     for place in 0..flat.len() {
         if let Some(layer) = flat.layer(place) {
             let points = flat.rings(layer).points();
+            let sides = points
+                .iter()
+                .filter(|point| is_on_sides(**point, strip, axis));
             all = all.saturating_add(points.len());
-            on_sides = on_sides.saturating_add(count_on_sides(points, columns));
+            on_sides = on_sides.saturating_add(sides.count());
         }
     }
     Points { all, on_sides }
 }
 
-/// The columns of a window from one before an abscissa up to another, which is excluded.
-fn columns_around(window: &Window, from: i64, end: i64) -> Window
-    ensures { result ≡ around window.now from end }
+/// The columns of a window from one before an abscissa up to another, which is excluded, or the rows
+/// from one before an ordinate up to another.
+pub(crate) fn slice_around(window: &Window, axis: Axis, from: i64, end: i64) -> Window
+    ensures { result ≡ sliced axis window.now from end }
 {
-    Window {
-        x0: from.saturating_sub(1),
-        y0: window.y0,
-        x1: end,
-        y1: window.y1,
+    let before = from.saturating_sub(1);
+    match axis {
+        Axis::X => Window {
+            x0: before,
+            x1: end,
+            ..*window
+        },
+        Axis::Y => Window {
+            y0: before,
+            y1: end,
+            ..*window
+        },
     }
 }
 
-/// The abscissa at which a strip of at most this width ends that begins at `from`.
-fn end_of(window: &Window, from: i64, width: u64) -> i64
-    requires wide { 0 < width }
-    requires squares { from <ℤ window.now.x1 }
-    ensures further { from <ℤ result }
-    ensures inside { result ≤ℤ window.now.x1 }
+/// The abscissa (or ordinate) at which the columns (or rows) of a window end.
+fn end_of_all(window: &Window, axis: Axis) -> i64
+    ensures { result ≡ last_of axis window.now }
 {
-    from.saturating_add_unsigned(width).min(window.x1)
+    match axis {
+        Axis::X => window.x1,
+        Axis::Y => window.y1,
+    }
 }
 
-/// The rings of some Layers in the columns of a strip, with as few points as the pace has room for. A
-/// list that is full is joined, so a shorter one is tried first.
+/// Where a strip of at most this width ends that begins at `from`, if all strips end at `last`.
+fn end_of(last: i64, from: i64, width: u64) -> i64
+    requires wide { 0 < width }
+    requires squares { from <ℤ last }
+    ensures further { from <ℤ result }
+    ensures inside { result ≤ℤ last }
+    ensures narrow { result ≤ℤ (from +ℤ pos width) }
+{
+    from.saturating_add_unsigned(width).min(last)
+}
+
+/// Where a strip ends, or None if all strips end there: their last corners are at that end.
+pub(crate) fn end_before(end: i64, last: i64) -> Option<i64>
+    ensures { result ≡ below_at end last }
+{
+    if end < last { Some(end) } else { None }
+}
+
+/// The rings of some Layers in a strip, with as few points as the pace has room for. A list that is
+/// full is joined, so a shorter one is tried first.
 fn rings_in(
     alloc: Global,
     fitted: &Fitted,
     layers: &[Layer],
-    columns: &Window,
+    strip: &Window,
     pace: Pace,
 ) -> Result<Flat, AllocError>
     requires { AllPairs ComesBefore layers.now }
-    ensures { IfOk result (IsFlattenedWithin fitted.now layers.now columns.now) }
+    ensures { IfOk result (IsFlattenedWithin fitted.now layers.now strip.now) }
 {
-    if let Ok(flat) = fitted.within(alloc, layers, columns, pace.least) {
+    if let Ok(flat) = fitted.within(alloc, layers, strip, pace.least) {
         return Ok(flat);
     }
     if pace.points <= pace.least {
         return Err(AllocError);
     }
-    fitted.within(alloc, layers, columns, pace.points)
+    fitted.within(alloc, layers, strip, pace.points)
 }
 
 /// The rings of some Layers in the strip of a window that begins at `from`. The strip is at most as
 /// wide as the pace allows, and is halved until it doesn't have too many points and fits in memory.
-/// A strip of width 1 may have any number of points.
+/// If it is then of width 1 and still doesn't, its rings are None.
 pub(crate) fn next_strip(
     alloc: Global,
     fitted: &Fitted,
     layers: &[Layer],
     window: &Window,
+    axis: Axis,
     from: i64,
     pace: Pace,
 ) -> Result<Strip, AllocError>
     requires wide { 0 < pace.width }
-    requires squares { from <ℤ window.now.x1 }
+    requires squares { from <ℤ last_of axis window.now }
     requires rising { AllPairs ComesBefore layers.now }
     ensures flat { IfOk result (λ strip.
-        IsFlattenedWithin fitted.now layers.now (around window.now from strip.end) strip.flat) }
+        IfSome strip.flat (IsFlattenedWithin fitted.now layers.now (sliced axis window.now from strip.end))) }
+    ensures narrow { IfOk result (λ strip. strip.flat ≡ None → strip.end ≡ from +ℤ pos 1) }
     ensures further { IfOk result (λ strip. from <ℤ strip.end) }
-    ensures inside { IfOk result (λ strip. strip.end ≤ℤ window.now.x1) }
+    ensures inside { IfOk result (λ strip. strip.end ≤ℤ last_of axis window.now) }
     ensures wide { IfOk result (λ strip. 0 < strip.pace.width) }
 {
-    let end = end_of(window, from, pace.width);
-    let columns = columns_around(window, from, end);
-    if let Ok(flat) = rings_in(alloc, fitted, layers, &columns, pace) {
-        let pace = pace.after(pace.width, points_of(&flat, &columns));
-        return Ok(Strip { flat, end, pace });
+    let end = end_of(end_of_all(window, axis), from, pace.width);
+    let strip = slice_around(window, axis, from, end);
+    if let Ok(flat) = rings_in(alloc, fitted, layers, &strip, pace) {
+        let pace = pace.after(pace.width, points_of(&flat, &strip, axis));
+        return Ok(Strip {
+            flat: Some(flat),
+            end,
+            pace,
+        });
     }
     if pace.width == 1 {
-        let flat = fitted.within(alloc, layers, &columns, usize::MAX)?;
-        let pace = pace.after(1, points_of(&flat, &columns));
-        return Ok(Strip { flat, end, pace });
+        return Ok(Strip {
+            flat: None,
+            end,
+            pace,
+        });
     }
-    next_strip(alloc, fitted, layers, window, from, pace.halved())
+    next_strip(alloc, fitted, layers, window, axis, from, pace.halved())
 }

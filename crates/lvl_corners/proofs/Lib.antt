@@ -12,3 +12,5 @@ pub mod Vectors
 pub mod Pairs
 pub mod Lines
 pub mod Masks
+pub mod Parts
+pub mod Hashings

@@ -149,30 +149,37 @@ kept_first : (t : Bool) (count : List Mark → ℕ) (m : Mark) (ms : List Mark) 
 kept_first true count m ms one h = h
 kept_first false count m ms one h = refl
 
-filtered : (x y : ℤ) (test : ℤ → Bool) (q : Mark → Bool) (ms : List Mark)
-    → count_by (λ m. is_at x y m && q m) (filter (λ m. test m.x) ms) ≡ cond (test x) (count_by (λ m. is_at x y m && q
+filtered : (x y : ℤ) (test : ℤ → ℤ → Bool) (q : Mark → Bool) (ms : List Mark)
+    → count_by (λ m. is_at x y m && q m) (filter (λ m. test m.x m.y) ms) ≡ cond (test x y) (count_by (λ m. is_at x y m && q
     m) ms) 0
-filtered x y test q [] = none_kept (test x) 0
+filtered x y test q [] = none_kept (test x y) 0
 filtered x y test q (m ∷ ms) =
     let one : ℕ = cond (is_at x y m && q m) 1 0 in
     let count : List Mark → ℕ = count_by (λ m. is_at x y m && q m) in
-    let rest : List Mark = filter (λ m. test m.x) ms in
-    kept_more (test m.x) (test x) (is_at x y m) one (count ms) (count rest) (count (m ∷ ms))
-    (count (filter (λ m. test m.x) (m ∷ ms)))
+    let rest : List Mark = filter (λ m. test m.x m.y) ms in
+    kept_more (test m.x m.y) (test x y) (is_at x y m) one (count ms) (count rest) (count (m ∷ ms))
+    (count (filter (λ m. test m.x m.y) (m ∷ ms)))
     (sum_by-cons (λ m. cond (is_at x y m && q m) 1 0) m ms)
-    (kept_first (test m.x) count m rest one (sum_by-cons (λ m. cond (is_at x y m && q m) 1 0) m rest))
+    (kept_first (test m.x m.y) count m rest one (sum_by-cons (λ m. cond (is_at x y m && q m) 1 0) m rest))
     (filtered x y test q ms)
-    (λ here. ap test (eq_is m.x x (and_parts (int_eq m.y y) (int_eq m.x x) here).1))
+    (λ here.
+    let both = and_parts (int_eq m.y y) (int_eq m.x x) here in
+    ap (λ (u : ℤ). test u m.y) (eq_is m.x x both.1) ∙ ap (test x) (eq_is m.y y both.0))
     (λ apart. rw apart refl)
 
 both_kept : (t : Bool) (p n : ℕ) → pos (cond t p 0) -ℤ pos (cond t n 0) ≡ cond t (pos p -ℤ pos n) (pos 0)
 both_kept true p n = refl
 both_kept false p n = refl
 
--- the marks for whose abscissas a test is true
-pub net_filter : (x y : ℤ) (test : ℤ → Bool) (ms : List Mark)
-    → net x y (filter (λ m. test m.x) ms) ≡ cond (test x) (net x y ms) (pos 0)
+-- the marks for whose points a test is true
+pub net_filter : (x y : ℤ) (test : ℤ → ℤ → Bool) (ms : List Mark)
+    → net x y (filter (λ m. test m.x m.y) ms) ≡ cond (test x y) (net x y ms) (pos 0)
 net_filter x y test ms =
     let plus = filtered x y test (λ m. m.is_plus) ms in
     let minus = filtered x y test (λ m. not m.is_plus) ms in
-    rw (plus, minus) (both_kept (test x) (pluses x y ms) (minuses x y ms))
+    rw (plus, minus) (both_kept (test x y) (pluses x y ms) (minuses x y ms))
+
+-- two numbers that are equal where a test is true
+pub cond_same : (t : Bool) (a b : ℤ) → (t ≡ true → a ≡ b) → cond t a (pos 0) ≡ cond t b (pos 0)
+cond_same true a b same = same refl
+cond_same false a b same = refl

@@ -66,7 +66,7 @@ pub record AreHalves (P L R : Square → Type 0) (at : ℤ) : Type 0 where
   pub left : (s : Square) → L s ↔ ((s.x <ℤ at) × P s)
   pub right : (s : Square) → R s ↔ (((at -ℤ pos 1) ≤ℤ s.x) × P s)
 
-bounded_both : (c e : Square → Bool) → IsBounded c → IsBounded e → IsBounded (λ s. c s || e s)
+pub bounded_both : (c e : Square → Bool) → IsBounded c → IsBounded e → IsBounded (λ s. c s || e s)
 bounded_both c e b d = record {
   left = int_min b.left d.left;
   bottom = int_min b.bottom d.bottom;
@@ -77,7 +77,7 @@ bounded_both c e b d = record {
 }
 
 -- at a square of one half, a test that decides the set of that half decides the whole set
-half_test : (P H : Square → Type 0) (here : Type 0) (s : Square) (t : Bool) → Decides t (H s)
+pub half_test : (P H : Square → Type 0) (here : Type 0) (s : Square) (t : Bool) → Decides t (H s)
     → H s ↔ (here × P s) → here
     → Decides t (P s)
 half_test P H here s t d h at = (λ e. (h.0 (d.0 e)).1, λ p. d.1 (h.1 (at, p)))
@@ -101,7 +101,7 @@ same_change : (c e : Square → Bool) (x y : ℤ) → ((v : ℤ) → c (record {
 same_change c e x y here before =
     rw (ap bit (here y), ap bit (before y), ap bit (here (y -ℤ pos 1)), ap bit (before (y -ℤ pos 1))) refl
 
-below_end : (o : Option ℤ) (x at : ℤ) → x <ℤ at → is_below o at ≡ true → is_below o x ≡ true
+pub below_end : (o : Option ℤ) (x at : ℤ) → x <ℤ at → is_below o at ≡ true → is_below o x ≡ true
 below_end None x at lt h = refl
 below_end (Some b) x at lt h = let high : at <ℤ b = grind (arith, ints) in let low : x <ℤ b = omega (
   arith,
@@ -111,7 +111,7 @@ below_end (Some b) x at lt h = let high : at <ℤ b = grind (arith, ints) in let
 ) in
     grind (arith, ints)
 
-from_start : (o : Option ℤ) (x at : ℤ) → at ≤ℤ x → is_from o at ≡ true → is_from o x ≡ true
+pub from_start : (o : Option ℤ) (x at : ℤ) → at ≤ℤ x → is_from o at ≡ true → is_from o x ≡ true
 from_start None x at le h = refl
 from_start (Some a) x at le h = let low : a ≤ℤ at = grind (arith, ints) in let up : a ≤ℤ x = omega (
   arith,
@@ -121,16 +121,16 @@ from_start (Some a) x at le h = let low : a ≤ℤ at = grind (arith, ints) in l
 ) in
     grind (arith, ints)
 
-lt_of : (a b : ℤ) → int_lt a b ≡ true → a <ℤ b
+pub lt_of : (a b : ℤ) → int_lt a b ≡ true → a <ℤ b
 lt_of a b h = grind (arith, ints)
 
-lt_test : (a b : ℤ) → a <ℤ b → int_lt a b ≡ true
+pub lt_test : (a b : ℤ) → a <ℤ b → int_lt a b ≡ true
 lt_test a b h = grind (arith, ints)
 
-le_of : (a b : ℤ) → int_le a b ≡ true → a ≤ℤ b
+pub le_of : (a b : ℤ) → int_le a b ≡ true → a ≤ℤ b
 le_of a b h = grind (arith, ints)
 
-le_test : (a b : ℤ) → a ≤ℤ b → int_le a b ≡ true
+pub le_test : (a b : ℤ) → a ≤ℤ b → int_le a b ≡ true
 le_test a b h = grind (arith, ints)
 
 -- the corners at both sides of an abscissa are those at all abscissas of the span

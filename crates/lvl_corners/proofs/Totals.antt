@@ -11,10 +11,8 @@ use Rattle.std.proofs.lemmas.List.Elements.{All-head, All-tail, All-contains}
 use Rattle.lvl_grid.specs.declared.point.Square.{Square}
 use Rattle.lvl_corners.specs.declared.corner.Corner.{Corner}
 use Rattle.lvl_corners.specs.declared.mark.Mark.{Mark}
-use Rattle.lvl_corners.specs.declared.span.Span.{Span}
 use Rattle.lvl_corners.specs.Corners.{bit, change_at, ComesBefore}
 use Rattle.lvl_corners.specs.inside.Marks.{net}
-use Rattle.lvl_corners.specs.Spans.{spanned}
 use Rattle.lvl_corners.specs.inside.Sums.{total_at, IsLess, AreTotals}
 use Rattle.lvl_corners.proofs.IntTests.{eq_yes, eq_is, ne_above, ne_below}
 
@@ -109,20 +107,20 @@ contains_by_total ks k up some is =
     let e : f.corner ≡ k = corner_is f.corner k f.at_x f.at_y same in
     rw e at f.there
 
--- corners that add up to the changes of a span: a corner is one of them exactly if it has an abscissa of the span, and
--- its change isn't 0 and is that of the set there
-pub corner_by_totals : (covered : Square → Bool) (span : Span) (marks : List Mark) (ks : List Corner)
-    → ((x y : ℤ) → net x y marks ≡ cond (spanned span x) (change_at covered x y) (pos 0)) → AreTotals marks ks
+-- corners that add up to the changes at the points for which a test is true: a corner is one of them exactly if the test
+-- is true at it, and its change isn't 0 and is that of the set there
+pub corner_by_totals : (covered : Square → Bool) (test : ℤ → ℤ → Bool) (marks : List Mark) (ks : List Corner)
+    → ((x y : ℤ) → net x y marks ≡ cond (test x y) (change_at covered x y) (pos 0)) → AreTotals marks ks
     → (k : Corner)
-    → Contains ks k ↔ ((spanned span k.x ≡ true) × (k.change ≢ pos 0) × (k.change ≡ change_at covered k.x k.y))
-corner_by_totals covered span marks ks changes h k =
-    let is : total_at k.x k.y ks ≡ cond (spanned span k.x) (change_at covered k.x k.y) (pos 0) =
+    → Contains ks k ↔ ((test k.x k.y ≡ true) × (k.change ≢ pos 0) × (k.change ≡ change_at covered k.x k.y))
+corner_by_totals covered test marks ks changes h k =
+    let is : total_at k.x k.y ks ≡ cond (test k.x k.y) (change_at covered k.x k.y) (pos 0) =
     h.totals k.x k.y ∙ changes k.x k.y in (
       λ c.
           let some : k.change ≢ pos 0 = All-contains (λ k. k.change ≢ pos 0) ks k h.nonzero c in
-          let total : k.change ≡ cond (spanned span k.x) (change_at covered k.x k.y) (pos 0) =
+          let total : k.change ≡ cond (test k.x k.y) (change_at covered k.x k.y) (pos 0) =
           sym (total_of ks k h.rising c) ∙ is in
-          elim (cases_Bool (spanned span k.x)) [
+          elim (cases_Bool (test k.x k.y)) [
             | inl t ↦ (t, some, rw t at total)
             | inr f ↦ absurd (some (rw f at total))
           ],

@@ -4,3 +4,4 @@ pub mod Bytes
 pub mod Masks
 pub mod Digests
 pub mod inside
+pub mod Parts

@@ -3,4 +3,5 @@ pub mod Rows
 pub mod Sums
 pub mod Budgets
 pub mod Hashing
+pub mod Begun
 pub mod Sinks

@@ -1,10 +1,11 @@
 //! The corners of the rectangles that the bands of a sweep consist of.
-ghost use Rattle.std.specs.Prelude.{◌≡◌, ◌+ℤ◌, ◌-ℤ◌, ℤ, pos, cond, IfOk, OnOk};
+ghost use Rattle.std.specs.Prelude.{◌≡◌, ◌+ℤ◌, ◌-ℤ◌, ℤ, pos, true, cond, IfOk, OnOk};
 ghost use Rattle.std.specs.Ordering.{int_eq};
 ghost use Rattle.lvl_grid.specs.Winding.{SomeCovers};
 ghost use Rattle.lvl_sweep.specs.Bands.{slab_of};
 ghost use Rattle.lvl_corners.specs.inside.Marks.{net, signed, interval_step, row_step, band_net};
-ghost use Rattle.lvl_corners.specs.inside.Marks.{AreInOrder, AreMarksOf};
+ghost use Rattle.lvl_corners.specs.inside.Marks.{AreInOrder, AreMarksAt, AreMarksOf};
+ghost use Rattle.lvl_corners.specs.Spans.{spanned};
 ghost use Rattle.lvl_corners.specs.inside.Rows.{ended_net};
 
 use crate::mark::Mark;
@@ -150,6 +151,42 @@ fn push_band(marks: &mut Vec<Mark>, row: &mut Row, band: &Band) -> Result<(), Al
     Ok(())
 }
 
+/// The least number of marks among which those outside of a span are looked for.
+const LEAST_FULL: usize = 1 << 16;
+
+/// Leaves out the marks outside of a span if there are at least `full`. Returns how many there may be
+/// before that is done again: so few that it takes no more time than to append them.
+fn drop_outside(marks: &mut Vec<Mark>, span: Span, full: usize) -> usize
+    ensures { (x y : ℤ) → spanned span x ≡ true → net x y marks.new.items ≡ net x y marks.old.items }
+{
+    if marks.len() < full {
+        return full;
+    }
+    marks.retain(|mark| span.has(mark.x));
+    marks.len().saturating_mul(2).max(LEAST_FULL)
+}
+
+/// The corners, at the abscissas of a span, of all rectangles of the bands of rings, in no order.
+fn marks_within<R: RingList>(alloc: Global, rings: &R, span: Span) -> Result<Vec<Mark>, AllocError>
+    ensures { IfOk result (λ marks. AreMarksOf (SomeCovers (R.rings rings.now)) span marks.items) }
+{
+    let mut marks = Vec::new(alloc);
+    let mut row = Row {
+        y: 0,
+        intervals: Vec::new(alloc),
+    };
+    let mut full = LEAST_FULL;
+    let mut sweep = Sweep::new(alloc, rings)?;
+    while let Some(band) = sweep.band() {
+        push_band(&mut marks, &mut row, band)?;
+        full = drop_outside(&mut marks, span, full);
+        sweep.advance();
+    }
+    push_row(&mut marks, row.y, &row.intervals, false)?;
+    marks.retain(|mark| span.has(mark.x));
+    Ok(marks)
+}
+
 /// The corners, at the abscissas of a span, of all rectangles of the bands of rings, in order of
 /// abscissa and then of ordinate.
 pub(crate) fn marks_of<R: RingList>(
@@ -160,18 +197,28 @@ pub(crate) fn marks_of<R: RingList>(
     ensures marks { IfOk result (λ marks. AreMarksOf (SomeCovers (R.rings rings.now)) span marks.items) }
     ensures order { IfOk result (λ marks. AreInOrder marks.items) }
 {
-    let mut marks = Vec::new(alloc);
-    let mut row = Row {
-        y: 0,
-        intervals: Vec::new(alloc),
+    let mut marks = marks_within(alloc, rings, span)?;
+    marks.sort_unstable_by_key(|mark| (mark.x, mark.y));
+    Ok(marks)
+}
+
+/// The corners, at one abscissa and at the ordinates of some rows, of all rectangles of the bands of
+/// rings, in order.
+pub(crate) fn marks_at<R: RingList>(
+    alloc: Global,
+    rings: &R,
+    x: i64,
+    rows: Span,
+) -> Result<Vec<Mark>, AllocError>
+    ensures marks { IfOk result (λ marks. AreMarksAt (SomeCovers (R.rings rings.now)) x rows marks.items) }
+    ensures order { IfOk result (λ marks. AreInOrder marks.items) }
+{
+    let from = Span {
+        from: Some(x),
+        below: None,
     };
-    let mut sweep = Sweep::new(alloc, rings)?;
-    while let Some(band) = sweep.band() {
-        push_band(&mut marks, &mut row, band)?;
-        sweep.advance();
-    }
-    push_row(&mut marks, row.y, &row.intervals, false)?;
-    marks.retain(|mark| span.has(mark.x));
+    let mut marks = marks_within(alloc, rings, from)?;
+    marks.retain(|mark| mark.x == x && rows.has(mark.y));
     marks.sort_unstable_by_key(|mark| (mark.x, mark.y));
     Ok(marks)
 }

@@ -4,12 +4,17 @@ ghost use Rattle.std.specs.String.{string_bytes};
 ghost use Rattle.lvl_grid.specs.Winding.{SomeCovers};
 ghost use Rattle.lvl_corners.specs.declared.corner.Corner.{Corner as GridCorner};
 ghost use Rattle.lvl_corners.specs.Corners.{FitsCorner};
+ghost use Rattle.lvl_corners.specs.Parts.{AreCornersAt};
 ghost use Rattle.lvl_corners.specs.Spans.{AreCornersIn};
 ghost use Rattle.lvl_corners.specs.Bytes.{layer_head, BytesDecide};
 ghost use Rattle.lvl_corners.specs.Digests.{HasHashed, HashesOn, IsDigestFor};
+ghost use Rattle.lvl_corners.specs.inside.Begun.{IsBegun};
+ghost use Rattle.lvl_corners.specs.inside.Hashing.{HasTaken};
+ghost use Rattle.lvl_corners.specs.declared.hashing.LayerHashing.{LayerHashing as GridHashing};
 
 use crate::columns::send_corners_in;
 use crate::hashing::LayerHashing;
+use crate::send::send_rows;
 use crate::span::Span;
 use lvl_grid::Rings;
 use lvl_names::Layer;
@@ -67,6 +72,24 @@ impl LayerHash {
         self.layer
     }
 
+    /// The hashing of the next corners.
+    fn begun(&self, alloc: Global) -> Result<LayerHashing, AllocError>
+        ensures { IfOk result (IsBegun self.now) }
+    {
+        LayerHashing::new(alloc, self.hasher.clone()?, self.corners)
+    }
+
+    /// Takes over what was hashed since [`LayerHash::begun`].
+    fn put(&mut self, mut hashing: LayerHashing)
+        ensures taken { (begun : GridHashing) (corners : List GridCorner) → IsBegun self.old begun
+            → HasTaken begun hashing corners → HashesOn self.old self.new corners }
+        ensures layer { self.new.layer ≡ self.old.layer }
+    {
+        hashing.flush();
+        self.corners = hashing.count();
+        self.hasher = hashing.hasher;
+    }
+
     /// Hashes the corners of what the rings cover at the abscissas of a span, as the next ones. The
     /// rings must cover what the Layer does in the span and in the column left of it. Fails only if
     /// out of memory, and then the hash is unchanged.
@@ -81,11 +104,38 @@ impl LayerHash {
         if rings.is_empty() {
             return Ok(());
         }
-        let mut hashing = LayerHashing::new(alloc, self.hasher.clone()?, self.corners)?;
+        let mut hashing = self.begun(alloc)?;
         send_corners_in(alloc, rings, span, &mut hashing)?;
-        hashing.flush();
-        self.corners = hashing.count();
-        self.hasher = hashing.hasher;
+        self.put(hashing);
+        Ok(())
+    }
+
+    /// Hashes the corners of what the rings cover at one abscissa and at the ordinates of some rows,
+    /// as the next ones. So a column may be hashed part by part, from below, as [`parts_append`]
+    /// says. The rings must cover what the Layer does left and right of the abscissa, in the rows and
+    /// in the one below them. Fails only if out of memory, and then the hash is unchanged.
+    ///
+    /// [`parts_append`]: crate::parts_append
+    pub fn push_rows(
+        &mut self,
+        alloc: Global,
+        rings: &Rings,
+        x: i64,
+        rows: Span,
+    ) -> Result<(), AllocError>
+        ensures hashed { OnOk result ((corners : List GridCorner)
+            × AreCornersAt (SomeCovers rings.now) x rows corners
+            × All FitsCorner corners
+            × HashesOn self.old self.new corners) }
+        ensures layer { self.new.layer ≡ self.old.layer }
+        ensures err { OnErr result (self.new ≡ self.old) }
+    {
+        if rings.is_empty() {
+            return Ok(());
+        }
+        let mut hashing = self.begun(alloc)?;
+        send_rows(alloc, rings, x, rows, &mut hashing)?;
+        self.put(hashing);
         Ok(())
     }
 

@@ -24,7 +24,7 @@ pub use digest::{LayerDigest, LayerHash, bytes_decide};
 pub use mask::{DigestedLayer, layer_line, mask_sha256, masks_decide};
 pub use same::{corners_of, cover_same};
 pub use sink::CornerSink;
-pub use span::{Span, strips_append};
+pub use span::{Span, parts_append, strips_append};
 
 mod bands;
 mod columns;

@@ -1,9 +1,10 @@
-//! Spans: the abscissas of a column or a strip.
+//! Spans: the abscissas of a column or a strip, or the ordinates of some rows.
 ghost use Rattle.std.specs.Prelude.{◌≡◌, ◌<ℤ◌, negsuc, ◌-◌, ◌^◌, true, Some, IsTrue};
 ghost use Rattle.lvl_sweep.specs.Ahead.{is_from};
 ghost use Rattle.lvl_corners.specs.Spans.{is_below, spanned, whole, left_part, right_part, StripsAppend};
+ghost use Rattle.lvl_corners.specs.Parts.{PartsAppend, PartsAreAll};
 
-/// The abscissas from `from` on, if it is given, and below `below`, if that is given.
+/// The abscissas (or ordinates) from `from` on, if it is given, and below `below`, if that is given.
 #[derive(Clone, Copy)]
 pub struct Span {
     pub from: Option<i64>,
@@ -84,4 +85,12 @@ impl Span {
 /// on, and both lists, one after the other, are the corners of all. The call does nothing.
 pub fn strips_append()
     ensures { StripsAppend }
+{}
+
+/// A law, for proofs: corners at one abscissa are found part by part. Those below an ordinate are those
+/// of the squares below it, the others those of the squares from one row before it on, and both lists,
+/// one after the other, are the corners at that abscissa. The call does nothing.
+pub fn parts_append()
+    ensures append { PartsAppend }
+    ensures all { PartsAreAll }
 {}

@@ -1,11 +1,10 @@
-use Rattle.std.proofs.Common.{◌≡◌, ◌<◌, ℕ, ◌<ℤ◌, ◌≤ℤ◌, ℤ, List, All, length, map, get_or, Some}
+use Rattle.std.proofs.Common.{◌≡◌, ◌<◌, ℕ, ◌<ℤ◌, ℤ, List, All, length, map, get_or}
 use Rattle.std.proofs.Common.{sym, ◌∙◌, ap, subst, rules, arith}
 use Rattle.std.specs.Int.{w64}
 use mir.Val.{to_z, of_z}
 use Rattle.lvl_corners.specs.declared.digest.LayerHash.{LayerHash}
-use Rattle.lvl_flat.specs.Flattened.{IsFlattenedWithin}
-use Rattle.lvl.specs.Hashes.{around, below_at, IsHashedTo, IsPushed}
-use Rattle.lvl.proofs.Hashing.{below_some, hashed_none, hashed_strip, listed_at, same_layers, written}
+use Rattle.lvl.specs.Hashes.{below_at, IsHashedTo, IsStep}
+use Rattle.lvl.proofs.Hashing.{below_some, hashed_none, same_layers, written}
 use Rattle.lvl.proofs.hashes.hash_layers.Goals as goal
 
 -- the coordinate, as stored in 64 bits
@@ -32,28 +31,22 @@ loop-from-preserved c =
     let x : ℤ = to_z w64 c.loop-from.from-bits in
     let next = c.in_ok-strip.strip in
     let end : ℤ = kept next.end in
-    let is : end ≡ next.end = search rules in
     let old : List LayerHash = c.loop-from.hashes.items in
-    let new : List LayerHash = c.push_strip.new.hashes in
+    let new : List LayerHash = c.push_next.new.hashes in
     let held : c.deref_mut.result.now ≡ old = c.deref_mut.ensures.value in
-    let long : length new ≡ length old = c.push_strip.auto.hashes ∙ ap length held in
+    let long : length new ≡ length old = c.push_next.auto.hashes ∙ ap length held in
     let lt : x <ℤ w.x1 = search (rules, c.loop-from-test.true) in
-    let further : x <ℤ end = subst (λ z. x <ℤ z) (sym is) c.in_ok-strip.ensures.further in
-    let inside : end ≤ℤ w.x1 = subst (λ z. z ≤ℤ w.x1) (sym is) c.in_ok-strip.ensures.inside in
-    let last : kept w.x1 ≡ w.x1 = search rules in
-    let pushed : (k : ℕ) (h : LayerHash) → k < length old
-    → IsPushed next.flat (record { from = Some x; below = below_at end w.x1 }) (get_or old k h) (get_or new k h) =
-    rw (held, c.end_before.ensures, last) at c.in_ok-push_strip.ensures in
+    let is : end ≡ next.end = search rules in
+    let Stepped : ℤ → Type 0 = λ z. (k : ℕ) (h : LayerHash) → k < length old
+    → IsStep s x (below_at z w.x1) (get_or old k h) (get_or new k h) in
+    let stepped : Stepped next.end = rw held at c.in_ok-pace.ensures.hashed in
+    let pushed : Stepped end = subst Stepped (sym is) stepped in
     let all : List LayerHash → Type 0 = λ hashes. (map (λ (h : LayerHash). h.layer) hashes ≡ c.args.layers.now)
-    × All (IsHashedTo s (below_at end w.x1)) hashes × (0 < next.pace.width) in
+    × All (IsHashedTo s (below_at end w.x1)) hashes × (0 < c.in_ok-pace.pace.width) in
     subst all (sym (written c.loop-from.hashes.len new old long c.loop-from.hashes.ok.0)) (
       same_layers old new long (λ k h lt. (pushed k h lt).layer) ∙ c.loop-from.invariant.0,
       λ k h few. let there : k < length old = omega (arith, few, long) in
-          hashed_strip s c.args.layers.now w next.flat (get_or old k h) (get_or new k h) x end c.extent-window.ensures
-          (search rules) (search rules) (listed_at c.args.layers.now old k h c.loop-from.invariant.0 there) further
-          inside (subst (λ z. IsFlattenedWithin s c.args.layers.now (around w x z) next.flat) (sym is)
-          c.in_ok-strip.ensures.flat)
-          (subst (λ o. IsHashedTo s o (get_or old k h)) (below_some x w.x1 lt) (c.loop-from.invariant.1 k h there))
-          (pushed k h there),
-      c.in_ok-strip.ensures.wide,
+          (pushed k h there).step (subst (λ o. IsHashedTo s o (get_or old k h)) (below_some x w.x1 lt)
+          (c.loop-from.invariant.1 k h there)),
+      c.in_ok-pace.ensures.wide,
     )

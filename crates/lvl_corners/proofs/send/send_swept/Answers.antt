@@ -28,7 +28,7 @@ returns g c =
         is_covered = marks.is_covered;
         bounded = marks.bounded;
         rising = sent.3.rising;
-        each = corner_by_totals marks.covered c.args.span c.deref.result.now sent.0
+        each = corner_by_totals marks.covered (λ x y. spanned c.args.span x) c.deref.result.now sent.0
             (λ x y. ap (net x y) c.deref.ensures.value ∙ marks.changes x y) sent.3;
       },
     )
