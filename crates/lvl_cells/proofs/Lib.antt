@@ -19,5 +19,6 @@ pub mod Refusing
 pub mod Looking
 pub mod Moving
 pub mod Spanned
+pub mod FewSpans
 pub mod Placed
 pub mod Listing

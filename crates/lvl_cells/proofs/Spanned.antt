@@ -136,7 +136,7 @@ ring_from rings moves kept spans shapes i j s h e l is m =
 grown : {X : Type 0} (old new : List X) → IsPrefixOf old new → new ≡ old ++ drop (length old) new
 grown old new g = sym (take-append-drop (length old) new) ∙ ap (λ xs. xs ++ drop (length old) new) g
 
-stretch_same : (old new : Rings) (begin end : ℕ) → IsPrefixOf old new → begin ≤ end → end ≤ length old
+pub stretch_same : {X : Type 0} (old new : List X) (begin end : ℕ) → IsPrefixOf old new → begin ≤ end → end ≤ length old
     → take (end - begin) (drop begin new) ≡ take (end - begin) (drop begin old)
 stretch_same old new begin end g h k =
     let more = drop (length old) new in
@@ -146,7 +146,7 @@ stretch_same old new begin end g h k =
     ∙ take-append-le (end - begin) (drop begin old) more fits)
 
 -- a number has the same item after more items are kept
-number_same : {X : Type 0} (first : X) (old new : List X) (n : ℕ) (d : X) → IsPrefixOf old new → n < length old + 1
+pub number_same : {X : Type 0} (first : X) (old new : List X) (n : ℕ) (d : X) → IsPrefixOf old new → n < length old + 1
     → get_or (first ∷ new) n d ≡ get_or (first ∷ old) n d
 number_same first old new zero d g h = refl
 number_same first old new (suc n) d g h =

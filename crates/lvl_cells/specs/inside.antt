@@ -10,4 +10,5 @@ pub mod Rounding
 pub mod Topping
 pub mod Placings
 pub mod Beside
+pub mod Few
 pub mod Boxed

@@ -40,6 +40,7 @@ mod checked;
 mod counts;
 mod debug;
 mod fault;
+mod few_shapes;
 mod forms;
 mod layers;
 mod library;

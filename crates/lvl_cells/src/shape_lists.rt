@@ -72,7 +72,7 @@ pub(crate) fn kept_sum(count: usize, more: usize) -> Result<u32, AllocError>
 
 /// The number of a list of shifts. Keeps the list, unless it is the zero shift alone or the same
 /// lattice as the last that was kept.
-fn number_of(kept: &mut Vec<Offsets>, shifts: &Offsets) -> Result<u32, AllocError>
+pub(crate) fn number_of(kept: &mut Vec<Offsets>, shifts: &Offsets) -> Result<u32, AllocError>
     ensures number { IfOk result (λ number. HasNumber kept.new.items number shifts.now) }
     ensures before { IsPrefixOf kept.old.items kept.new.items }
 {

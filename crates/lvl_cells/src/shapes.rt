@@ -1,10 +1,12 @@
 //! The shapes of a cell.
 ghost use Rattle.std.specs.Prelude.{◌≡◌, ◌<◌, ◌++◌, ◌∷◌, [], length, get_or, slice_get, IsTrue, ◌↔◌};
-ghost use Rattle.std.specs.Prelude.{All, OnOk, OnErr, IfSome, IfNone};
+ghost use Rattle.std.specs.Prelude.{All, IfOk, OnOk, OnErr, IfSome, IfNone};
 ghost use Rattle.lvl_grid.specs.Winding.{IsRing};
 ghost use Rattle.lvl_names.specs.Shifts.{IsBetween, one_place};
 ghost use Rattle.lvl_cells.specs.Cells.{shape_at};
+ghost use Rattle.lvl_cells.specs.inside.Boxed.{stored_shapes};
 
+use crate::few_shapes::{FewShapes, are_few};
 use crate::moved::MovedRing;
 use crate::shape_lists::ShapeLists;
 use crate::single::Single;
@@ -16,12 +18,13 @@ use std::marker::Model;
 /// The shapes of a cell in file order. Each is a list of rings on a Layer, drawn at each of a list
 /// of shifts.
 ///
-/// A boundary, a polygon or a rectangle is a shape of one ring, a path a shape of the rings of its
-/// bands. An empty list takes 16 bytes. One shape of one ring takes 64 bytes beside its points, and
-/// 64 more if it is repeated. The lists of several shapes take 160 bytes and what is in them: a
-/// boundary at one place 32 bytes and its points, and up to 16 bytes in a table of points. If an
-/// earlier shape has its points, moved, both share them, and it takes 40 bytes; but the table forgets
-/// some of them, so not all that could be shared are. A path shares the points of the shape before it
+/// A boundary, a polygon or a rectangle is a shape of one ring, a path a shape of the rings of its bands. An
+/// empty list takes 16 bytes. One shape of one ring takes 64 bytes beside its points, and 64 more if it is
+/// repeated. A few shapes of one ring take 80 bytes, 32 for each and their points, without those that are the
+/// points of the shape before, moved. The lists of more shapes, or of more rings in a shape, take 160 bytes and
+/// what is in them: a boundary at one place 32 bytes and its points, and up to 16 bytes in a table of points. If
+/// an earlier shape has its points, moved, both share them, and it takes 40 bytes; but the table forgets some of
+/// them, so not all that could be shared are. A path of several rings shares the points of the shape before it
 /// alone. Consecutive shapes with the same lattice share one list of shifts, and a shared list is
 /// never copied.
 #[derive(Drop)]
@@ -35,6 +38,7 @@ pub struct Shapes {
 enum StoredShapes {
     None,
     One(Box<Single>),
+    Few(Box<FewShapes>),
     Several(Box<ShapeLists>),
 }
 
@@ -46,6 +50,28 @@ impl Model for Shapes {
     ghost Value = { List (PlainShape Figure) };
 
     ghost view = { λ s. stored_shapes s.stored };
+}
+
+/// The stored form of the only shape of a cell and one more, of one ring.
+fn two_shapes(
+    alloc: Global,
+    first: &Single,
+    layer: Layer,
+    ring: &[Point],
+    shifts: &Offsets,
+) -> Result<StoredShapes, AllocError>
+    requires { IsRing ring.now }
+    ensures { IfOk result (λ stored. stored_shapes stored ≡ first.now
+        ∷ record { layer = layer; figure = ring.now ∷ []; shifts = shifts.now } ∷ []) }
+{
+    if are_few(first.point_count().saturating_add(ring.len())) {
+        let mut few = first.few(alloc)?;
+        few.push_ring(alloc, layer, ring, shifts)?;
+        return Ok(StoredShapes::Few(Box::new(alloc, few)?));
+    }
+    let mut lists = first.lists(alloc)?;
+    lists.push_ring(layer, ring, shifts)?;
+    Ok(StoredShapes::Several(Box::new(alloc, lists)?))
 }
 
 impl Shapes {
@@ -66,6 +92,7 @@ impl Shapes {
         match &self.stored {
             StoredShapes::None => 0,
             StoredShapes::One(_) => 1,
+            StoredShapes::Few(few) => few.len(),
             StoredShapes::Several(lists) => lists.len(),
         }
     }
@@ -85,6 +112,7 @@ impl Shapes {
         match &self.stored {
             StoredShapes::None => unreachable!(),
             StoredShapes::One(single) => single.layer(),
+            StoredShapes::Few(few) => few.layer(i),
             StoredShapes::Several(lists) => lists.layer(i),
         }
     }
@@ -97,6 +125,7 @@ impl Shapes {
         match &self.stored {
             StoredShapes::None => unreachable!(),
             StoredShapes::One(single) => single.ring_count(),
+            StoredShapes::Few(few) => few.ring_count(i),
             StoredShapes::Several(lists) => lists.ring_count(i),
         }
     }
@@ -111,6 +140,7 @@ impl Shapes {
         match &self.stored {
             StoredShapes::None => unreachable!(),
             StoredShapes::One(single) => single.ring(),
+            StoredShapes::Few(few) => few.ring(i),
             StoredShapes::Several(lists) => lists.ring(i, j),
         }
     }
@@ -124,6 +154,7 @@ impl Shapes {
         match &self.stored {
             StoredShapes::None => unreachable!(),
             StoredShapes::One(single) => single.shifts(),
+            StoredShapes::Few(few) => few.shifts(i),
             StoredShapes::Several(lists) => lists.shifts(i),
         }
     }
@@ -179,7 +210,13 @@ impl Shapes {
                 self.stored = StoredShapes::One(Box::new(self.alloc, single)?);
             }
             StoredShapes::One(first) => {
-                let mut lists = first.lists(self.alloc)?;
+                self.stored = two_shapes(self.alloc, first, layer, ring, shifts)?;
+            }
+            StoredShapes::Few(few) if few.has_room(ring.len()) => {
+                few.push_ring(self.alloc, layer, ring, shifts)?;
+            }
+            StoredShapes::Few(few) => {
+                let mut lists = few.lists(self.alloc)?;
                 lists.push_ring(layer, ring, shifts)?;
                 self.stored = StoredShapes::Several(Box::new(self.alloc, lists)?);
             }
@@ -199,9 +236,13 @@ impl Shapes {
             ++ record { layer = layer; figure = rings.now; shifts = shifts.now } ∷ []) }
         ensures kept { OnErr result (self.new ≡ self.old) }
     {
+        if rings.len() == 1 {
+            return self.push_ring(layer, rings[0].points(), shifts);
+        }
         let mut lists = match &mut self.stored {
             StoredShapes::None => ShapeLists::new(self.alloc),
             StoredShapes::One(first) => first.lists(self.alloc)?,
+            StoredShapes::Few(few) => few.lists(self.alloc)?,
             StoredShapes::Several(lists) => return lists.push_rings(layer, rings, shifts),
         };
         lists.push_rings(layer, rings, shifts)?;

@@ -45,7 +45,7 @@ fn is_again(kept: &[Point], by: Point, ring: &[Point]) -> bool
 }
 
 /// The displacement from the kept ring to this one, or None if this one isn't the kept one, moved.
-fn displacement(kept: &[Point], ring: &[Point]) -> Option<Point>
+pub(crate) fn displacement(kept: &[Point], ring: &[Point]) -> Option<Point>
     ensures { IfSome result (λ by. IsAgain kept.now by ring.now) }
 {
     let by = distance(*kept.first()?, *ring.first()?)?;

@@ -4,6 +4,7 @@ ghost use Rattle.lvl_grid.specs.Winding.{IsRing};
 ghost use Rattle.lvl_names.specs.Shifts.{one_place};
 ghost use Rattle.lvl_cells.specs.inside.Beside.{shifts_beside};
 
+use crate::few_shapes::FewShapes;
 use crate::moved::{MovedRing, ORIGIN};
 use crate::shape_lists::ShapeLists;
 use lvl_grid::Point;
@@ -100,6 +101,23 @@ impl Single {
             Some(shifts) => Some(shifts),
             None => None,
         }
+    }
+
+    /// The number of points of the ring.
+    pub(crate) fn point_count(&self) -> usize {
+        self.ring.len()
+    }
+
+    /// A list of few shapes with this one alone.
+    pub(crate) fn few(&self, alloc: Global) -> Result<FewShapes, AllocError>
+        ensures { IfOk result (λ few. few ≡ self.now ∷ []) }
+    {
+        let mut few = FewShapes::new(alloc);
+        match &self.shifts {
+            Some(shifts) => few.push_ring(alloc, self.layer, &self.ring, shifts)?,
+            None => few.push_ring(alloc, self.layer, &self.ring, &Offsets::single())?,
+        }
+        Ok(few)
     }
 
     /// Lists with this shape alone.
