@@ -1,6 +1,6 @@
 //! Corners of rings, worked by hand.
 use crate::texts::{cut, rings};
-use lvl_corners::{Corner, corners_of, cover_same, send_corners};
+use lvl_corners::{Corner, Span, corners_of, cover_same, has_corners_in, send_corners};
 use lvl_grid::{Point, Ring, Rings};
 use std::alloc::Global;
 use std::test::Fail;
@@ -74,6 +74,30 @@ fn corners_of_rings(rt: HostRuntime) -> Result<(), Fail> {
     for row in RINGS.lines() {
         assert!(rt; row_has_corners(rt.alloc(), row)?, "{row}");
     }
+    Ok(())
+}
+
+/// Whether a square and one beside its upper half have a corner at the abscissas from one up to another.
+fn are_between(alloc: Global, from: i64, below: i64) -> Result<bool, Fail> {
+    let span = Span {
+        from: Some(from),
+        below: Some(below),
+    };
+    let rings = rings(alloc, "0,0 10,0 10,10 0,10; 10,5 20,5 20,10 10,10")?;
+    Ok(has_corners_in(alloc, &rings, span)?)
+}
+
+#[test]
+fn corners_between_abscissas(rt: HostRuntime) -> Result<(), Fail> {
+    let alloc = rt.alloc();
+    assert!(rt; !are_between(alloc, -5, 0)?);
+    assert!(rt; are_between(alloc, 0, 1)?);
+    assert!(rt; !are_between(alloc, 1, 10)?);
+    assert!(rt; are_between(alloc, 1, 11)?);
+    assert!(rt; !are_between(alloc, 11, 20)?);
+    assert!(rt; are_between(alloc, 20, 21)?);
+    assert!(rt; !are_between(alloc, 21, 30)?);
+    assert!(rt; !are_between(alloc, 10, 10)?);
     Ok(())
 }
 

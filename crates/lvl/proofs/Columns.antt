@@ -38,7 +38,7 @@ rows_none s w x h = record {
 }
 
 -- what a part adds to what the top covers below it
-rows_parts : (s : Settled) (layers : List Layer) (w : Window) (f : List PlainSheet) (layer : Layer) (y end : ℤ)
+pub rows_parts : (s : Settled) (layers : List Layer) (w : Window) (f : List PlainSheet) (layer : Layer) (y end : ℤ)
     → HasRows s w → negsuc (2 ^ 63 - 1) ≤ℤ w.y0 → y ≤ℤ pos (2 ^ 63 - 1) → Contains layers layer → y <ℤ end
     → IsFlattenedWithin s layers (rows_around w y end) f
     → AreParts (IsUnder (below_at end w.y1) (CoversIn s w layer)) (IsUnder (Some y) (CoversIn s w layer))

@@ -14,3 +14,4 @@ pub mod Listing
 pub mod Reasoning
 pub mod Measuring
 pub mod CellLists
+pub mod Clearing

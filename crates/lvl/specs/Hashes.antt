@@ -1,5 +1,5 @@
 -- The hashes of Layers, strip by strip. These definitions serve only the proofs.
-use Rattle.std.specs.Prelude.{◌≡◌, ◌<◌, ◌^◌, ◌-ℤ◌, ◌<ℤ◌, ◌≤ℤ◌, ℤ, pos, true, int_lt, List, Option, None, Some}
+use Rattle.std.specs.Prelude.{◌≡◌, ◌<◌, ◌^◌, ◌-ℤ◌, ◌<ℤ◌, ◌≤ℤ◌, ℤ, pos, true, int_lt, List, [], Option, None, Some}
 use Rattle.std.specs.Prelude.{All, AllPairs, Any, Contains, if◌then◌else◌}
 use Rattle.std.specs.Int.{saturate_signed, w64}
 use Rattle.lvl_grid.specs.declared.point.Square.{Square}
@@ -20,7 +20,7 @@ use Rattle.lvl_corners.specs.Corners.{FitsCorner}
 use Rattle.lvl_corners.specs.Digests.{HasHashed, HashesOn}
 use Rattle.lvl_corners.specs.Masks.{Covers, IsDigested}
 use Rattle.lvl_corners.specs.Parts.{only, AreCornersAt}
-use Rattle.lvl_corners.specs.Spans.{AreCornersIn, is_below}
+use Rattle.lvl_corners.specs.Spans.{AreCornersIn, is_below, spanned}
 use Rattle.lvl.specs.declared.strip.Axis.{Axis}
 use Rattle.lvl.specs.declared.strip.Axis.TheVariants.{X, Y}
 
@@ -116,6 +116,20 @@ pub record IsRowsPushed (s : Settled) (w : Window) (x : ℤ) (end : Option ℤ) 
 -- Layer in a window
 abbrev pub IsColumnPushed : Settled → Window → ℤ → LayerHash → LayerHash → Type 0
 IsColumnPushed s w x old new = IsPushedOf (CoversIn s w old.layer) (only x) old new
+
+-- the abscissas from one up to another, which is excluded
+abbrev pub between : ℤ → ℤ → Span
+between from end = record { from = Some from; below = Some end }
+
+-- what the top covers on each of some Layers in a window has no corners at the abscissas from one up to another
+abbrev pub IsClear : Settled → List Layer → Window → ℤ → ℤ → Type 0
+IsClear s layers w from end = All (λ layer. AreCornersIn (CoversIn s w layer) (between from end) []) layers
+
+-- what the top covers on each of some Layers in a window below an end has no corners at these abscissas and below it
+abbrev pub IsClearUnder : Settled → List Layer → Window → ℤ → ℤ → Option ℤ → Type 0
+IsClearUnder s layers w from end o =
+    (x : ℤ) → spanned (between from end) x ≡ true
+    → All (λ layer. AreCornersAt (IsUnder o (CoversIn s w layer)) x (up_to o) []) layers
 
 -- if the first state has taken the corners up to an abscissa, the second has taken them up to an end, if there is one
 pub record IsStep (s : Settled) (from : ℤ) (end : Option ℤ) (old new : LayerHash) : Type 0 where

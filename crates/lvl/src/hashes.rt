@@ -8,6 +8,7 @@ ghost use Rattle.lvl_corners.specs.declared.digest.LayerHash.{LayerHash as HashO
 ghost use Rattle.lvl_flat.specs.Flattened.{IsFlattenedWithin};
 ghost use Rattle.lvl.specs.Hashes.{around, below_at, HasAll, IsHashedTo, IsPushed, IsStep};
 
+use crate::clear::clear_end;
 use crate::pace::Pace;
 use crate::parts::push_column;
 use crate::strip::{Axis, Strip, end_before, next_strip, slice_around};
@@ -148,7 +149,7 @@ pub(crate) fn hash_layers(
             strip,
             most,
         )?;
-        from = end;
+        from = clear_end(alloc, fitted, layers, &window, end, pace, most)?;
     }
     Ok(hashes)
 }

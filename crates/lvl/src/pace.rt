@@ -103,6 +103,12 @@ impl Pace {
         }
     }
 
+    /// Whether the last strip was hashed part by part, and the one before it wasn't: after a second one
+    /// there is room for more, so no further strip is looked through in vain.
+    pub(crate) fn is_first_in_parts(self) -> bool {
+        self.is_in_parts
+    }
+
     /// The pace at which a strip is tried that is at most half as wide.
     pub(crate) fn halved(self) -> Pace
         ensures { result.width ≡ self.width / 2 }

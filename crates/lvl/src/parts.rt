@@ -48,7 +48,7 @@ fn count_right(flat: &Flat, x: i64) -> usize {
 /// What is drawn in a part, the ordinate at which it ends, which is excluded, and the pace of the next
 /// one.
 #[derive(Drop)]
-struct Part {
+pub(crate) struct Part {
     pub flat: Flat,
     pub end: i64,
     pub pace: Pace,
@@ -56,7 +56,7 @@ struct Part {
 
 /// The rings of some Layers in the part of a window that begins at `from`. A part of one row may have
 /// any number of points.
-fn next_part(
+pub(crate) fn next_part(
     alloc: Global,
     fitted: &Fitted,
     layers: &[Layer],

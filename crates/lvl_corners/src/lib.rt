@@ -18,6 +18,7 @@
 //! ```
 #![tactic(auto)]
 
+pub use any::has_corners_in;
 pub use columns::{send_corners, send_corners_in};
 pub use corner::Corner;
 pub use digest::{LayerDigest, LayerHash, bytes_decide};
@@ -26,6 +27,7 @@ pub use same::{corners_of, cover_same};
 pub use sink::CornerSink;
 pub use span::{Span, parts_append, strips_append};
 
+mod any;
 mod bands;
 mod columns;
 mod corner;
