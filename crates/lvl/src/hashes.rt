@@ -150,6 +150,7 @@ pub(crate) fn hash_layers(
             most,
         )?;
         from = clear_end(alloc, fitted, layers, &window, end, pace, most)?;
+        pace = pace.after_clear(end.abs_diff(from));
     }
     Ok(hashes)
 }

@@ -9,6 +9,9 @@ const MOST_TRIES: u32 = 256;
 /// How many more strips may be halved after a strip that has used much of its room.
 const PAID_TRIES: u32 = 4;
 
+/// How wide a strip without corners is at least that is worth two passes over what is drawn in it.
+const WORTHWHILE: u64 = 8;
+
 /// How many points the rings of a strip have, and how many of them are on its left and right sides, or
 /// on the lower and upper sides of a part.
 #[derive(Clone, Copy)]
@@ -99,6 +102,17 @@ impl Pace {
         Pace {
             points: self.least,
             is_in_parts: true,
+            ..self
+        }
+    }
+
+    /// The pace after a strip of this width that was skipped, since no corner lies in it. If it was wide, the
+    /// passes over it were worth their while, and the next strip in parts is again the first.
+    pub(crate) fn after_clear(self, width: u64) -> Pace
+        ensures { result.width ≡ self.width }
+    {
+        Pace {
+            is_in_parts: self.is_in_parts && width < WORTHWHILE,
             ..self
         }
     }

@@ -54,14 +54,14 @@ loop-from-preserved c =
     subst (λ z. (h : LayerHash) → Contains c.args.layers.now h.layer → IsHashedTo s (below_at end w.x1) h
     → IsHashedTo s (below_at z w.x1) h) (sym stop_is) c.in_ok-from.ensures.clear in
     let all : List LayerHash → Type 0 = λ hashes. (map (λ (h : LayerHash). h.layer) hashes ≡ c.args.layers.now)
-    × All (IsHashedTo s (below_at stop w.x1)) hashes × (0 < c.in_ok-pace.pace.width) in
+    × All (IsHashedTo s (below_at stop w.x1)) hashes × (0 < c.after_clear-pace.result.width) in
     subst all (sym (written c.loop-from.hashes.len new old long c.loop-from.hashes.ok.0)) (
       layers,
       λ k h few. let there : k < length old = omega (arith, few, long) in
           clear (get_or new k h) (listed_at c.args.layers.now new k h layers few)
           ((pushed k h there).step (subst (λ o. IsHashedTo s o (get_or old k h)) (below_some x w.x1 lt)
           (c.loop-from.invariant.1 k h there))),
-      c.in_ok-pace.ensures.wide,
+      subst (λ n. 0 < n) (sym c.after_clear-pace.ensures) c.in_ok-pace.ensures.wide,
     )
 
 pub loop-from-smaller : goal.loop-from-smaller
