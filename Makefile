@@ -5,7 +5,7 @@ NEEDS_RT = command -v rt >/dev/null 2>&1 || { echo "make: rt (the Rattle toolcha
 
 SOURCES := crates.txt $(shell find crates -path '*/out' -prune -o -type f \( -name '*.rt' -o -name '*.antt' \) -print)
 
-.PHONY: all check growths klayout dist install clean
+.PHONY: all check growths random klayout dist install clean
 
 # Proves and builds the program, and leaves it as bin/lvl.
 all: bin/lvl
@@ -24,6 +24,21 @@ check:
 growths:
 	@$(NEEDS_RT)
 	@.ci/growths
+
+# Files made at random, for about a minute: the answers against those of a raster and of a second implementation.
+# SEED=N makes the same ones again. Not part of the gate.
+SEED ?= $(shell date +%s)
+random:
+	@test -x bin/lvl || { echo "make random: bin/lvl is missing: run make first" >&2; exit 2; }
+	@echo "make random: the seed is $(SEED)"
+	@tools/pairs.py --count 300 --seed $(SEED)
+	@tools/pairs.py --count 150 --seed $(SEED) --mutate
+	@tools/pairs.py --count 100 --seed $(SEED) --why
+	@tools/damage.py --count 200 --seed $(SEED)
+	@tools/damage.py --count 200 --seed $(SEED) --format oas --blocks
+	@tools/packed.py --count 50 --seed $(SEED)
+	@tools/digests.py --count 10 --seed $(SEED)
+	@tools/heads.py --count 100 --seed $(SEED)
 
 # A hierarchy that KLayout writes as GDSII and as OASIS, compared. Not part of the gate.
 klayout:

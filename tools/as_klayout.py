@@ -15,13 +15,11 @@ import tempfile
 
 sys.dont_write_bytecode = True
 
-import answers
-import gds_reader
-import oasis_reader
-from answers import NOTHING
-from assembler import MAGIC, STREAM_END, aref, boundary, box, cell_by_number, counted_name, layer_name, named
-from assembler import oas_property, padded_end, path, signed, sref, start, stream_head, string, structure, text
-from assembler import unsigned, x_name
+from lib import answers, gds_reader, oasis_reader
+from lib.answers import NOTHING
+from lib.assembler import MAGIC, STREAM_END, aref, boundary, box, cell_by_number, counted_name, layer_name, named
+from lib.assembler import oas_property, padded_end, path, signed, sref, start, stream_head, string, structure, text
+from lib.assembler import unsigned, x_name
 
 THOUSAND = b"\0\xE8\x07"
 # Property names, in the order of their table, which numbers them from 0.

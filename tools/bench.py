@@ -12,9 +12,8 @@ import random
 import sys
 import tempfile
 
-import crafted
-import options
-from assembler import boundary, g_delta, polygon, rectangle
+from lib import crafted, options
+from lib.assembler import boundary, g_delta, polygon, rectangle
 
 FIELD = 100_000
 

@@ -30,7 +30,7 @@ import os
 import random
 from collections import namedtuple
 
-import assembler
+from lib import assembler
 
 Cell = namedtuple("Cell", "name boxes references")
 Reference = namedtuple("Reference", "cell at columns rows a b flip quarters")

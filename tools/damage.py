@@ -19,16 +19,8 @@ import subprocess
 import sys
 import tempfile
 
-import answers
-import gds
-import gds_reader
-import layout
-import oasis
-import oasis_blocks
-import oasis_reader
-import options
-import undrawn
-from answers import EVERYTHING, NOTHING, WORDS
+from lib import answers, gds, gds_reader, layout, oasis, oasis_blocks, oasis_reader, options, undrawn
+from lib.answers import EVERYTHING, NOTHING, WORDS
 
 WRITERS = {"gds": gds, "oas": oasis}
 LARGE = [2**20 - 2, 2**20 - 1, 2**24 - 1, 2**32 - 1, 2**32, 2**62, 2**62 - 1, 2**63 - 1, 2**63, 2**64 - 2, 2**64 - 1]

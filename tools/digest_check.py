@@ -9,7 +9,7 @@ import sys
 
 sys.dont_write_bytecode = True
 
-from digest import corners, layer_bytes, lines_of
+from lib.digest import corners, layer_bytes, lines_of
 
 TESTS = pathlib.Path(__file__).parent.parent / "crates/corners_tests/src/digests.rt"
 

@@ -13,12 +13,8 @@ import tempfile
 
 sys.dont_write_bytecode = True
 
-import digest
-import gds
-import layout
-import oasis
-import options
-from layout import Cell, Shape
+from lib import digest, gds, layout, oasis, options
+from lib.layout import Cell, Shape
 
 GOES_ON = "layer ", "mask "
 

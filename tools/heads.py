@@ -9,9 +9,9 @@ import tempfile
 
 sys.dont_write_bytecode = True
 
-import options
-import steps
-from assembler import MAGIC, OASIS_END, STREAM_END, box, cell_by_name, rectangle, start, stream_head, structure, unsigned
+from lib import options, steps
+from lib.assembler import MAGIC, OASIS_END, STREAM_END, box, cell_by_name, rectangle, start, stream_head, structure
+from lib.assembler import unsigned
 
 NANOMETRE = 0x3944B82FA09B5A54
 FLOATS = [0.0, 1.0, 1000.0, 1e-3, 2.0 ** -126, 2.0 ** -127, 1e9, 1e-6, float("inf"), float("nan"), -1.0]

@@ -13,12 +13,11 @@ import sys
 import tempfile
 from collections import namedtuple
 
-import crafted
-import options
-from assembler import aref, boundary, box, cell_by_name, counted_name, lattice, line, numbered_name, oas_path, placement
-from assembler import column, g_delta, polygon, rectangle, row, signed, sref, unsigned
-from crafted import gds_cell, gds_file, oas_cell, oas_file
-from oasis import axis_delta, steps_of
+from lib import crafted, options
+from lib.assembler import aref, boundary, box, cell_by_name, counted_name, lattice, line, numbered_name, oas_path
+from lib.assembler import placement, column, g_delta, polygon, rectangle, row, signed, sref, unsigned
+from lib.crafted import gds_cell, gds_file, oas_cell, oas_file
+from lib.oasis import axis_delta, steps_of
 
 Case = namedtuple("Case", "what rings files words")
 # The least coordinate of a position that OASIS can write, and the greatest; one is the negative of the other.
@@ -144,6 +143,10 @@ def full_columns():
     yield case("a column of %d squares" % n, n, one(rectangle(0, 0, 1, 1, 1, column(n, 2))))
     yield case("a column of %d rectangles, 10 wide" % n, n, one(rectangle(0, 0, 10, 1, 1, column(n, 2))))
     yield case("%d bars, 10^9 wide" % m, m, one(rectangle(0, 0, 10**9, 1, 1, column(m, 2))))
+    turns = (rectangle(0, 2 * at, 10 + 2 * at, 1, 1, column(n // 10, 20)) for at in range(10))
+    yield case("a column of %d rectangles, 10 to 28 wide by turns" % n, n, one(*turns))
+    long = (rectangle(37 * at, 2 * at, 10**6 + 1001 * at, 1, 1, column(16_000, 128)) for at in range(64))
+    yield case("64 arrays of 16,000 bars, each of another length", 64 * 16_000, one(*long))
 
 
 def small_cells():
@@ -157,8 +160,22 @@ def small_cells():
             (b"".join(oas_cell("%07d" % at, rectangle(0, 0, 1, 1))) for at in order),
             oas_cell("TOP", (placement("%07d" % at, 2 * at, 0) for at in range(n))),
         )
+    def each(*records):
+        return oas_file(
+            (b"".join(oas_cell("%05x" % at, *records)) for at in range(n)),
+            oas_cell("TOP", (placement("%05x" % at, at % 1000 * 60, at // 1000 * 60) for at in range(n))),
+        )
+    def more(squares):
+        return [b"\x14\x10" + signed(5 * at) for at in range(1, squares)]
     n = 1_000_000
     yield case("a million cells of a square, placed once, both formats", 2 * n, gds(n), oas(n, range(n - 1, -1, -1)))
+    first, twice = rectangle(0, 0, 2, 2), rectangle(0, 0, 2, 2, 1, column(2, 3))
+    for squares in (2, 5, 9):
+        yield case("a million cells of %d squares" % squares, squares * n, each(first, *more(squares)))
+    wider = b"\x14\x50\3" + signed(5)
+    yield case("a million cells of two squares of different widths", 2 * n, each(first, wider))
+    again = b"\x14\x1C" + signed(5) + signed(0) + b"\0"
+    yield case("a million cells of two squares, both repeated", 4 * n, each(twice, again))
 
 
 def records():

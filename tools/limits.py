@@ -11,13 +11,11 @@ import sys
 import tempfile
 from collections import namedtuple
 
-import crafted
-import hints
-import options
-from assembler import aref, boundary, box, cell_by_number, column, counted_name, lattice, oas_path, path, placement
-from assembler import element, gds_property, layer_name, named, oas_text, polygon, rectangle, row, security, short
-from assembler import signed, sref, unsigned, x_name, xy
-from crafted import GDS_HEAD, GDS_TEXT, OAS_END, OAS_HEAD, OAS_TEXT, gds_cell, gds_file, oas_cell, oas_file
+from lib import crafted, hints, options
+from lib.assembler import aref, boundary, box, cell_by_number, column, counted_name, lattice, oas_path, path, placement
+from lib.assembler import element, gds_property, layer_name, named, oas_text, polygon, rectangle, row, security, short
+from lib.assembler import signed, sref, unsigned, x_name, xy
+from lib.crafted import GDS_HEAD, GDS_TEXT, OAS_END, OAS_HEAD, OAS_TEXT, gds_cell, gds_file, oas_cell, oas_file
 
 MOST_BYTES, CELLS, PLACES = 4_294_967_295, 1_048_576, 16_777_216
 LONG, IGNORED = 100_000_000, ["--ignore", "all"]

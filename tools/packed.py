@@ -12,11 +12,8 @@ import sys
 import tempfile
 
 import damage
-import layout
-import oasis
-import oasis_blocks
-import options
-from answers import NOTHING
+from lib import layout, oasis, oasis_blocks, options
+from lib.answers import NOTHING
 
 
 def records_of(data):

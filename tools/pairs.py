@@ -32,17 +32,9 @@ import subprocess
 import sys
 import tempfile
 
-import answers
-import far
-import gds
-import gds_reader
-import layout
-import oasis
-import oasis_reader
-import options
-import spelling
 import why
-from answers import EVERYTHING, NOTHING, WORDS
+from lib import answers, far, gds, gds_reader, layout, oasis, oasis_reader, options, spelling
+from lib.answers import EVERYTHING, NOTHING, WORDS
 
 MOST_BYTES = 4 * 2**30
 

@@ -15,9 +15,7 @@ import tempfile
 
 sys.dont_write_bytecode = True
 
-import gds
-import layout
-import options
+from lib import gds, layout, options
 
 RESAVE = os.path.join(options.ROOT, "contrib", "klayout", "resave.py")
 # A grid of 0.001 micrometers; KLayout scales by the units.

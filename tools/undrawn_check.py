@@ -13,12 +13,8 @@ import tempfile
 
 sys.dont_write_bytecode = True
 
-import answers
-import gds_reader
-import hints
-import oasis_reader
-import options
-from assembler import OASIS_END, padded_end, record, short, unsigned, xy
+from lib import answers, gds_reader, hints, oasis_reader, options
+from lib.assembler import OASIS_END, padded_end, record, short, unsigned, xy
 
 SHOWN = "layer 1 datatype 0 rings 1"
 UNITS = bytes.fromhex("4110000000000000") * 2

@@ -11,10 +11,7 @@ import argparse
 import re
 import sys
 
-import answers
-import gds_reader
-import layout
-import oasis_reader
+from lib import answers, gds_reader, layout, oasis_reader
 
 VERDICT = re.compile(r"differ: layer (\d+) datatype (\d+) square (-?\d+) (-?\d+) only in (first|second)")
 TOP = re.compile(r"why: cell (.*)")

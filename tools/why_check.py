@@ -4,12 +4,7 @@ import argparse
 import random
 import re
 
-import answers
-import gds
-import gds_reader
-import layout
-import oasis
-import oasis_reader
+from lib import answers, gds, gds_reader, layout, oasis, oasis_reader
 import why
 
 

@@ -18,6 +18,8 @@ mod names;
 #[cfg(test)]
 mod offsets;
 #[cfg(test)]
+mod rectangles;
+#[cfg(test)]
 mod references;
 #[cfg(test)]
 mod shapes;

@@ -28,7 +28,7 @@ fn has_bytes(name: &Name, bytes: &[u8]) -> Result<bool, AllocError> {
     Ok(name.as_bytes() == bytes && name.clone()?.as_bytes() == bytes)
 }
 
-/// The same of a name that copies the bytes.
+/// Whether a name that copies the bytes has them, and a clone of it.
 fn is_copied(alloc: Global, bytes: &[u8]) -> Result<bool, AllocError> {
     has_bytes(&Name::of(alloc, bytes)?, bytes)
 }

@@ -154,7 +154,7 @@ fn reach_from_to(shifts: &Offsets) -> bool {
     shifts.reach() == (Point { x: -1, y: -2 }, Point { x: 5, y: 7 })
 }
 
-/// The same of a list, and of the same list once it is shared.
+/// Whether the shifts of a list reach so far, before and after it is shared.
 fn list_reaches(alloc: Global, text: &str) -> Result<bool, Fail> {
     let mut shifts = list_of(alloc, text)?;
     let owned = reach_from_to(&shifts);

@@ -87,7 +87,7 @@ fn is_row(reference: &KeptReference<'_>, row: &Row) -> bool {
         && reference.flip() == flip
         && reference.turn() == turn
         && reference.at() == Point { x, y: 0 }
-        && reference.shifts().len() == count_of(places)
+        && reference.shift_count() == count_of(places)
 }
 
 /// Whether the references are those of the rows.

@@ -122,7 +122,7 @@ pub(crate) fn library(alloc: Global, text: &str) -> Result<Checked, Fail> {
     Ok(check(alloc, built(alloc, text)?, Some(top.as_bytes()))?)
 }
 
-/// The same, which is to fit 64 bits.
+/// The library that the text says, checked, which is to fit 64 bits.
 pub(crate) fn fitted(alloc: Global, text: &str) -> Result<Fitted, Fail> {
     Ok(Fitted::new(alloc, library(alloc, text)?)?)
 }

@@ -85,7 +85,7 @@ fn made(seed: u64) -> Parts {
     }
 }
 
-/// The same with one part exchanged, or with none.
+/// The parts with one of them exchanged, or with none.
 fn with_one_changed(parts: Parts, seed: u64) -> Parts {
     let other = made(next_made(seed));
     let mut changed = parts;
@@ -168,7 +168,7 @@ fn pair_of(alloc: Global, parts: Parts, others: Parts) -> Result<Pair, Fail> {
     fitted_pair(alloc, ours.as_str(), theirs.as_str())
 }
 
-/// The same of a made pair.
+/// Whether every comparison of a made pair agrees, and whether it differs under its view.
 fn made_pair(alloc: Global, seed: u64) -> Result<(bool, bool), Fail> {
     let parts = made(seed);
     let view = made_view(alloc, next_made(next_made(seed)))?;

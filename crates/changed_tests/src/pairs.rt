@@ -197,7 +197,7 @@ fn first_wrong(
     Ok((!is_right).then_some("difference"))
 }
 
-/// The same, of the libraries of a row.
+/// What is wrong of the libraries of a row, if something is.
 fn wrong_in_row(alloc: Global, row: &str) -> Result<Option<&'static str>, Fail> {
     let (ours, row) = cut(row, " | ");
     let (theirs, row) = cut(row, " |");
@@ -275,7 +275,7 @@ fn windows_and_found(alloc: Global, pair: &Pair) -> Result<(usize, Found), Fail>
     Ok((windows_of(alloc, pair)?, found_twice(alloc, pair, 16)?))
 }
 
-/// The same of many windows.
+/// How many windows there are where there are many, and what is found in them.
 fn found_in_many(alloc: Global) -> Result<(usize, Found), Fail> {
     let pair = many_changed(alloc)?;
     windows_and_found(alloc, &pair)

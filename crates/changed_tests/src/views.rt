@@ -71,7 +71,7 @@ fn is_right(
     Ok(is_plain && found_text(alloc, found)?.as_str() == want)
 }
 
-/// The same, of the libraries and the view of a row.
+/// Whether the windows and the first square are those of a row, for its libraries and its view.
 fn is_row_right(alloc: Global, row: &str) -> Result<bool, Fail> {
     let (ours, row) = cut(row, " | ");
     let (theirs, row) = cut(row, " | ");
@@ -104,14 +104,16 @@ x=0..3,y=0..9 | -
 x=4..100,y=-9..9 | -
 ";
 
-/// The same of the libraries with a square more on a high layer in a cell that is placed often.
+/// A window, and its first square that differs, where a cell that is placed often has a square more on a high
+/// layer.
 const SHOWN_OFTEN: &str = "\
 x=0..200,y=0..1 | 9 4 0 second
 x=5..200,y=0..1 | 9 14 0 second
 x=5..14,y=0..9 | -
 ";
 
-/// The same of libraries of which the second draws a via in the cell that places it in the first.
+/// A window, and its first square that differs, where the second library draws a via in the cell that places it in
+/// the first.
 const SHOWN_DRAWN: &str = "\
 x=0..200,y=0..1 | -
 x=3..14,y=-9..9 | -

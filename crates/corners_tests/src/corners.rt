@@ -1,6 +1,6 @@
 //! Corners of rings, worked by hand.
 use crate::texts::{cut, rings};
-use lvl_corners::{Corner, Span, corners_of, cover_same, has_corners_in, send_corners};
+use lvl_corners::{Corner, Span, corners_of, cover_same, send_corners, send_corners_in};
 use lvl_grid::{Point, Ring, Rings};
 use std::alloc::Global;
 use std::test::Fail;
@@ -84,7 +84,9 @@ fn are_between(alloc: Global, from: i64, below: i64) -> Result<bool, Fail> {
         below: Some(below),
     };
     let rings = rings(alloc, "0,0 10,0 10,10 0,10; 10,5 20,5 20,10 10,10")?;
-    Ok(has_corners_in(alloc, &rings, span)?)
+    let mut corners: Vec<Corner> = Vec::new(alloc);
+    send_corners_in(alloc, &rings, span, &mut corners)?;
+    Ok(!corners.is_empty())
 }
 
 #[test]

@@ -347,7 +347,7 @@ fn astray(rings: &Rings, outer: Map, inner: Map) -> Option<(i64, i64)> {
     None
 }
 
-/// The same of what the L flattens to.
+/// The first square that differs between what the L flattens to and where the maps send it.
 fn flat_astray(alloc: Global, outer: Map, inner: Map) -> Result<Option<(i64, i64)>, Fail> {
     let flat = l_placed_twice(alloc, outer, inner)?;
     Ok(astray(flat.rings(METAL), outer, inner))

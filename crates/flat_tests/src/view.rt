@@ -75,7 +75,8 @@ fn covered_text(alloc: Global, flat: &Flat) -> Result<String, AllocError> {
     format!(in alloc; "{one} {two} {three} {four} {}", flat.len())
 }
 
-/// The same where Layer 1 covers (1, 1), Layer 2 (2, 2) and Layer 3 (3, 3), once the map is applied.
+/// What is on the first four Layers, where Layer 1 covers (1, 1), Layer 2 (2, 2) and Layer 3 (3, 3), once the map is
+/// applied.
 fn mapped_by(alloc: Global, map: &str) -> Result<String, Fail> {
     let boxes = [
         placed(3, 3, 3, 4, 4),

@@ -70,7 +70,8 @@ fn counts(alloc: Global, fitted: &Fitted, window: &Window) -> Result<(u64, usize
     Ok((count(&flat), flat.rings(METAL).len()))
 }
 
-/// The same, of those own shapes and references of the top that may cover squares of the window.
+/// How many squares are covered and rings held, of those own shapes and references of the top that may cover squares
+/// of the window.
 fn counts_of_some(alloc: Global, fitted: &Fitted, window: &Window) -> Result<(u64, usize), Fail> {
     let (some, _) = fitted.narrowed(alloc, &fitted.candidates(), window)?;
     let (fewer, _) = fitted.narrowed(alloc, &some, window)?;
@@ -259,7 +260,7 @@ pub(crate) fn spread(alloc: Global, shifts: Offsets) -> Result<Checked, Fail> {
     checked(alloc, builder)
 }
 
-/// The same, but the top draws the rectangle itself at the shifts.
+/// A top that draws a rectangle of 4 by 2 itself, at these shifts.
 pub(crate) fn drawn(alloc: Global, shifts: &Offsets) -> Result<Checked, Fail> {
     let mut builder = Builder::new(alloc);
     add_drawing(alloc, &mut builder, b"TOP", shifts)?;

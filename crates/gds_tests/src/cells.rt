@@ -4,7 +4,6 @@
 //! with its cell, whether and how it is turned, where it is, and its shifts.
 use lvl_cells::{Cell, KeptReference, Library, MovedRing, Shapes};
 use lvl_grid::Point;
-use lvl_names::Offsets;
 use std::alloc::{AllocError, Global};
 
 fn add_point(alloc: Global, text: &mut String, point: Point) -> Result<(), AllocError> {
@@ -34,9 +33,13 @@ fn add_shapes(alloc: Global, text: &mut String, shapes: &Shapes) -> Result<(), A
     Ok(())
 }
 
-fn add_shifts(alloc: Global, text: &mut String, shifts: &Offsets) -> Result<(), AllocError> {
-    for k in 0..shifts.len() {
-        if let Some(shift) = shifts.at(k) {
+fn add_shifts(
+    alloc: Global,
+    text: &mut String,
+    reference: &KeptReference<'_>,
+) -> Result<(), AllocError> {
+    for k in 0..reference.shift_count() {
+        if let Some(shift) = reference.shift(k) {
             add_point(alloc, text, shift)?;
         }
     }
@@ -52,7 +55,7 @@ fn add_reference(
     let (flip, turn) = (reference.flip(), reference.turn());
     let Point { x, y } = reference.at();
     text.push_str(&format!(in alloc; " / {cell} {flip} {turn:?} {x},{y};")?)?;
-    add_shifts(alloc, text, reference.shifts())
+    add_shifts(alloc, text, reference)
 }
 
 fn add_cell(alloc: Global, text: &mut String, cell: &Cell) -> Result<(), AllocError> {

@@ -132,7 +132,7 @@ fn short_fault(alloc: Global, ends: Option<i16>, width: i32) -> Result<String, F
     fault(alloc, &stream)
 }
 
-/// The same of a path of this width without PATHTYPE.
+/// The fault of a path of this width without PATHTYPE.
 fn width_fault(alloc: Global, width: &str) -> Result<String, Fail> {
     short_fault(alloc, None, width.parse::<i32>()?)
 }

@@ -42,7 +42,7 @@ const PATHS: &str = "\
     0,-2 12,-2 12,2 0,2; 8,-2 12,-2 12,12 8,12; -2,8 12,8 12,12 -2,12; -2,0 2,0 2,12 -2,12
 ";
 
-/// The same for paths that reach half their width beyond their ends.
+/// Such rows for paths that reach half their width beyond their ends.
 const SQUARE_ENDS: &str = "\
 0,0 0,0 10,0 10,10 | RepeatedPoint | -2,-2 12,-2 12,2 -2,2; 8,-2 12,-2 12,12 8,12
 0,0 10,0 10,0 10,10 | RepeatedPoint | -2,-2 12,-2 12,2 -2,2; 8,-2 12,-2 12,12 8,12

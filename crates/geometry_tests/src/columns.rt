@@ -91,7 +91,7 @@ fn found_in_halves(
     Ok(lesser(first, second))
 }
 
-/// The same, where the second halves are those of `b`, cut there.
+/// The lesser of the least differences, where the second halves are those of `b`, cut there.
 fn found_where_cut(
     alloc: Global,
     a: &(Rings, Rings),
@@ -112,7 +112,7 @@ fn halves_find(
     Ok(found_where_cut(alloc, &a.split_at(alloc, at)?, b, at)? == want)
 }
 
-/// The same for each of nine cuts.
+/// Whether both halves have the lesser of their least differences at each of nine cuts.
 fn cuts_find(
     alloc: Global,
     a: &Rings,
@@ -128,7 +128,7 @@ fn cuts_find(
     Ok(true)
 }
 
-/// The same for lists.
+/// Whether the halves of two lists have it at each of nine cuts.
 fn lists_find(
     alloc: Global,
     first: &[Ring],
@@ -152,7 +152,7 @@ fn all_find(alloc: Global, first: &[Ring], second: &[Ring], from: i64) -> Result
     Ok(lists_find(alloc, first, second, from, want)? && differ_at(alloc, first, second, want)?)
 }
 
-/// The same for two made lists.
+/// Whether the least difference of two made lists is that of the grids, however it is looked for.
 fn made_lists_find(alloc: Global, number: u64, at: i64) -> Result<bool, Fail> {
     let first = made_rings(alloc, number.wrapping_mul(7919), number % 5, at)?;
     let second = made_rings(alloc, number.wrapping_mul(104_729), number % 4, at)?;
@@ -197,7 +197,7 @@ fn in_order(alloc: Global, moved: Option<u64>) -> Result<Rings, AllocError> {
     Rings::from_slice(alloc, &narrow(alloc, 2000, moved)?)
 }
 
-/// The same from the last to the first, where none is moved.
+/// Two thousand of them, from the last to the first, where none is moved.
 fn turned(alloc: Global) -> Result<Rings, AllocError> {
     let mut rings = narrow(alloc, 2000, None)?;
     rings.reverse();

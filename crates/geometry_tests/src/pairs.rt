@@ -102,7 +102,7 @@ pub fn row_differs_at(alloc: Global, row: &str) -> Result<bool, Fail> {
     Ok(both_differ_at(alloc, &first, &second, found_of(found)?)?)
 }
 
-/// The same, where the name of the row is before it.
+/// Whether the lists of a row differ where it says, where the name of the row is before it.
 fn named_row_differs_at(alloc: Global, row: &str) -> Result<bool, Fail> {
     let (_, row) = cut(row, " |");
     row_differs_at(alloc, row)

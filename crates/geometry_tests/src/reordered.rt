@@ -47,7 +47,7 @@ fn listed(alloc: Global, is_reversed: bool) -> Result<Rings, Fail> {
     Ok(rings)
 }
 
-/// The same, and a square at this abscissa.
+/// The rings in one of these orders, and a square at this abscissa.
 fn listed_and_square(alloc: Global, is_reversed: bool, x: i64) -> Result<Rings, Fail> {
     let mut rings = listed(alloc, is_reversed)?;
     push_rectangle(alloc, &mut rings, (x, x.saturating_add(1)), (5, 6))?;

@@ -1,12 +1,14 @@
 -- The hashes of Layers, strip by strip.
-use Rattle.std.proofs.Common.{◌≡◌, ◌↔◌, ℕ, suc, ◌<◌, ◌^◌, ◌-◌, true, false, List, [], ◌∷◌, ◌++◌}
+use Rattle.std.proofs.Common.{◌≡◌, ◌↔◌, ℕ, suc, ◌+◌, ◌<◌, ◌≤◌, ◌^◌, ◌-◌, true, false, List, [], ◌∷◌, ◌++◌}
 use Rattle.std.proofs.Common.{ℤ, pos, negsuc, ◌+ℤ◌, ◌-ℤ◌, ◌<ℤ◌, ◌≤ℤ◌, int_lt, length, take, drop, map, get_or}
-use Rattle.std.proofs.Common.{Contains, IsSomeAnd, Option, None, Some, refl, sym, ◌∙◌, ap, subst}
+use Rattle.std.proofs.Common.{Contains, IsSomeAnd, Option, None, Some, inl, inr, refl, sym, ◌∙◌, ap, subst}
 use Rattle.std.proofs.Common.{arith}
 use Rattle.std.specs.Int.{saturate_signed, w64}
-use Rattle.std.proofs.Math.ListN.{length-map}
+use Rattle.std.proofs.Math.ListN.{length-map, set}
 use Rattle.std.proofs.lemmas.Int.{ints, by_lt_z}
-use Rattle.std.proofs.lemmas.List.{append-nil, get_or-map, length-drop, nil_from_length, take_all}
+use Rattle.std.proofs.lemmas.Grind.{get_or-set_at}
+use Rattle.std.proofs.lemmas.List.{append-nil, get_or-map, get_or-set_other, get_or_default, length-drop, length-set}
+use Rattle.std.proofs.lemmas.List.{nil_from_length, take_all}
 use Rattle.std.proofs.lemmas.List.Elements.{All-append, Contains-get_or}
 use Rattle.lvl_grid.specs.declared.point.Square.{Square}
 use Rattle.lvl_grid.specs.declared.point.Window.{Window}
@@ -22,11 +24,13 @@ use Rattle.lvl_flat.specs.Sheets.{rings_on}
 use Rattle.lvl_corners.specs.declared.digest.LayerHash.{LayerHash}
 use Rattle.lvl_corners.specs.Corners.{AreCornersOf, FitsCorner}
 use Rattle.lvl_corners.specs.Digests.{HasHashed}
+use Rattle.lvl_corners.specs.Gathered.{IsLowered}
+use Rattle.lvl_corners.specs.Parts.{only}
 use Rattle.lvl_corners.specs.Spans.{AreCornersIn, is_below}
 use Rattle.lvl_corners.proofs.Spans.{AreHalves, corners_in_all, corners_of_halves, corners_same, no_corners_in}
 use Rattle.lvl_corners.proofs.Parts.{corners_beyond}
-use Rattle.lvl.specs.Hashes.{around, below_at, up_to, CoversIn, HasAll, IsColumnPushed, IsHashedTo, IsLeft, IsPushed}
-use Rattle.lvl.specs.Hashes.{IsPushedOf, IsStep}
+use Rattle.lvl.specs.Hashes.{around, below_at, between, stop_of, up_to, CoversIn, HasAll, IsHashedTo, IsLeft}
+use Rattle.lvl.specs.Hashes.{IsPushed, IsPushedOf, IsStep, IsStripPushed}
 
 pub lt_test : (a b : ℤ) → a <ℤ b → int_lt a b ≡ true
 lt_test a b h = grind (arith, ints)
@@ -59,6 +63,12 @@ left_below end last z lt h =
 pub saturated_from : (z : ℤ) → z ≤ℤ pos (2 ^ 63 - 1) → z ≤ℤ saturate_signed w64 z
 saturated_from (pos n) h = omega (arith, ints, h)
 saturated_from (negsuc n) h = omega (arith, ints, h)
+
+-- what is saturated and yet less than another number is unchanged
+pub saturated_below : (z v : ℤ) → negsuc (2 ^ 63 - 1) ≤ℤ z → v ≤ℤ pos (2 ^ 63 - 1) → saturate_signed w64 z <ℤ v
+    → saturate_signed w64 z ≡ z
+saturated_below (pos n) v low high lt = omega (arith, ints, low, high, lt)
+saturated_below (negsuc n) v low high lt = omega (arith, ints, low, high, lt)
 
 pub saturated_to : (z v : ℤ) → z ≤ℤ v → negsuc (2 ^ 63 - 1) ≤ℤ v → saturate_signed w64 z ≤ℤ v
 saturated_to (pos n) v h low = omega (arith, ints, h, low)
@@ -174,31 +184,55 @@ step_flat s layers w f old new from end all low high listed further flat p =
     ))
     (record { layer = p.layer; corners = p.corners; are = p.are; fits = p.fits; hashes = p.hashes })
 
--- the hash has taken the corners at one abscissa, left of which the next strip begins
-pub step_column : (s : Settled) (w : Window) (old new : LayerHash) (from end : ℤ) → HasAll s w
-    → negsuc (2 ^ 63 - 1) ≤ℤ w.x0 → from ≤ℤ pos (2 ^ 63 - 1) → end ≡ from +ℤ pos 1
-    → IsColumnPushed s (around w from end) from old new → IsStep s from (Some end) old new
-step_column s w old new from end all low high narrow p =
-    step_of s w (CoversIn s (around w from end) old.layer) old new from end (Some end) all low high
-    (omega (arith, ints, narrow)) (ends_at end w.x1) (lt_test from end (omega (arith, ints, narrow)))
-    (λ q. (λ h. h, λ h. h))
-    (subst (λ z. IsPushedOf (CoversIn s (around w from end) old.layer) (record { from = Some from; below = Some z }) old
-    new) (sym narrow) p)
+-- what is lowered from right of x is right of x
+pub lowered_further : (x end stop : ℤ) → x <ℤ end → IsLowered x end stop → x <ℤ stop
+lowered_further x end stop lt lower = elim lower.1 [
+  | inl right ↦ right
+  | inr same ↦ omega (arith, ints, lt, same)
+]
+
+-- an end that isn't right of x isn't lowered
+pub lowered_same : (x stop : ℤ) → IsLowered x x stop → stop ≡ x
+lowered_same x stop lower = elim lower.1 [
+  | inl right ↦ let le = lower.0 in absurd (omega (arith, ints, right, le))
+  | inr same ↦ same
+]
+
+pub stop_is_end : (x end : ℤ) → x <ℤ end → stop_of x end ≡ end
+stop_is_end x end lt = rw (lt_test x end lt) refl
+
+pub stop_is_next : (x end : ℤ) → end ≤ℤ (x +ℤ pos 1) → stop_of x end ≡ x +ℤ pos 1
+stop_is_next x end le =
+    by_lt_z x end
+    (λ lt. stop_is_end x end lt ∙ omega (arith, ints, lt, le))
+    (λ ge. rw (ge_test x end ge) refl)
+
+-- the hash has taken the corners of a strip, at whose end the next one begins
+pub step_strip : (s : Settled) (w : Window) (old new : LayerHash) (from end : ℤ) → HasAll s w
+    → negsuc (2 ^ 63 - 1) ≤ℤ w.x0 → from ≤ℤ pos (2 ^ 63 - 1) → from <ℤ end → IsStripPushed s w from end old new
+    → IsStep s from (Some end) old new
+step_strip s w old new from end all low high further p =
+    let C : Square → Type 0 = CoversIn s (around w from end) old.layer in
+    step_of s w C old new from end (Some end) all low high (omega (arith, ints, further)) (ends_at end w.x1)
+    (lt_test from end further) (λ q. (λ h. h, λ h. h))
+    (subst (λ z. IsPushedOf C (between from z) old new) (stop_is_end from end further) p)
 
 -- the hash has taken the corners on the right side of the last column
 pub step_last : (s : Settled) (w : Window) (old new : LayerHash) (end : ℤ) → HasAll s w
-    → negsuc (2 ^ 63 - 1) ≤ℤ w.x0 → end ≤ℤ pos (2 ^ 63 - 1) → end ≡ w.x1
-    → IsColumnPushed s (around w end end) end old new → IsStep s end None old new
+    → negsuc (2 ^ 63 - 1) ≤ℤ w.x0 → end ≤ℤ pos (2 ^ 63 - 1) → end ≡ w.x1 → IsStripPushed s w end end old new
+    → IsStep s end None old new
 step_last s w old new end all low high last p =
     let C : Square → Type 0 = CoversIn s (around w end end) old.layer in
+    let one : IsPushedOf C (only end) old new =
+    subst (λ z. IsPushedOf C (between end z) old new) (stop_is_next end end (omega (arith, ints))) p in
     step_of s w C old new end end None all low high (omega (arith, ints)) (subst (Ends None end) last (ends_none end))
     refl (λ q. (λ h. h, λ h. h))
     (record {
-      layer = p.layer;
-      corners = p.corners;
-      are = corners_beyond C end p.corners (λ q h. h.0.x_below) p.are;
-      fits = p.fits;
-      hashes = p.hashes;
+      layer = one.layer;
+      corners = one.corners;
+      are = corners_beyond C end one.corners (λ q h. h.0.x_below) one.are;
+      fits = one.fits;
+      hashes = one.hashes;
     })
 
 -- two steps, one after the other
@@ -231,6 +265,35 @@ written {A} n new old same is =
     )) in
     ap (λ (rest : List A). take n (new ++ rest)) gone
     ∙ (ap (take n) (append-nil new) ∙ take_all n new (omega (arith, same, is)))
+
+-- one more of some hashes is changed
+pub each_next : (R : LayerHash → LayerHash → Type 0) (old mid : List LayerHash) (i : ℕ) (d new : LayerHash)
+    → i < length mid → length mid ≡ length old
+    → ((k : ℕ) (h : LayerHash) → k < i → k < length mid → R (get_or old k h) (get_or mid k h))
+    → ((k : ℕ) (h : LayerHash) → i ≤ k → k < length mid → get_or mid k h ≡ get_or old k h) → R (get_or mid i d) new
+    → (k : ℕ) (h : LayerHash) → k < i + 1 → k < length (set mid i new)
+    → R (get_or old k h) (get_or (set mid i new) k h)
+each_next R old mid i d new lt same done rest one k h few inside =
+    let there : k < length mid = omega (arith, inside, length-set mid i new) in
+    by_lt_z (pos k) (pos i)
+    (λ less.
+    let before : k < i = omega (arith, ints, less) in
+    subst (λ m. R (get_or old k h) m) (sym (get_or-set_other mid i k new h (λ e. absurd (omega (arith, before, e)))))
+    (done k h before there))
+    (λ more.
+    let at : k ≡ i = omega (arith, ints, more, few) in
+    let first : get_or mid i d ≡ get_or old k h =
+    get_or_default mid i d h lt ∙ (ap (λ n. get_or mid n h) (sym at) ∙ rest k h (omega (arith, at)) there) in
+    subst (λ m. R (get_or old k h) m) (sym (get_or-set_at mid i k new h at lt))
+    (subst (λ m. R m new) first one))
+
+-- the others are unchanged
+pub rest_next : (old mid : List LayerHash) (i : ℕ) (new : LayerHash)
+    → ((k : ℕ) (h : LayerHash) → i ≤ k → k < length mid → get_or mid k h ≡ get_or old k h) → (k : ℕ) (h : LayerHash)
+    → i + 1 ≤ k → k < length (set mid i new) → get_or (set mid i new) k h ≡ get_or old k h
+rest_next old mid i new rest k h far inside =
+    get_or-set_other mid i k new h (λ e. absurd (omega (arith, far, e)))
+    ∙ rest k h (omega (arith, far)) (omega (arith, inside, length-set mid i new))
 
 pub same_layers : (old new : List LayerHash) → length new ≡ length old
     → ((k : ℕ) (h : LayerHash) → k < length old → (get_or new k h).layer ≡ (get_or old k h).layer)

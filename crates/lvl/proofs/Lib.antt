@@ -14,4 +14,3 @@ pub mod Listing
 pub mod Reasoning
 pub mod Measuring
 pub mod CellLists
-pub mod Clearing

@@ -1,6 +1,6 @@
 -- The hashes of Layers, strip by strip. These definitions serve only the proofs.
-use Rattle.std.specs.Prelude.{◌≡◌, ◌<◌, ◌^◌, ◌-ℤ◌, ◌<ℤ◌, ◌≤ℤ◌, ℤ, pos, true, int_lt, List, [], Option, None, Some}
-use Rattle.std.specs.Prelude.{All, AllPairs, Any, Contains, if◌then◌else◌}
+use Rattle.std.specs.Prelude.{◌≡◌, ◌<◌, ◌^◌, ◌+ℤ◌, ◌-ℤ◌, ◌<ℤ◌, ◌≤ℤ◌, ℤ, pos, Bool, true, int_lt, List, [], Option, None, Some}
+use Rattle.std.specs.Prelude.{All, AllPairs, Any, Contains, IsTrue, if◌then◌else◌}
 use Rattle.std.specs.Int.{saturate_signed, w64}
 use Rattle.lvl_grid.specs.declared.point.Square.{Square}
 use Rattle.lvl_grid.specs.declared.point.Window.{Window}
@@ -19,8 +19,9 @@ use Rattle.lvl_corners.specs.declared.span.Span.{Span}
 use Rattle.lvl_corners.specs.Corners.{FitsCorner}
 use Rattle.lvl_corners.specs.Digests.{HasHashed, HashesOn}
 use Rattle.lvl_corners.specs.Masks.{Covers, IsDigested}
-use Rattle.lvl_corners.specs.Parts.{only, AreCornersAt}
-use Rattle.lvl_corners.specs.Spans.{AreCornersIn, is_below, spanned}
+use Rattle.lvl_corners.specs.Gathered.{AreGathered, AreMoreGathered, HasGathered}
+use Rattle.lvl_corners.specs.Parts.{AreCornersAt}
+use Rattle.lvl_corners.specs.Spans.{AreCornersIn, is_below}
 use Rattle.lvl.specs.declared.strip.Axis.{Axis}
 use Rattle.lvl.specs.declared.strip.Axis.TheVariants.{X, Y}
 
@@ -95,41 +96,55 @@ pub record IsPushedOf (P : Square → Type 0) (span : Span) (old new : LayerHash
   pub fits : All FitsCorner corners
   pub hashes : HashesOn old new corners
 
--- from its first state to its second, the hash has taken the corners of its Layer at an abscissa and in some rows
-pub record IsPartPushed (sheets : List PlainSheet) (x : ℤ) (rows : Span) (old new : LayerHash) : Type 0 where
+-- from its first state to its second, the hash has taken no corners, and nothing is gathered
+pub record IsCleared (old new : LayerHash) : Type 0 where
+  pub layer : new.layer ≡ old.layer
+  pub none : new.right.items ≡ []
+  pub hashes : HashesOn old new []
+
+-- from its first state to its second, the hash has taken the corners of its Layer at an abscissa and in some rows, and
+-- gathered those right of it and left of an end
+pub record IsPartPushed (sheets : List PlainSheet) (x end : ℤ) (rows : Span) (old new : LayerHash) : Type 0 where
   pub layer : new.layer ≡ old.layer
   pub corners : List Corner
   pub are : AreCornersAt (SomeCovers (rings_on old.layer sheets)) x rows corners
   pub fits : All FitsCorner corners
   pub hashes : HashesOn old new corners
+  pub gathered : AreMoreGathered (SomeCovers (rings_on old.layer sheets)) x end rows old new
+
+-- what the top covers on a Layer in the strip of a window from one abscissa up to another, and below an end
+abbrev pub InStrip : Settled → Window → ℤ → ℤ → Option ℤ → Layer → Square → Type 0
+InStrip s w x end o layer = IsUnder o (CoversIn s (around w x end) layer)
 
 -- from its first state to its second, the hash has taken the corners, at an abscissa and at the ordinates below an end,
--- of what the top covers on its Layer in a window below that end
-pub record IsRowsPushed (s : Settled) (w : Window) (x : ℤ) (end : Option ℤ) (old new : LayerHash) : Type 0 where
+-- of what the top covers on its Layer in a strip below that end, and those right of the abscissa are gathered
+pub record IsGathering (s : Settled) (w : Window) (x end : ℤ) (o : Option ℤ) (old new : LayerHash) : Type 0 where
   pub layer : new.layer ≡ old.layer
   pub corners : List Corner
-  pub are : AreCornersAt (IsUnder end (CoversIn s w old.layer)) x (up_to end) corners
+  pub are : AreCornersAt (InStrip s w x end o old.layer) x (up_to o) corners
   pub fits : All FitsCorner corners
   pub hashes : HashesOn old new corners
+  pub gathered : AreGathered (InStrip s w x end o old.layer) x end (up_to o) new
 
--- from its first state to its second, the hash has taken the corners, at an abscissa, of what the top covers on its
--- Layer in a window
-abbrev pub IsColumnPushed : Settled → Window → ℤ → LayerHash → LayerHash → Type 0
-IsColumnPushed s w x old new = IsPushedOf (CoversIn s w old.layer) (only x) old new
+-- from its first state to its second, the hash has taken those of the gathered corners that are in a span
+pub record IsRightPushed (span : Span) (old new : LayerHash) : Type 0 where
+  pub layer : new.layer ≡ old.layer
+  pub taken : (covered : Square → Bool) → HasGathered covered span old
+      → (corners : List Corner) × AreCornersIn (λ s. IsTrue (covered s)) span corners
+      × All FitsCorner corners × HashesOn old new corners
+
+-- the end of a strip, or, if it isn't right of the strip's beginning, the abscissa after that
+abbrev pub stop_of : ℤ → ℤ → ℤ
+stop_of x end = if int_lt x end then end else (x +ℤ pos 1)
 
 -- the abscissas from one up to another, which is excluded
 abbrev pub between : ℤ → ℤ → Span
 between from end = record { from = Some from; below = Some end }
 
--- what the top covers on each of some Layers in a window has no corners at the abscissas from one up to another
-abbrev pub IsClear : Settled → List Layer → Window → ℤ → ℤ → Type 0
-IsClear s layers w from end = All (λ layer. AreCornersIn (CoversIn s w layer) (between from end) []) layers
-
--- what the top covers on each of some Layers in a window below an end has no corners at these abscissas and below it
-abbrev pub IsClearUnder : Settled → List Layer → Window → ℤ → ℤ → Option ℤ → Type 0
-IsClearUnder s layers w from end o =
-    (x : ℤ) → spanned (between from end) x ≡ true
-    → All (λ layer. AreCornersAt (IsUnder o (CoversIn s w layer)) x (up_to o) []) layers
+-- from its first state to its second, the hash has taken the corners, at the abscissas of a strip and at least at the
+-- first of them, of what the top covers on its Layer in the strip
+abbrev pub IsStripPushed : Settled → Window → ℤ → ℤ → LayerHash → LayerHash → Type 0
+IsStripPushed s w x end old new = IsPushedOf (CoversIn s (around w x end) old.layer) (between x (stop_of x end)) old new
 
 -- if the first state has taken the corners up to an abscissa, the second has taken them up to an end, if there is one
 pub record IsStep (s : Settled) (from : ℤ) (end : Option ℤ) (old new : LayerHash) : Type 0 where

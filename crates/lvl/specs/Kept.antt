@@ -57,7 +57,7 @@ pub record IsInRangeAs (k : Kept) (s : Settled) : Type 0 where
   pub is_top : slice_get s.cells s.top ≡ Some top
   pub in_range : AllInRange s.cells top
 
--- the same, for some s
+-- a library passes the check of cells as some s, and what its top places is in range
 abbrev pub IsFitted : Kept → Type 0
 IsFitted k = (s : Settled) × IsInRangeAs k s
 

@@ -33,7 +33,7 @@ IsReasonOf pairs a b Same why = why ≡ None
 IsReasonOf pairs a b (Differ layer square First) why = IsReason a (λ l. l ≡ layer) square why
 IsReasonOf pairs a b (Differ layer square Second) why = IsReason b (λ l. target_of pairs l ≡ layer) square why
 
--- the same of two libraries of rings
+-- the reason for a verdict on two libraries of rings
 pub record IsKeptReason (view : PlainView) (a b : Kept) (v : Verdict) (why : Option Why) : Type 0 where
   pub ours : Settled
   pub theirs : Settled
@@ -41,7 +41,7 @@ pub record IsKeptReason (view : PlainView) (a b : Kept) (v : Verdict) (why : Opt
   pub second : IsCheckedAs b theirs
   pub reason : IsReasonOf view.pairs ours theirs v why
 
--- the same of two files
+-- the reason for a verdict on two files
 pub record IsReasonIn (view : PlainView) (a b : File) (v : Verdict) (why : Option Why) : Type 0 where
   pub ours : List Drawing
   pub our_head : Head

@@ -1,17 +1,15 @@
 //! The hashes of some Layers of a layout, which take what is drawn strip by strip.
-ghost use Rattle.std.specs.Prelude.{◌≡◌, ◌<◌, ◌-◌, ◌^◌, ◌<ℤ◌, ◌≤ℤ◌, ◌+ℤ◌, pos, negsuc, ℕ, [], length};
-ghost use Rattle.std.specs.Prelude.{map, slice_index_or, None};
-ghost use Rattle.std.specs.Prelude.{All, AllPairs, IfOk, IfSome, OnOk};
+ghost use Rattle.std.specs.Prelude.{◌≡◌, ◌<◌, ◌-◌, ◌^◌, ◌<ℤ◌, ◌≤ℤ◌, negsuc, ℕ, [], length, map, None};
+ghost use Rattle.std.specs.Prelude.{slice_index_or, All, AllPairs, IfOk, OnOk};
 ghost use Rattle.lvl_names.specs.Layers.{ComesBefore};
 ghost use Rattle.lvl_corners.specs.Digests.{HasHashed};
 ghost use Rattle.lvl_corners.specs.declared.digest.LayerHash.{LayerHash as HashOfLayer};
 ghost use Rattle.lvl_flat.specs.Flattened.{IsFlattenedWithin};
 ghost use Rattle.lvl.specs.Hashes.{around, below_at, HasAll, IsHashedTo, IsPushed, IsStep};
 
-use crate::clear::clear_end;
 use crate::pace::Pace;
-use crate::parts::push_column;
-use crate::strip::{Axis, Strip, end_before, next_strip, slice_around};
+use crate::parts::push_parts;
+use crate::strip::{Axis, Strip, end_before, end_of, next_strip};
 use lvl_corners::{LayerHash, Span};
 use lvl_flat::{Fitted, Flat};
 use lvl_grid::Window;
@@ -47,10 +45,51 @@ fn push_strip(
     Ok(())
 }
 
-/// Hashes the corners of a strip of width 1 where much is drawn. If the window ends there, these are the
-/// corners at two abscissas, one after the other: on the right side of the last column nothing is drawn.
-/// Returns how many points the rings have on the right side of the strip.
-fn push_narrow(
+/// Where a strip ends, and the pace of the next one.
+#[derive(Clone, Copy)]
+pub(crate) struct Next {
+    pub end: i64,
+    pub pace: Pace,
+}
+
+/// Hashes the corners of a strip where much is drawn. If the window ends there, those on the right side of
+/// the last column are hashed after them: nothing is drawn right of it.
+fn push_full(
+    alloc: Global,
+    hashes: &mut [LayerHash],
+    fitted: &Fitted,
+    layers: &[Layer],
+    window: &Window,
+    from: i64,
+    pace: Pace,
+    most: usize,
+) -> Result<Next, AllocError>
+    requires rising { AllPairs ComesBefore layers.now }
+    requires layers { map (λ h. h.layer) hashes.old ≡ layers.now }
+    requires all { HasAll fitted.now window.now }
+    requires low { negsuc (2 ^ 63 - 1) ≤ℤ window.now.x0 }
+    requires squares { from <ℤ window.now.x1 }
+    requires wide { 0 < pace.width }
+    ensures hashed { IfOk result (λ next. (k : ℕ) (h : HashOfLayer) → k < length hashes.old
+        → IsStep fitted.now from (below_at next.end window.now.x1) (slice_index_or hashes.old k h)
+        (slice_index_or hashes.new k h)) }
+    ensures further { IfOk result (λ next. from <ℤ next.end) }
+    ensures inside { IfOk result (λ next. next.end ≤ℤ window.now.x1) }
+    ensures wide { IfOk result (λ next. 0 < next.pace.width) }
+{
+    let asked = end_of(window.x1, from, pace.width_in_parts());
+    let pushed = push_parts(alloc, hashes, fitted, layers, window, from, asked, most)?;
+    let end = pushed.end;
+    let pace = pace.after_parts(pushed.strip);
+    if end < window.x1 {
+        return Ok(Next { end, pace });
+    }
+    push_parts(alloc, hashes, fitted, layers, window, end, end, most)?;
+    Ok(Next { end, pace })
+}
+
+/// Hashes the corners of a strip that begins at `from` and was flattened, those of each Layer by its hash.
+fn push_flat(
     alloc: Global,
     hashes: &mut [LayerHash],
     fitted: &Fitted,
@@ -58,30 +97,26 @@ fn push_narrow(
     window: &Window,
     from: i64,
     end: i64,
-    most: usize,
-) -> Result<usize, AllocError>
-    requires rising { AllPairs ComesBefore layers.now }
+    flat: &Flat,
+) -> Result<(), AllocError>
     requires layers { map (λ h. h.layer) hashes.old ≡ layers.now }
     requires all { HasAll fitted.now window.now }
     requires low { negsuc (2 ^ 63 - 1) ≤ℤ window.now.x0 }
-    requires narrow { end ≡ from +ℤ pos 1 }
-    requires inside { end ≤ℤ window.now.x1 }
+    requires flat { IsFlattenedWithin fitted.now layers.now (around window.now from end) flat.now }
+    requires further { from <ℤ end }
     ensures { OnOk result ((k : ℕ) (h : HashOfLayer) → k < length hashes.old
         → IsStep fitted.now from (below_at end window.now.x1) (slice_index_or hashes.old k h)
         (slice_index_or hashes.new k h)) }
 {
-    let column = slice_around(window, Axis::X, from, end);
-    let on_right = push_column(alloc, hashes, fitted, layers, &column, from, most)?;
-    if end < window.x1 {
-        return Ok(on_right);
-    }
-    let column = slice_around(window, Axis::X, end, end);
-    push_column(alloc, hashes, fitted, layers, &column, end, most)?;
-    Ok(on_right)
+    let span = Span {
+        from: Some(from),
+        below: end_before(end, window.x1),
+    };
+    push_strip(alloc, hashes, flat, span)?;
+    Ok(())
 }
 
-/// Hashes the corners of a strip that begins at `from`, those of each Layer by its hash. Returns the pace
-/// of the next strip.
+/// Hashes the corners of a strip that begins at `from`, those of each Layer by its hash.
 fn push_next(
     alloc: Global,
     hashes: &mut [LayerHash],
@@ -89,39 +124,36 @@ fn push_next(
     layers: &[Layer],
     window: &Window,
     from: i64,
-    strip: Strip,
+    pace: Pace,
     most: usize,
-) -> Result<Pace, AllocError>
+) -> Result<Next, AllocError>
     requires rising { AllPairs ComesBefore layers.now }
     requires layers { map (λ h. h.layer) hashes.old ≡ layers.now }
     requires all { HasAll fitted.now window.now }
     requires low { negsuc (2 ^ 63 - 1) ≤ℤ window.now.x0 }
-    requires flat { IfSome strip.flat (IsFlattenedWithin fitted.now layers.now (around window.now from strip.end)) }
-    requires narrow { strip.flat ≡ None → strip.end ≡ from +ℤ pos 1 }
-    requires further { from <ℤ strip.end }
-    requires inside { strip.end ≤ℤ window.now.x1 }
-    requires wide { 0 < strip.pace.width }
-    ensures hashed { OnOk result ((k : ℕ) (h : HashOfLayer) → k < length hashes.old
-        → IsStep fitted.now from (below_at strip.end window.now.x1) (slice_index_or hashes.old k h)
+    requires squares { from <ℤ window.now.x1 }
+    requires wide { 0 < pace.width }
+    ensures hashed { IfOk result (λ next. (k : ℕ) (h : HashOfLayer) → k < length hashes.old
+        → IsStep fitted.now from (below_at next.end window.now.x1) (slice_index_or hashes.old k h)
         (slice_index_or hashes.new k h)) }
-    ensures wide { IfOk result (λ pace. 0 < pace.width) }
+    ensures further { IfOk result (λ next. from <ℤ next.end) }
+    ensures inside { IfOk result (λ next. next.end ≤ℤ window.now.x1) }
+    ensures wide { IfOk result (λ next. 0 < next.pace.width) }
 {
-    let Strip { flat, end, pace } = strip;
+    if pace.is_in_parts() {
+        return push_full(alloc, hashes, fitted, layers, window, from, pace, most);
+    }
+    let Strip { flat, end, pace } = next_strip(alloc, fitted, layers, window, Axis::X, from, pace)?;
     let Some(flat) = flat else {
-        let on_right = push_narrow(alloc, hashes, fitted, layers, window, from, end, most)?;
-        return Ok(pace.after_parts(on_right));
+        return push_full(alloc, hashes, fitted, layers, window, from, pace, most);
     };
-    let span = Span {
-        from: Some(from),
-        below: end_before(end, window.x1),
-    };
-    push_strip(alloc, hashes, &flat, span)?;
-    Ok(pace)
+    push_flat(alloc, hashes, fitted, layers, window, from, end, &flat)?;
+    Ok(Next { end, pace })
 }
 
 /// The hashes of what the top covers on some Layers. The Layers must be in their order, without
 /// duplicates. Strips are so wide that the rings have at most `most` points in one, and where they have
-/// more in a strip of width 1, its corners are hashed part by part.
+/// more in a narrow strip, it is hashed part by part.
 pub(crate) fn hash_layers(
     alloc: Global,
     fitted: &Fitted,
@@ -137,20 +169,18 @@ pub(crate) fn hash_layers(
     let mut from = window.x0;
     let mut pace = Pace::new(window.x0, window.x1, most);
     while from < window.x1 {
-        let strip = next_strip(alloc, fitted, layers, &window, Axis::X, from, pace)?;
-        let end = strip.end;
-        pace = push_next(
+        let next = push_next(
             alloc,
             &mut hashes,
             fitted,
             layers,
             &window,
             from,
-            strip,
+            pace,
             most,
         )?;
-        from = clear_end(alloc, fitted, layers, &window, end, pace, most)?;
-        pace = pace.after_clear(end.abs_diff(from));
+        from = next.end;
+        pace = next.pace;
     }
     Ok(hashes)
 }

@@ -42,7 +42,6 @@ pub use steps::agree_in_steps;
 pub use verdict::{CellRefusal, Comparison, Refusal, Tops, Verdict};
 
 mod cells;
-mod clear;
 mod compare;
 mod digest;
 mod digested;

@@ -1,6 +1,6 @@
 //! What a layout draws in a strip: a few columns of squares, and the one left of them, or a few rows, and
 //! the one below them.
-ghost use Rattle.std.specs.Prelude.{◌≡◌, ◌<◌, ◌<ℤ◌, ◌≤ℤ◌, ◌+ℤ◌, pos, None, AllPairs, IfOk, IfSome};
+ghost use Rattle.std.specs.Prelude.{◌≡◌, ◌<◌, ◌<ℤ◌, ◌≤ℤ◌, ◌+ℤ◌, pos, AllPairs, IfOk, IfSome};
 ghost use Rattle.lvl_names.specs.Layers.{ComesBefore};
 ghost use Rattle.lvl_flat.specs.Flattened.{IsFlattenedWithin};
 ghost use Rattle.lvl.specs.Hashes.{below_at, last_of, sliced};
@@ -18,8 +18,8 @@ pub(crate) enum Axis {
     Y,
 }
 
-/// What is drawn in a strip, unless it is of width 1 and has more points than there is room for. Then the
-/// abscissa (or ordinate) at which the strip ends, which is excluded, and the pace of the next one.
+/// What is drawn in a strip, unless it has more points than there is room for and no narrower one is tried.
+/// Then the abscissa (or ordinate) at which the strip ends, which is excluded, and the pace of the next one.
 #[derive(Drop)]
 pub(crate) struct Strip {
     pub flat: Option<Flat>,
@@ -83,7 +83,7 @@ fn end_of_all(window: &Window, axis: Axis) -> i64
 }
 
 /// Where a strip of at most this width ends that begins at `from`, if all strips end at `last`.
-fn end_of(last: i64, from: i64, width: u64) -> i64
+pub(crate) fn end_of(last: i64, from: i64, width: u64) -> i64
     requires wide { 0 < width }
     requires squares { from <ℤ last }
     ensures further { from <ℤ result }
@@ -100,30 +100,9 @@ pub(crate) fn end_before(end: i64, last: i64) -> Option<i64>
     if end < last { Some(end) } else { None }
 }
 
-/// The rings of some Layers in a strip, with as few points as the pace has room for. A list that is
-/// full is joined, so a shorter one is tried first.
-fn rings_in(
-    alloc: Global,
-    fitted: &Fitted,
-    layers: &[Layer],
-    strip: &Window,
-    pace: Pace,
-) -> Result<Flat, AllocError>
-    requires { AllPairs ComesBefore layers.now }
-    ensures { IfOk result (IsFlattenedWithin fitted.now layers.now strip.now) }
-{
-    if let Ok(flat) = fitted.within(alloc, layers, strip, pace.least) {
-        return Ok(flat);
-    }
-    if pace.points <= pace.least {
-        return Err(AllocError);
-    }
-    fitted.within(alloc, layers, strip, pace.points)
-}
-
 /// The rings of some Layers in the strip of a window that begins at `from`. The strip is at most as
 /// wide as the pace allows, and is halved until it doesn't have too many points and fits in memory.
-/// If it is then of width 1 and still doesn't, its rings are None.
+/// If no narrower one is tried, its rings are None.
 pub(crate) fn next_strip(
     alloc: Global,
     fitted: &Fitted,
@@ -138,27 +117,26 @@ pub(crate) fn next_strip(
     requires rising { AllPairs ComesBefore layers.now }
     ensures flat { IfOk result (λ strip.
         IfSome strip.flat (IsFlattenedWithin fitted.now layers.now (sliced axis window.now from strip.end))) }
-    ensures narrow { IfOk result (λ strip. strip.flat ≡ None → strip.end ≡ from +ℤ pos 1) }
     ensures further { IfOk result (λ strip. from <ℤ strip.end) }
     ensures inside { IfOk result (λ strip. strip.end ≤ℤ last_of axis window.now) }
     ensures wide { IfOk result (λ strip. 0 < strip.pace.width) }
 {
     let end = end_of(end_of_all(window, axis), from, pace.width);
     let strip = slice_around(window, axis, from, end);
-    if let Ok(flat) = rings_in(alloc, fitted, layers, &strip, pace) {
-        let pace = pace.after(pace.width, points_of(&flat, &strip, axis));
+    if let Ok(flat) = fitted.within(alloc, layers, &strip, pace.points) {
+        let pace = pace.after(points_of(&flat, &strip, axis));
         return Ok(Strip {
             flat: Some(flat),
             end,
             pace,
         });
     }
-    if pace.width == 1 {
+    let Some(narrower) = pace.halved() else {
         return Ok(Strip {
             flat: None,
             end,
             pace,
         });
-    }
-    next_strip(alloc, fitted, layers, window, axis, from, pace.halved())
+    };
+    next_strip(alloc, fitted, layers, window, axis, from, narrower)
 }

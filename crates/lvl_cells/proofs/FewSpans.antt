@@ -1,17 +1,17 @@
 -- The shapes of a cell as they are stored if they are few: the one at an index, and one more.
-use Rattle.std.proofs.Common.{◌≡◌, ◌≤◌, ◌<◌, ◌-◌, ◌+◌, ℕ, get_or, List, [], ◌∷◌, ◌++◌, take, drop, map, length, All}
-use Rattle.std.proofs.Common.{inl, refl, sym, ap, arith, subst, ◌∙◌}
-use Rattle.std.proofs.lemmas.List.{drop_at, get_or-map, length-append, length-map, map-append, take_all}
+use Rattle.std.proofs.Common.{◌≡◌, ◌<◌, ◌+◌, ℕ, get_or, List, [], ◌∷◌, ◌++◌, map, length, All}
+use Rattle.std.proofs.Common.{refl, sym, ap, arith, subst, ◌∙◌}
+use Rattle.std.proofs.lemmas.List.{get_or-map, length-append, length-map, map-append}
 use Rattle.std.proofs.lemmas.List.Elements.{All-get_or, All-head, All-push, All-tail, All-weaker}
 use Rattle.lvl_grid.specs.declared.point.Point.{Point}
 use Rattle.lvl_grid.specs.Turn.{shifted}
-use Rattle.lvl_grid.specs.Winding.{IsRing}
 use Rattle.lvl_cells.specs.declared.few_shapes.FewSpan.{FewSpan}
 use Rattle.lvl_cells.specs.declared.few_shapes.KeptRing.{KeptRing}
 use Rattle.lvl_cells.specs.Cells.{PlainShape, Rings, shape_at}
-use Rattle.lvl_cells.specs.inside.Few.{few_shape_in, stretch_in, IsFewSpan, IsKeptRing}
-use Rattle.lvl_cells.specs.inside.Spans.{numbered, origin, IsPrefixOf, HasNumber}
-use Rattle.lvl_cells.proofs.Moving.{unmoved_ring}
+use Rattle.lvl_cells.specs.inside.Few.{few_shape_in, IsFewSpan, IsKeptRing}
+use Rattle.lvl_cells.specs.inside.Outlines.{outline, stretch_in}
+use Rattle.lvl_cells.specs.inside.Spans.{numbered, IsMovable, IsPrefixOf, HasNumber}
+use Rattle.lvl_cells.proofs.Outlined.{stretch_appended}
 use Rattle.lvl_cells.proofs.Spanned.{stretch_same, number_same, no_fewer}
 
 -- the shapes of the spans
@@ -52,8 +52,9 @@ span_same : (points points' : List Point) (kept kept' : List (List Point)) (s : 
     → IsPrefixOf points points' → IsPrefixOf kept kept' → IsFewSpan points kept s
     → IsStill points points' kept kept' s
 span_same points points' kept kept' s on more h =
-    let ring : stretch_in points' s.begin s.end ≡ stretch_in points s.begin s.end =
-    stretch_same points points' s.begin s.end on h.order h.inside in
+    let ring : outline (stretch_in points' s.begin s.end) s.along_y
+    ≡ outline (stretch_in points s.begin s.end) s.along_y =
+    ap (λ ps. outline ps s.along_y) (stretch_same points points' s.begin s.end on h.order h.inside) in
     let shifts : numbered kept' s.shifts ≡ numbered kept s.shifts =
     number_same _ kept kept' s.shifts [] more h.shifts in
     record {
@@ -102,11 +103,12 @@ pub record AreMore (points' : List Point) (kept' : List (List Point)) (spans : L
 pub one_more : (points points' : List Point) (kept kept' : List (List Point)) (spans : List FewSpan) (s : FewSpan)
     (k : KeptRing) (ring shifts : List Point) (shapes : List (PlainShape Rings))
     → IsPrefixOf points points' → IsPrefixOf kept kept' → AreFewSpans points kept spans
-    → few_in points kept spans ≡ shapes → s.begin ≡ k.begin → s.end ≡ k.end → s.by ≡ k.by
+    → few_in points kept spans ≡ shapes → s.begin ≡ k.begin → s.end ≡ k.end → s.along_y ≡ k.along_y → s.by ≡ k.by
     → IsKeptRing points' k ring → HasNumber kept' s.shifts shifts
     → AreMore points' kept' spans s ring shifts shapes
-one_more points points' kept kept' spans s k ring shifts shapes on more h e b d by is n =
-    let drawn : map (shifted s.by) (stretch_in points' s.begin s.end) ≡ ring = rw (b, d, by) is.is in
+one_more points points' kept kept' spans s k ring shifts shapes on more h e b d y by is n =
+    let drawn : map (shifted s.by) (outline (stretch_in points' s.begin s.end) s.along_y) ≡ ring =
+    rw (b, d, y, by) is.is in
     let last : few_shape_in points' kept' s ≡ record { layer = s.layer; figure = ring ∷ []; shifts = shifts } =
     rw (drawn, n.is) refl in
     record {
@@ -115,7 +117,7 @@ one_more points points' kept kept' spans s k ring shifts shapes on more h e b d 
           (record {
             order = rw (b, d) is.order;
             inside = rw d is.inside;
-            movable = rw (b, d, by) is.movable;
+            movable = rw (b, d, y, by) is.movable;
             shifts = n.within;
           });
       is =
@@ -125,16 +127,15 @@ one_more points points' kept kept' spans s k ring shifts shapes on more h e b d 
           ∙ ap (λ h. shapes ++ h ∷ []) last);
     }
 
--- points that are appended are a ring that isn't moved
-pub appended : (points ring : List Point) (k : KeptRing) → IsRing ring → k.begin ≡ length points
-    → k.end ≡ length points + length ring → k.by ≡ origin → IsKeptRing (points ++ ring) k ring
-appended points ring k is b e by =
-    let all : length ring ≤ k.end - k.begin = omega (arith, b, e) in
-    let those : stretch_in (points ++ ring) k.begin k.end ≡ ring =
-    ap (take (k.end - k.begin)) (drop_at points ring k.begin (sym b)) ∙ take_all (k.end - k.begin) ring all in
+-- points that are appended are a ring, moved
+pub appended : (points more ring : List Point) (k : KeptRing) → IsMovable k.by (outline more k.along_y)
+    → map (shifted k.by) (outline more k.along_y) ≡ ring → k.begin ≡ length points → k.end ≡ length points + length more
+    → IsKeptRing (points ++ more) k ring
+appended points more ring k is drawn b e =
+    let those : stretch_in (points ++ more) k.begin k.end ≡ more = stretch_appended points more k.begin k.end b e in
     record {
       order = omega (arith, b, e);
-      inside = omega (arith, e, length-append points ring);
-      movable = record { ring = rw those is; fits = inl by };
-      is = rw (those, by) (unmoved_ring ring);
+      inside = omega (arith, e, length-append points more);
+      movable = rw those is;
+      is = rw those drawn;
     }

@@ -107,42 +107,41 @@ pub repeat_by : (cells : List (PlainCell Rings)) (i : ℕ) (c : PlainCell Rings)
 repeat_by cells i c g None h e d f t u = absurd (false≢true t)
 repeat_by cells i c g (Some k) h e d f t u = repeat_at cells i k c h e d ((f c.name k).0 (sym u))
 
-distinct_none : IsDistinct bytes_eq []
+pub distinct_none : IsDistinct bytes_eq []
 unfolding IsDistinct
 distinct_none = tt
 
-pub index_none : (m : BTreeMap (Bor (List ℕ)) ℕ) → IsEmpty m → IsDistinct bytes_eq [] × IsIndexOf [] m
-index_none m h = (
-  distinct_none,
-  λ name k. (
-    λ e. let n : place_in_index m name ≡ None =
-        ap (lookup (is_at (λ (q : Bor (List ℕ)). slice_cmp nat_cmp name q.now))) h in
-        cc,
-    λ e. cc,
-  ),
+pub index_none : (m : BTreeMap (Bor (List ℕ)) ℕ) → IsEmpty m → IsIndexOf [] m
+index_none m h = λ name k. (
+  λ e. let n : place_in_index m name ≡ None =
+      ap (lookup (is_at (λ (q : Bor (List ℕ)). slice_cmp nat_cmp name q.now))) h in
+      cc,
+  λ e. cc,
 )
 
-none_where : {X : Type 0} (o : Option X) → is_some o ≡ false → o ≡ None
-none_where None h = refl
-none_where (Some x) h = absurd (false≢true (sym h))
+pub none_where : {X : Type 0} (o p : Option X) → is_some o ≡ false → o ≡ p → p ≡ None
+none_where None p h e = sym e
+none_where (Some x) p h e = absurd (false≢true (sym h))
 
--- one more name that the index doesn't have yet
+-- with one more name, which the index doesn't have yet, the names are distinct
+pub distinct_step : (cells : List (PlainCell Rings)) (i : ℕ) (c : PlainCell Rings) (m : BTreeMap (Bor (List ℕ)) ℕ)
+    → i < length cells → c ≡ get_or cells i c → IsIndexOf (take i (names cells)) m → place_in_index m c.name ≡ None
+    → IsDistinct bytes_eq (take i (names cells)) → IsDistinct bytes_eq (take (i + 1) (names cells))
+distinct_step cells i c m h e f free d =
+    subst (IsDistinct bytes_eq) (sym (names_more cells i c h e))
+    (distinct_more (place_in_index m) (take i (names cells)) c.name f free d)
+
+-- the index of the names with one more, which it doesn't have yet
 pub index_step : (cells : List (PlainCell Rings)) (i : ℕ) (c : PlainCell Rings) (m n : BTreeMap (Bor (List ℕ)) ℕ)
-    (o : Option ℕ) → i < length cells → c ≡ get_or cells i c
-    → IsDistinct bytes_eq (take i (names cells)) × IsIndexOf (take i (names cells)) m → is_some o ≡ false
-    → o ≡ place_in_index m c.name
+    → i < length cells → c ≡ get_or cells i c → IsIndexOf (take i (names cells)) m → place_in_index m c.name ≡ None
     → ((name : List ℕ) → place_in_index n name ≡ update bytes_eq (place_in_index m) c.name (Some i) name)
-    → IsDistinct bytes_eq (take (i + 1) (names cells)) × IsIndexOf (take (i + 1) (names cells)) n
-index_step cells i c m n o h e inv t u up =
+    → IsIndexOf (take (i + 1) (names cells)) n
+index_step cells i c m n h e f free up =
     let xs : List (List ℕ) = take i (names cells) in
     let name_of : PlainCell Rings → List ℕ = λ x. x.name in
     let long : length xs ≡ i = length-take-le i (names cells) (omega (arith, length-map cells name_of)) in
-    let free : place_in_index m c.name ≡ None = sym u ∙ none_where o t in
-    let more : take (i + 1) (names cells) ≡ xs ++ c.name ∷ [] = names_more cells i c h e in
     let raised : (name : List ℕ)
     → place_in_index n name ≡ update bytes_eq (place_in_index m) c.name (Some (length xs)) name =
-    rw long up in (
-      subst (IsDistinct bytes_eq) (sym more) (distinct_more (place_in_index m) xs c.name inv.1 free inv.0),
-      subst (λ (l : List (List ℕ)). IsIndexOf l n) (sym more)
-          (finds_more (place_in_index m) (place_in_index n) xs c.name inv.1 free raised),
-    )
+    rw long up in
+    subst (λ (l : List (List ℕ)). IsIndexOf l n) (sym (names_more cells i c h e))
+    (finds_more (place_in_index m) (place_in_index n) xs c.name f free raised)

@@ -19,6 +19,7 @@ pub mod Refusing
 pub mod Looking
 pub mod Moving
 pub mod Spanned
+pub mod Outlined
 pub mod FewSpans
 pub mod Placed
 pub mod Listing

@@ -8,10 +8,11 @@ use Rattle.lvl_grid.specs.Turn.{FitsPoint, shifted}
 use Rattle.lvl_cells.specs.declared.placements.Placing.{Placing}
 use Rattle.lvl_cells.specs.Cells.{PlainPlacement, PlainReference, reference_to}
 use Rattle.lvl_cells.specs.inside.Placings.{placement_by, placement_in, IsAt, IsPlacing}
-use Rattle.lvl_cells.specs.inside.Spans.{IsPrefixOf}
+use Rattle.lvl_names.specs.Shifts.{one_place}
+use Rattle.lvl_cells.specs.inside.Spans.{numbered, HasNumber, IsPrefixOf}
 use Rattle.std.proofs.lemmas.Option.{get_or_from_slice_get}
 use Rattle.lvl_cells.proofs.Indexes.{push_last}
-use Rattle.lvl_cells.proofs.Spanned.{no_fewer}
+use Rattle.lvl_cells.proofs.Spanned.{no_fewer, number_same}
 
 -- the placements that are stored so
 abbrev pub placements_in : List (List Point) → List Placing → List PlainPlacement
@@ -44,7 +45,8 @@ record IsStill (kept kept' : List (List Point)) (p : Placing) : Type 0 where
 placing_same : (kept kept' : List (List Point)) (p : Placing) → IsPrefixOf kept kept' → IsPlacing kept p
     → IsStill kept kept' p
 placing_same kept kept' p on h =
-    let shifts : get_or kept' p.shifts [] ≡ get_or kept p.shifts [] = item_same kept kept' p.shifts on h.shifts in
+    let shifts : numbered kept' p.shifts ≡ numbered kept p.shifts =
+    number_same one_place kept kept' p.shifts [] on h.shifts in
     record {
       is = record { shifts = omega (arith, h.shifts, no_fewer kept kept' on); fits = rw shifts h.fits };
       same = rw shifts refl;
@@ -81,7 +83,7 @@ pub record AreMore (kept' : List (List Point)) (placings : List Placing) (p : Pl
 pub one_more : (kept kept' : List (List Point)) (placings : List Placing) (p : Placing) (shifts : List Point)
     (placements : List PlainPlacement)
     → IsPrefixOf kept kept' → ArePlacings kept placings → placements_in kept placings ≡ placements
-    → IsAt kept' p.shifts shifts → All (λ e. FitsPoint (shifted p.at e)) shifts
+    → HasNumber kept' p.shifts shifts → All (λ e. FitsPoint (shifted p.at e)) shifts
     → AreMore kept' placings p shifts placements
 one_more kept kept' placings p shifts placements on h e number fits =
     let last : placement_in kept' p ≡ placement_by p shifts = rw number.is refl in

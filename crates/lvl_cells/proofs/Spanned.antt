@@ -133,7 +133,7 @@ ring_from rings moves kept spans shapes i j s h e l is m =
     ring_read shapes rings moves kept i j s (span_read rings moves kept spans shapes i s h e l is) m
 
 -- a list that begins with the old one is the old one and more
-grown : {X : Type 0} (old new : List X) → IsPrefixOf old new → new ≡ old ++ drop (length old) new
+pub grown : {X : Type 0} (old new : List X) → IsPrefixOf old new → new ≡ old ++ drop (length old) new
 grown old new g = sym (take-append-drop (length old) new) ∙ ap (λ xs. xs ++ drop (length old) new) g
 
 pub stretch_same : {X : Type 0} (old new : List X) (begin end : ℕ) → IsPrefixOf old new → begin ≤ end → end ≤ length old
@@ -295,10 +295,6 @@ goes_on_same xs = take_all (length xs) xs (omega arith)
 
 pub goes_on_more : {X : Type 0} (xs more : List X) → IsPrefixOf xs (xs ++ more)
 goes_on_more xs more = take-append-le (length xs) xs more (omega arith) ∙ take_all (length xs) xs (omega arith)
-
--- more is appended to a list that goes on
-pub goes_on_further : {X : Type 0} (old new more : List X) → IsPrefixOf old new → IsPrefixOf old (new ++ more)
-goes_on_further old new more h = take-append-le (length old) new more (no_fewer old new h) ∙ h
 
 -- the item that is appended has the number of all items
 last_numbered : {X : Type 0} (first : X) (old : List X) (x d : X) (n : ℕ) → n ≡ length (old ++ x ∷ [])

@@ -11,4 +11,5 @@ pub mod Topping
 pub mod Placings
 pub mod Beside
 pub mod Few
+pub mod Outlines
 pub mod Boxed

@@ -1,16 +1,19 @@
 //! How the shapes of a cell are stored if they are few, and each has one ring.
 ghost use Rattle.std.specs.Prelude.{◌≡◌, ◌<◌, ◌≤◌, ◌-◌, ◌+◌, ◌++◌, ◌∷◌, [], length, take, drop, IfOk, IfSome};
-ghost use Rattle.std.specs.Prelude.{OnOk, OnErr, IfNone};
+ghost use Rattle.std.specs.Prelude.{All, OnOk, OnErr, IfNone};
+ghost use Rattle.lvl_grid.specs.Turn.{FitsPoint};
 ghost use Rattle.lvl_grid.specs.Winding.{IsRing};
 ghost use Rattle.lvl_names.specs.Shifts.{one_place};
 ghost use Rattle.lvl_cells.specs.Cells.{shape_at};
-ghost use Rattle.lvl_cells.specs.inside.Few.{stretch_in, IsKeptRing, lists_beside};
-ghost use Rattle.lvl_cells.specs.inside.Spans.{IsPrefixOf, HasNumber};
+ghost use Rattle.lvl_cells.specs.inside.Few.{IsKeptRing};
+ghost use Rattle.lvl_cells.specs.inside.Outlines.{outline, rectangle_at, stretch_in};
+ghost use Rattle.lvl_cells.specs.inside.Spans.{IsPrefixOf};
 
+use crate::form::{Form, Rectangle};
 use crate::lists::push_item;
 use crate::moved::{MovedRing, ORIGIN};
+use crate::outline::Outline;
 use crate::shape_lists::{ShapeLists, number_of};
-use crate::shared::displacement;
 use lvl_grid::Point;
 use lvl_names::{Layer, Offsets};
 use std::alloc::{AllocError, Global};
@@ -23,22 +26,25 @@ const MOST_SHAPES: usize = 64;
 const MOST_POINTS: usize = 4_096;
 
 /// A shape of one ring: its Layer, the indexes of its points (from `begin` up to `end`, which is
-/// excluded), their displacement, and the number of its list of shifts, which is 0 for the zero shift
-/// alone, or else one more than an index.
+/// excluded), whether the first edge of a rectangle is along y, the displacement of the ring, and the number
+/// of its list of shifts, which is 0 for the zero shift alone, or else one more than an index.
 #[derive(Clone, Copy)]
 pub(crate) struct FewSpan {
     pub layer: Layer,
     pub by: Point,
     pub begin: u16,
     pub end: u16,
-    pub shifts: u32,
+    pub shifts: u16,
+    pub along_y: bool,
 }
 
-/// A ring: the kept points with an index from `begin` up to `end`, which is excluded, moved by `by`.
+/// A ring: the outline of the kept points with an index from `begin` up to `end`, which is excluded, moved
+/// by `by`.
 #[derive(Clone, Copy)]
 pub(crate) struct KeptRing {
     pub begin: u16,
     pub end: u16,
+    pub along_y: bool,
     pub by: Point,
 }
 
@@ -48,20 +54,19 @@ pub(crate) struct KeptRing {
 pub(crate) struct FewShapes {
     points: Vec<Point>,
     spans: Vec<FewSpan>,
-    /// None if no shape is repeated.
-    shifts: Option<Box<Vec<Offsets>>>,
+    shifts: Vec<Offsets>,
 }
 
 impl Model for FewShapes {
     ghost use Rattle.std.specs.Prelude.{List, map, All};
     ghost use Rattle.lvl_cells.specs.Cells.{PlainShape, Rings as Figure};
-    ghost use Rattle.lvl_cells.specs.inside.Few.{few_shape_in, IsFewSpan, lists_beside};
+    ghost use Rattle.lvl_cells.specs.inside.Few.{few_shape_in, IsFewSpan};
 
     ghost Value = { List (PlainShape Figure) };
 
-    ghost view = { λ s. map (few_shape_in s.points.items (lists_beside s.shifts)) s.spans.items };
+    ghost view = { λ s. map (few_shape_in s.points.items s.shifts.items) s.spans.items };
 
-    ghost invariant = { λ s. All (IsFewSpan s.points.items (lists_beside s.shifts)) s.spans.items };
+    ghost invariant = { λ s. All (IsFewSpan s.points.items s.shifts.items) s.spans.items };
 }
 
 /// Whether this number of points is at most [`MOST_POINTS`].
@@ -88,9 +93,9 @@ fn push_quarter<T: Drop>(list: &mut Vec<T>, item: T) -> Result<(), AllocError>
     push_item(list, item)
 }
 
-/// An index of a point. 2^16 or more is reported as out of memory (own rule), and isn't reached by less
-/// than [`MOST_POINTS`].
-fn point_index(index: usize) -> Result<u16, AllocError>
+/// An index of a point, or the number of a list. 2^16 or more is reported as out of memory (own rule), and
+/// isn't reached by less than [`MOST_POINTS`] and [`MOST_SHAPES`].
+fn kept_index(index: usize) -> Result<u16, AllocError>
     ensures { IfOk result (λ kept. kept ≡ index) }
 {
     u16::try_from(index).map_err(|_| AllocError)
@@ -101,7 +106,7 @@ fn point_end(begin: u16, more: usize) -> Result<u16, AllocError>
     ensures { IfOk result (λ end. end ≡ begin + more) }
 {
     match (begin as usize).checked_add(more) {
-        Some(end) => point_index(end),
+        Some(end) => kept_index(end),
         None => Err(AllocError),
     }
 }
@@ -116,56 +121,69 @@ fn stretch(points: &[Point], begin: u16, end: u16) -> &[Point]
 }
 
 /// The ring, if it is the one of the last shape, moved.
-fn ring_again(points: &[Point], last: &FewSpan, ring: &[Point]) -> Option<KeptRing>
+fn ring_again(points: &[Point], last: &FewSpan, form: &Form<'_>) -> Option<KeptRing>
     requires rising { last.now.begin ≤ last.now.end }
     requires inside { last.now.end ≤ length points.now }
-    requires ring { IsRing (stretch_in points.now last.now.begin last.now.end) }
-    ensures { IfSome result (λ kept. IsKeptRing points.now kept ring.now) }
+    requires ring { IsRing (outline (stretch_in points.now last.now.begin last.now.end) last.now.along_y) }
+    ensures { IfSome result (λ kept. IsKeptRing points.now kept form.now.ring.now) }
 {
-    let by = displacement(stretch(points, last.begin, last.end), ring)?;
+    let outline = Outline {
+        points: stretch(points, last.begin, last.end),
+        along_y: last.along_y,
+    };
     Some(KeptRing {
         begin: last.begin,
         end: last.end,
-        by,
+        along_y: last.along_y,
+        by: outline.displacement(form)?,
     })
 }
 
-/// Keeps a ring.
+/// Keeps a ring by its points.
 fn keep_points(points: &mut Vec<Point>, ring: &[Point]) -> Result<KeptRing, AllocError>
     requires { IsRing ring.now }
     ensures kept { IfOk result (λ kept. IsKeptRing points.new.items kept ring.now) }
     ensures before { IsPrefixOf points.old.items points.new.items }
 {
-    let begin = point_index(points.len())?;
+    let begin = kept_index(points.len())?;
     let end = point_end(begin, ring.len())?;
     reserve_quarter(points, ring.len())?;
     points.extend_from_slice(ring)?;
     Ok(KeptRing {
         begin,
         end,
+        along_y: false,
         by: ORIGIN,
     })
 }
 
-/// The number of a list of shifts, as [`number_of`] finds it. Without a repeated shape there is no list.
-fn number_beside(
-    alloc: Global,
-    kept: &mut Option<Box<Vec<Offsets>>>,
-    shifts: &Offsets,
-) -> Result<u32, AllocError>
-    ensures number { IfOk result (λ number. HasNumber (lists_beside kept.new) number shifts.now) }
-    ensures before { IsPrefixOf (lists_beside kept.old) (lists_beside kept.new) }
+/// Keeps a rectangle.
+fn keep_rectangle(points: &mut Vec<Point>, kept: &Rectangle) -> Result<KeptRing, AllocError>
+    requires { All FitsPoint (rectangle_at kept.now) }
+    ensures kept { IfOk result (λ k. IsKeptRing points.new.items k (rectangle_at kept.now)) }
+    ensures before { IsPrefixOf points.old.items points.new.items }
 {
-    if shifts.is_single() {
-        return Ok(0);
+    let begin = kept_index(points.len())?;
+    let end = point_end(begin, 1)?;
+    push_quarter(points, kept.diagonal)?;
+    Ok(KeptRing {
+        begin,
+        end,
+        along_y: kept.along_y,
+        by: kept.from,
+    })
+}
+
+/// Keeps a ring.
+fn keep_form(points: &mut Vec<Point>, form: &Form<'_>) -> Result<KeptRing, AllocError>
+    requires { IsRing form.now.ring.now }
+    ensures kept { IfOk result (λ kept. IsKeptRing points.new.items kept form.now.ring.now) }
+    ensures before { IsPrefixOf points.old.items points.new.items }
+{
+    match &form.rectangle {
+        Some(rectangle) => keep_rectangle(points, rectangle),
+        None => keep_points(points, form.ring),
     }
-    if let Some(lists) = kept {
-        return number_of(lists, shifts);
-    }
-    let mut lists = Vec::new(alloc);
-    let number = number_of(&mut lists, shifts)?;
-    *kept = Some(Box::new(alloc, lists)?);
-    Ok(number)
 }
 
 /// The ring of the next shape. Keeps its points, unless they are those of the last shape, moved.
@@ -175,17 +193,18 @@ fn ring_of(
     ring: &[Point],
 ) -> Result<KeptRing, AllocError>
     requires last { IfSome last (λ s. (s.now.begin ≤ s.now.end) × (s.now.end ≤ length points.old.items)
-        × IsRing (stretch_in points.old.items s.now.begin s.now.end)) }
+        × IsRing (outline (stretch_in points.old.items s.now.begin s.now.end) s.now.along_y)) }
     requires ring { IsRing ring.now }
     ensures kept { IfOk result (λ kept. IsKeptRing points.new.items kept ring.now) }
     ensures before { IsPrefixOf points.old.items points.new.items }
 {
+    let form = Form::of(ring);
     if let Some(last) = last {
-        if let Some(kept) = ring_again(points, last, ring) {
+        if let Some(kept) = ring_again(points, last, &form) {
             return Ok(kept);
         }
     }
-    keep_points(points, ring)
+    keep_form(points, &form)
 }
 
 impl FewShapes {
@@ -196,7 +215,7 @@ impl FewShapes {
         FewShapes {
             points: Vec::new(alloc),
             spans: Vec::new(alloc),
-            shifts: None,
+            shifts: Vec::new(alloc),
         }
     }
 
@@ -236,8 +255,11 @@ impl FewShapes {
         ensures ring { IsRing result }
     {
         let span = &self.spans[i];
-        let points = stretch(&self.points, span.begin, span.end);
-        MovedRing::new(points, span.by)
+        let outline = Outline {
+            points: stretch(&self.points, span.begin, span.end),
+            along_y: span.along_y,
+        };
+        MovedRing::new(outline, span.by)
     }
 
     /// The shifts of the shape at this index, or None for the zero shift alone.
@@ -246,20 +268,15 @@ impl FewShapes {
         ensures some { IfSome result (λ shifts. shifts.now ≡ (shape_at self.now i).shifts) }
         ensures none { IfNone result ((shape_at self.now i).shifts ≡ one_place) }
     {
-        let number = self.spans[i].shifts;
-        if number == 0 {
-            return None;
-        }
-        match &self.shifts {
-            Some(lists) => Some(&lists[number as usize - 1]),
-            None => unreachable!(),
+        match self.spans[i].shifts {
+            0 => None,
+            number => Some(&self.shifts[number as usize - 1]),
         }
     }
 
     /// Adds a shape. If there is no memory for it, nothing changes.
     pub(crate) fn push_ring(
         &mut self,
-        alloc: Global,
         layer: Layer,
         ring: &[Point],
         shifts: &Offsets,
@@ -270,13 +287,14 @@ impl FewShapes {
         ensures kept { OnErr result (self.new ≡ self.old) }
     {
         let kept = ring_of(&mut self.points, self.spans.last(), ring)?;
-        let number = number_beside(alloc, &mut self.shifts, shifts)?;
+        let number = number_of(&mut self.shifts, shifts)?;
         let span = FewSpan {
             layer,
             by: kept.by,
             begin: kept.begin,
             end: kept.end,
-            shifts: number,
+            shifts: kept_index(number as usize)?,
+            along_y: kept.along_y,
         };
         push_quarter(&mut self.spans, span)?;
         Ok(())

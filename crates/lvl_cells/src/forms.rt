@@ -2,6 +2,7 @@
 //! points, moved.
 ghost use Rattle.std.specs.Prelude.{◌<◌, IfSome};
 
+use crate::form::Form;
 use lvl_grid::Point;
 use std::alloc::{AllocError, Global};
 
@@ -35,23 +36,39 @@ fn mixed(hash: u64, number: i64) -> u64 {
     folded(hash ^ number.cast_unsigned(), MULTIPLIER)
 }
 
-/// The slots of a ring in a table of this size, or None if there is no table. They depend only on the
-/// differences between successive points, so they are the same for the ring moved.
-fn slots_of(ring: &[Point], slots: usize) -> Option<(usize, usize)>
-    ensures { IfSome result (λ found. (found.0 < slots) × (found.1 < slots)) }
-{
-    if slots == 0 {
-        return None;
-    }
+/// The hash of the differences between successive points, which are the same for the ring moved.
+fn hash_of(ring: &[Point]) -> u64 {
     let mut hash = 0;
-    let mut last = *ring.first()?;
+    let mut last = match ring.first() {
+        Some(point) => *point,
+        None => return hash,
+    };
     for point in ring {
         hash = mixed(hash, point.x.saturating_sub(last.x));
         hash = mixed(hash, point.y.saturating_sub(last.y));
         last = *point;
     }
+    hash
+}
+
+/// The hash of a form, which is the same for the ring moved.
+pub(crate) fn hash_of_form(form: &Form<'_>) -> u64 {
+    match &form.rectangle {
+        Some(it) => mixed(mixed(it.along_y as u64, it.diagonal.x), it.diagonal.y),
+        None => hash_of(form.ring),
+    }
+}
+
+/// The slots of a form with this hash in a table of this size, or None if there is no table.
+fn slots_of(hash: u64, slots: usize) -> Option<(usize, usize)>
+    ensures { IfSome result (λ found. (found.0 < slots) × (found.1 < slots)) }
+{
+    if slots == 0 {
+        return None;
+    }
     let slot = hash as usize % slots;
-    Some((slot, (slot + 1) % slots))
+    let after = slot + 1;
+    Some((slot, if after < slots { after } else { 0 }))
 }
 
 impl Forms {
@@ -62,18 +79,19 @@ impl Forms {
         }
     }
 
-    /// For each of two kept rings that may have the form of this one, one more than its index, or 0.
-    pub(crate) fn candidates(&self, ring: &[Point]) -> (u32, u32) {
-        match slots_of(ring, self.slots.len()) {
+    /// For each of two kept rings that may have the form with this hash, one more than its index, or 0.
+    pub(crate) fn candidates(&self, hash: u64) -> (u32, u32) {
+        match slots_of(hash, self.slots.len()) {
             Some((slot, next)) => (self.slots[slot], self.slots[next]),
             None => (0, 0),
         }
     }
 
-    /// Notes a ring that was kept. `kept` is the number of kept rings, of which it is the last.
-    pub(crate) fn keep(&mut self, ring: &[Point], kept: u32) -> Result<(), AllocError> {
+    /// Notes a ring that was kept, by the hash of its form. `kept` is the number of kept rings, of which it is
+    /// the last.
+    pub(crate) fn keep(&mut self, hash: u64, kept: u32) -> Result<(), AllocError> {
         self.grow(kept as usize)?;
-        if let Some((slot, next)) = slots_of(ring, self.slots.len()) {
+        if let Some((slot, next)) = slots_of(hash, self.slots.len()) {
             let free = if self.slots[slot] == 0 { slot } else { next };
             self.slots[free] = kept;
         }

@@ -7,8 +7,10 @@ ghost use Rattle.lvl_grid.specs.Placed.{placed_point, IsPlaceOfCovered};
 ghost use Rattle.lvl_grid.specs.Turn.{FitsPoint, shifted};
 ghost use Rattle.lvl_grid.specs.Winding.{Covers};
 ghost use Rattle.lvl_names.specs.Shifts.{IsBetween};
+ghost use Rattle.lvl_cells.specs.inside.Outlines.{ring_of};
 ghost use Rattle.lvl_cells.specs.inside.Spans.{IsMovable};
 
+use crate::outline::Outline;
 use lvl_grid::{Map, PlaceFault, Point, Rings};
 use std::alloc::{AllocError, Global};
 use std::marker::Model;
@@ -16,11 +18,11 @@ use std::marker::Model;
 /// No displacement.
 pub(crate) const ORIGIN: Point = Point { x: 0, y: 0 };
 
-/// A ring as a shape has it: borrowed points, each moved by the same displacement. Shapes that draw
-/// the same points at different places share them.
+/// A ring as a shape has it: a kept one, each of its points moved by the same displacement. Shapes that draw
+/// the same ring at different places share it.
 #[derive(Debug, Drop)]
 pub struct MovedRing<'a> {
-    points: &'a [Point],
+    outline: Outline<'a>,
     by: Point,
 }
 
@@ -28,13 +30,14 @@ impl<'a> Model for MovedRing<'a> {
     ghost use Rattle.std.specs.Prelude.{List, map};
     ghost use Rattle.lvl_grid.specs.declared.point.Point.{Point};
     ghost use Rattle.lvl_grid.specs.Turn.{shifted};
+    ghost use Rattle.lvl_cells.specs.inside.Outlines.{ring_of};
     ghost use Rattle.lvl_cells.specs.inside.Spans.{IsMovable};
 
     ghost Value = { List Point };
 
-    ghost view = { λ r. map (shifted r.by) r.points.now };
+    ghost view = { λ r. map (shifted r.by) (ring_of r.outline) };
 
-    ghost invariant = { λ r. IsMovable r.by r.points.now };
+    ghost invariant = { λ r. IsMovable r.by (ring_of r.outline) };
 }
 
 /// The point moved by another, or None if that is outside 64 bits.
@@ -48,7 +51,7 @@ pub(crate) fn moved(point: Point, by: Point) -> Option<Point>
 
 /// A point with the lesser abscissa and the lesser ordinate of two points, and one with the greater
 /// ones.
-fn corners(low: Point, high: Point, point: Point) -> (Point, Point)
+pub(crate) fn corners(low: Point, high: Point, point: Point) -> (Point, Point)
     ensures wider { (p : GridPoint) → IsBetween low high p → IsBetween result.0 result.1 p }
     ensures there { IsBetween result.0 result.1 point }
 {
@@ -64,7 +67,7 @@ fn corners(low: Point, high: Point, point: Point) -> (Point, Point)
 }
 
 /// The least and the greatest coordinates of some points, or None if there are none.
-fn reach_of(points: &[Point]) -> Option<(Point, Point)>
+pub(crate) fn reach_of(points: &[Point]) -> Option<(Point, Point)>
     ensures { IfSome result (λ reach. All (IsBetween reach.0 reach.1) points.now) }
 {
     let first = *points.first()?;
@@ -79,38 +82,40 @@ fn reach_of(points: &[Point]) -> Option<(Point, Point)>
 }
 
 impl<'a> MovedRing<'a> {
-    /// The ring of these points, moved.
-    pub(crate) fn new(points: &'a [Point], by: Point) -> MovedRing<'a>
-        requires { IsMovable by points.now }
-        ensures { result ≡ map (shifted by) points.now }
+    /// A kept ring, moved.
+    pub(crate) fn new(outline: Outline<'a>, by: Point) -> MovedRing<'a>
+        requires { IsMovable by (ring_of outline) }
+        ensures { result ≡ map (shifted by) (ring_of outline.entry) }
     {
-        MovedRing { points, by }
+        MovedRing { outline, by }
     }
 
     /// The number of points.
     pub fn len(&self) -> usize
         ensures { result ≡ length self.now }
     {
-        self.points.len()
+        self.outline.kept().as_slice().len()
     }
 
     /// The point at this index, moved, or None if there is none.
     pub fn get(&self, k: usize) -> Option<Point>
         ensures { result ≡ slice_get self.now k }
     {
-        let point = self.points.get(k)?;
+        let kept = self.outline.kept();
+        let point = kept.as_slice().get(k)?;
         if self.by == ORIGIN {
             return Some(*point);
         }
         moved(*point, self.by)
     }
 
-    /// The least and the greatest coordinates of its points. They are found before they are moved, so
-    /// this takes less than to look at each point. None isn't returned for a ring, and says nothing.
+    /// The least and the greatest coordinates of its points, or None if it has no points or one of them would
+    /// be outside 64 bits, which isn't so for a ring. They are found before they are moved, so this takes less
+    /// than to look at each point.
     pub fn reach(&self) -> Option<(Point, Point)>
         ensures { IfSome result (λ reach. All (IsBetween reach.0 reach.1) self.now) }
     {
-        let (low, high) = reach_of(self.points)?;
+        let (low, high) = self.outline.reach()?;
         Some((moved(low, self.by)?, moved(high, self.by)?))
     }
 
@@ -147,7 +152,7 @@ impl<'a> MovedRing<'a> {
             → Any (λ v. ¬ FitsPoint (placed_point by.now shift v)) self.now }
     {
         if let Some(both) = moved(shift, self.by) {
-            return rings.push_placed(self.points, both, by);
+            return rings.push_placed(self.outline.kept().as_slice(), both, by);
         }
         let Ok(points) = self.to_points(alloc) else {
             return Err(PlaceFault::OutOfMemory);

@@ -1,18 +1,19 @@
 //! Placements: how and where things are placed that have an index in a list.
-ghost use Rattle.std.specs.Prelude.{◌≡◌, ◌<◌, ◌++◌, ◌∷◌, [], length, slice_get, All, IfOk, OnOk, OnErr, Some, IfSome};
+ghost use Rattle.std.specs.Prelude.{◌≡◌, ◌<◌, ◌++◌, ◌∷◌, [], length, slice_get, All, OnOk, OnErr, Some, IfSome};
 ghost use Rattle.lvl_grid.specs.Turn.{shifted, FitsPoint};
-ghost use Rattle.lvl_cells.specs.inside.Spans.{IsPrefixOf};
-ghost use Rattle.lvl_cells.specs.inside.Placings.{IsAt, IsPlacing, placement_by};
+ghost use Rattle.lvl_cells.specs.inside.Beside.{borrowed_shifts};
+ghost use Rattle.lvl_cells.specs.inside.Placings.{placement_by};
 
-use crate::lists::{push_item, push_lean};
-use crate::shape_lists::kept_count;
+use crate::lists::push_lean;
+use crate::shape_lists::{kept_count, number_of_owned};
 use lvl_grid::{Map, Point, Turn};
 use lvl_names::Offsets;
 use std::alloc::{AllocError, Global};
 use std::marker::Model;
 
-/// A placement as it is stored: the index of what is placed, how it is placed, and the index of its
-/// shifts in the list of [`Placements`].
+/// A placement as it is stored: the index of what is placed, how it is placed, and the number of its
+/// list of shifts, which is 0 for the zero shift alone, and any other one more than an index of
+/// [`Placements`].
 #[derive(Clone, Copy)]
 pub(crate) struct Placing {
     pub at: Point,
@@ -45,48 +46,6 @@ impl Model for Placements {
     ghost invariant = { λ p. All (IsPlacing p.shifts.items) p.placings.items };
 }
 
-/// Keeps the zero shift alone as the first list, if no list is kept yet.
-fn keep_single(kept: &mut Vec<Offsets>) -> Result<(), AllocError>
-    ensures some { OnOk result (0 < length kept.new.items) }
-    ensures before { IsPrefixOf kept.old.items kept.new.items }
-{
-    if !kept.is_empty() {
-        return Ok(());
-    }
-    push_lean(kept, Offsets::single())
-}
-
-/// The index of a list of shifts that is kept: the first, if both are the zero shift alone, or the
-/// last, if both are the same lattice.
-fn kept_index(kept: &[Offsets], shifts: &Offsets) -> Option<usize>
-    requires { 0 < length kept.now }
-    ensures { IfSome result (λ i. IsAt kept.now i shifts.now) }
-{
-    if shifts.is_single() && kept[0].is_single() {
-        return Some(0);
-    }
-    let last = kept.len() - 1;
-    if kept[last].is_same_lattice(shifts) {
-        return Some(last);
-    }
-    None
-}
-
-/// The index of a list of shifts. Keeps the list, unless it is the same lattice as the last that
-/// was kept, or the zero shift alone, which is kept first.
-fn index_of_shifts(kept: &mut Vec<Offsets>, shifts: Offsets) -> Result<u32, AllocError>
-    ensures index { IfOk result (λ i. IsAt kept.new.items i shifts) }
-    ensures before { IsPrefixOf kept.old.items kept.new.items }
-{
-    keep_single(kept)?;
-    if let Some(index) = kept_index(kept, &shifts) {
-        return kept_count(index);
-    }
-    let index = kept_count(kept.len())?;
-    push_item(kept, shifts)?;
-    Ok(index)
-}
-
 impl Placements {
     /// An empty list. Allocates nothing.
     pub fn new(alloc: Global) -> Placements
@@ -113,14 +72,18 @@ impl Placements {
         self.placings[j].key as usize
     }
 
-    /// The placement at this index, and its shifts. Each of its places is within 64 signed bits.
-    pub(crate) fn placing(&self, j: usize) -> (Placing, &Offsets)
+    /// The placement at this index, and its shifts, or None for the zero shift alone. Each of its
+    /// places is within 64 signed bits.
+    pub(crate) fn placing(&self, j: usize) -> (Placing, Option<&Offsets>)
         requires { j < length self.now }
-        ensures value { slice_get self.now j ≡ Some (placement_by result.0 result.1.now) }
-        ensures fits { All (λ e. FitsPoint (shifted result.0.at e)) result.1.now }
+        ensures value { slice_get self.now j ≡ Some (placement_by result.0 (borrowed_shifts result.1)) }
+        ensures fits { All (λ e. FitsPoint (shifted result.0.at e)) (borrowed_shifts result.1) }
     {
         let placing = self.placings[j];
-        (placing, &self.shifts[placing.shifts as usize])
+        match placing.shifts {
+            0 => (placing, None),
+            number => (placing, Some(&self.shifts[number as usize - 1])),
+        }
     }
 
     /// Adds a placement by a map, whose shift is the first place, at each of the shifts. If there
@@ -132,7 +95,7 @@ impl Placements {
         ensures kept { OnErr result (self.new ≡ self.old) }
     {
         let key = kept_count(key)?;
-        let number = index_of_shifts(&mut self.shifts, shifts)?;
+        let number = number_of_owned(&mut self.shifts, shifts)?;
         let placing = Placing {
             at: by.at,
             key,

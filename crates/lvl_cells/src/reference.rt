@@ -1,6 +1,7 @@
 //! A reference to another cell.
-ghost use Rattle.std.specs.Prelude.{◌≡◌, ◌↔◌, All, IsSome, IfSome, IfOk};
+ghost use Rattle.std.specs.Prelude.{◌≡◌, ◌↔◌, length, slice_get, All, IsSome, IfSome, IfNone, IfOk};
 ghost use Rattle.lvl_grid.specs.Turn.{shifted, FitsPoint};
+ghost use Rattle.lvl_names.specs.Shifts.{one_place};
 
 use lvl_grid::{Map, Point, Turn};
 use lvl_names::{Name, Offsets};
@@ -98,7 +99,7 @@ impl Reference {
                 turn: self.turn,
                 at: self.at,
             },
-            shifts: &self.shifts,
+            shifts: Some(&self.shifts),
         }
     }
 }
@@ -108,13 +109,15 @@ impl Reference {
 pub struct KeptReference<'a> {
     pub(crate) cell: &'a Name,
     pub(crate) by: Map,
-    pub(crate) shifts: &'a Offsets,
+    /// None for the zero shift alone.
+    pub(crate) shifts: Option<&'a Offsets>,
 }
 
 impl<'a> Model for KeptReference<'a> {
     ghost use Rattle.std.specs.Prelude.{All};
     ghost use Rattle.lvl_grid.specs.Turn.{FitsPoint, shifted};
     ghost use Rattle.lvl_cells.specs.Cells.{PlainReference};
+    ghost use Rattle.lvl_cells.specs.inside.Beside.{borrowed_shifts};
 
     ghost Value = { PlainReference };
 
@@ -123,10 +126,10 @@ impl<'a> Model for KeptReference<'a> {
       flip = r.by.flip;
       turn = r.by.turn;
       at = r.by.at;
-      shifts = r.shifts.now;
+      shifts = borrowed_shifts r.shifts;
     } };
 
-    ghost invariant = { λ r. All (λ e. FitsPoint (shifted r.by.at e)) r.shifts.now };
+    ghost invariant = { λ r. All (λ e. FitsPoint (shifted r.by.at e)) (borrowed_shifts r.shifts) };
 }
 
 impl<'a> KeptReference<'a> {
@@ -158,13 +161,44 @@ impl<'a> KeptReference<'a> {
         self.by.at
     }
 
-    /// The displacement of each of its places from the first one. `at` moved by any of them is
-    /// within 64 signed bits.
-    pub fn shifts(&self) -> &Offsets
-        ensures all { result.now ≡ self.now.shifts }
+    /// The displacement of each of its places from the first one, or None for the zero shift alone.
+    pub fn shifts(&self) -> Option<&Offsets>
+        ensures some { IfSome result (λ shifts. shifts.now ≡ self.now.shifts) }
+        ensures none { IfNone result (self.now.shifts ≡ one_place) }
         ensures in_range { All (λ e. FitsPoint (shifted self.now.at e)) self.now.shifts }
     {
         self.shifts
+    }
+
+    /// The number of shifts.
+    pub fn shift_count(&self) -> u64
+        ensures { result ≡ length self.now.shifts }
+    {
+        match self.shifts {
+            Some(shifts) => shifts.len(),
+            None => 1,
+        }
+    }
+
+    /// The shift at index `k`, or None if there is none. `at` moved by it is within 64 signed bits.
+    pub fn shift(&self, k: u64) -> Option<Point>
+        ensures value { result ≡ slice_get self.now.shifts k }
+        ensures in_range { IfSome result (λ e. FitsPoint (shifted self.now.at e)) }
+    {
+        match self.shifts {
+            Some(shifts) => shifts.at(k),
+            None => Offsets::single().at(k),
+        }
+    }
+
+    /// A copy of the shifts, which shares a shared list.
+    pub fn copied_shifts(&self) -> Result<Offsets, AllocError>
+        ensures { IfOk result (λ shifts. shifts ≡ self.now.shifts) }
+    {
+        match self.shifts {
+            Some(shifts) => shifts.clone(),
+            None => Ok(Offsets::single()),
+        }
     }
 
     /// A copy, which shares the name and a shared list of shifts.
@@ -176,7 +210,7 @@ impl<'a> KeptReference<'a> {
             flip: self.by.flip,
             turn: self.by.turn,
             at: self.by.at,
-            shifts: self.shifts.clone()?,
+            shifts: self.copied_shifts()?,
         })
     }
 }

@@ -7,15 +7,16 @@ ghost use Rattle.lvl_cells.specs.inside.Boxed.{stored_list};
 use crate::placements::Placements;
 use crate::reference::{KeptReference, Reference};
 use crate::reference_lists::ReferenceLists;
+use crate::single_reference::SingleReference;
 use lvl_names::Name;
 use std::alloc::{AllocError, Global};
 use std::marker::Model;
 
 /// The references of a cell in file order.
 ///
-/// An empty list allocates nothing. A single reference is kept as it is. Of several, a reference
-/// takes 32 bytes if its name and its shifts are those of the reference before, or if it has a
-/// single place; a name and a list of shifts that aren't are kept beside it.
+/// An empty list allocates nothing. A single reference keeps no list for the zero shift alone. Of
+/// several, a reference takes 32 bytes if its name and its shifts are those of the reference before,
+/// or if it has a single place; a name and a list of shifts that aren't are kept beside it.
 #[derive(Drop)]
 pub struct References {
     alloc: Global,
@@ -26,7 +27,7 @@ pub struct References {
 #[derive(Drop)]
 enum Stored {
     None,
-    One(Box<Reference>),
+    One(Box<SingleReference>),
     Several(Box<ReferenceLists>),
 }
 
@@ -47,7 +48,7 @@ fn smallest(alloc: Global, lists: ReferenceLists) -> Result<Stored, AllocError>
     match lists.len() {
         0 => Ok(Stored::None),
         1 => {
-            let single = lists.reference(0).copied()?;
+            let single = SingleReference::new(alloc, lists.reference(0).copied()?)?;
             Ok(Stored::One(Box::new(alloc, single)?))
         }
         _ => Ok(Stored::Several(Box::new(alloc, lists)?)),
@@ -57,7 +58,7 @@ fn smallest(alloc: Global, lists: ReferenceLists) -> Result<Stored, AllocError>
 /// The lists of two references.
 fn lists_of(
     alloc: Global,
-    first: &Reference,
+    first: &SingleReference,
     second: Reference,
 ) -> Result<ReferenceLists, AllocError>
     ensures { IfOk result (λ lists. lists ≡ first.now ∷ second ∷ []) }
@@ -119,7 +120,7 @@ impl References {
     {
         match &self.stored {
             Stored::None => unreachable!(),
-            Stored::One(reference) => reference.kept(),
+            Stored::One(single) => single.kept(),
             Stored::Several(lists) => lists.reference(j),
         }
     }
@@ -140,7 +141,10 @@ impl References {
         ensures kept { OnErr result (self.new ≡ self.old) }
     {
         match &mut self.stored {
-            Stored::None => self.stored = Stored::One(Box::new(self.alloc, reference)?),
+            Stored::None => {
+                let single = SingleReference::new(self.alloc, reference)?;
+                self.stored = Stored::One(Box::new(self.alloc, single)?);
+            }
             Stored::One(first) => {
                 let lists = lists_of(self.alloc, first, reference)?;
                 self.stored = Stored::Several(Box::new(self.alloc, lists)?);

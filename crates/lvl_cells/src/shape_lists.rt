@@ -10,8 +10,9 @@ ghost use Rattle.lvl_cells.specs.inside.Spans.{IsPrefixOf, HasNumber};
 use crate::forms::Forms;
 use crate::lists::push_lean;
 use crate::moved::MovedRing;
+use crate::outlines::Outlines;
 use crate::shared::{figure_of_ring, figure_of_rings, move_of, number_of_move};
-use lvl_grid::{Point, Ring, Rings};
+use lvl_grid::{Point, Ring};
 use lvl_names::{Layer, Offsets};
 use std::alloc::{AllocError, Global};
 use std::marker::Model;
@@ -34,7 +35,7 @@ pub(crate) struct Span {
 /// shifts. A shared list is never copied.
 #[derive(Drop)]
 pub(crate) struct ShapeLists {
-    rings: Rings,
+    rings: Outlines,
     forms: Forms,
     spans: Vec<Span>,
     moves: Vec<Point>,
@@ -72,6 +73,24 @@ pub(crate) fn kept_sum(count: usize, more: usize) -> Result<u32, AllocError>
 
 /// The number of a list of shifts. Keeps the list, unless it is the zero shift alone or the same
 /// lattice as the last that was kept.
+pub(crate) fn number_of_owned(kept: &mut Vec<Offsets>, shifts: Offsets) -> Result<u32, AllocError>
+    ensures number { IfOk result (λ number. HasNumber kept.new.items number shifts) }
+    ensures before { IsPrefixOf kept.old.items kept.new.items }
+{
+    if shifts.is_single() {
+        return Ok(0);
+    }
+    if let Some(last) = kept.last() {
+        if last.is_same_lattice(&shifts) {
+            return kept_count(kept.len());
+        }
+    }
+    push_lean(kept, shifts)?;
+    kept_count(kept.len())
+}
+
+/// The number of a list of shifts, as [`number_of_owned`] finds it for a copy. Nothing is copied for the zero
+/// shift alone.
 pub(crate) fn number_of(kept: &mut Vec<Offsets>, shifts: &Offsets) -> Result<u32, AllocError>
     ensures number { IfOk result (λ number. HasNumber kept.new.items number shifts.now) }
     ensures before { IsPrefixOf kept.old.items kept.new.items }
@@ -79,13 +98,7 @@ pub(crate) fn number_of(kept: &mut Vec<Offsets>, shifts: &Offsets) -> Result<u32
     if shifts.is_single() {
         return Ok(0);
     }
-    if let Some(last) = kept.last() {
-        if last.is_same_lattice(shifts) {
-            return kept_count(kept.len());
-        }
-    }
-    push_lean(kept, shifts.clone()?)?;
-    kept_count(kept.len())
+    number_of_owned(kept, shifts.clone()?)
 }
 
 impl ShapeLists {
@@ -94,7 +107,7 @@ impl ShapeLists {
         ensures { result ≡ [] }
     {
         ShapeLists {
-            rings: Rings::new(alloc),
+            rings: Outlines::new(alloc),
             forms: Forms::new(alloc),
             spans: Vec::new(alloc),
             moves: Vec::new(alloc),
@@ -134,8 +147,8 @@ impl ShapeLists {
         ensures ring { IsRing result }
     {
         let span = &self.spans[i];
-        let points = self.rings.ring(span.begin as usize + j);
-        MovedRing::new(points, move_of(&self.moves, span.moved))
+        let outline = self.rings.outline(span.begin as usize + j);
+        MovedRing::new(outline, move_of(&self.moves, span.moved))
     }
 
     /// The shifts of the shape at this index, or None for the zero shift alone.

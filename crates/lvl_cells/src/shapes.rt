@@ -21,11 +21,12 @@ use std::marker::Model;
 /// A boundary, a polygon or a rectangle is a shape of one ring, a path a shape of the rings of its bands. An
 /// empty list takes 16 bytes. One shape of one ring takes 64 bytes beside its points, and 64 more if it is
 /// repeated. A few shapes of one ring take 80 bytes, 32 for each and their points, without those that are the
-/// points of the shape before, moved. The lists of more shapes, or of more rings in a shape, take 160 bytes and
-/// what is in them: a boundary at one place 32 bytes and its points, and up to 16 bytes in a table of points. If
-/// an earlier shape has its points, moved, both share them, and it takes 40 bytes; but the table forgets some of
-/// them, so not all that could be shared are. A path of several rings shares the points of the shape before it
-/// alone. Consecutive shapes with the same lattice share one list of shifts, and a shared list is
+/// points of the shape before, moved. Of a rectangle only one point is kept, its diagonal. The lists of more
+/// shapes, or of more rings in a shape, take 160 bytes and what is in them: a boundary at one place 36 bytes and
+/// its points, a rectangle 68 bytes, and both up to 16 bytes in a table of forms. If an earlier shape has its
+/// points, moved, both share them, and it takes 40 bytes; but the table forgets some of them, so not all that
+/// could be shared are. A path of several rings keeps all points of its rings, and shares those of the shape
+/// before it alone. Consecutive shapes with the same lattice share one list of shifts, and a shared list is
 /// never copied.
 #[derive(Drop)]
 pub struct Shapes {
@@ -66,7 +67,7 @@ fn two_shapes(
 {
     if are_few(first.point_count().saturating_add(ring.len())) {
         let mut few = first.few(alloc)?;
-        few.push_ring(alloc, layer, ring, shifts)?;
+        few.push_ring(layer, ring, shifts)?;
         return Ok(StoredShapes::Few(Box::new(alloc, few)?));
     }
     let mut lists = first.lists(alloc)?;
@@ -213,7 +214,7 @@ impl Shapes {
                 self.stored = two_shapes(self.alloc, first, layer, ring, shifts)?;
             }
             StoredShapes::Few(few) if few.has_room(ring.len()) => {
-                few.push_ring(self.alloc, layer, ring, shifts)?;
+                few.push_ring(layer, ring, shifts)?;
             }
             StoredShapes::Few(few) => {
                 let mut lists = few.lists(self.alloc)?;

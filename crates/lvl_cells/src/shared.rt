@@ -1,13 +1,17 @@
 //! Shared figures: rings that are kept already, moved, aren't kept again.
-ghost use Rattle.std.specs.Prelude.{◌≡◌, ◌<◌, ◌+◌, ◌∷◌, [], length, IsTrue, IfOk, IfSome};
+ghost use Rattle.std.specs.Prelude.{◌≡◌, ◌<◌, ◌+◌, ◌∷◌, [], length, All, IsTrue, IfOk, IfSome};
+ghost use Rattle.lvl_grid.specs.Turn.{FitsPoint};
 ghost use Rattle.lvl_grid.specs.Winding.{IsRing};
+ghost use Rattle.lvl_cells.specs.inside.Outlines.{rectangle_at};
 ghost use Rattle.lvl_cells.specs.inside.Spans.{displaced, IsPrefixOf, HasMove, IsAgain, IsFigure, IsStretch};
 
-use crate::forms::Forms;
+use crate::form::{Form, Rectangle};
+use crate::forms::{Forms, hash_of_form};
 use crate::lists::push_lean;
 use crate::moved::{ORIGIN, moved};
+use crate::outlines::Outlines;
 use crate::shape_lists::{Span, kept_count, kept_sum};
-use lvl_grid::{Point, Ring, Rings};
+use lvl_grid::{Point, Ring};
 use std::alloc::AllocError;
 
 /// A figure: the kept rings with an index from `begin` up to `end`, which is excluded, moved by
@@ -20,14 +24,14 @@ pub(crate) struct KeptFigure {
 }
 
 /// The displacement from the first point to the second, or None if it is outside 64 bits.
-fn distance(from: Point, to: Point) -> Option<Point> {
+pub(crate) fn distance(from: Point, to: Point) -> Option<Point> {
     let x = to.x.checked_sub(from.x)?;
     let y = to.y.checked_sub(from.y)?;
     Some(Point { x, y })
 }
 
 /// Whether a ring is the kept one, moved by `by`.
-fn is_again(kept: &[Point], by: Point, ring: &[Point]) -> bool
+pub(crate) fn is_again(kept: &[Point], by: Point, ring: &[Point]) -> bool
     ensures { IsTrue result → IsAgain kept.now by ring.now }
 {
     if kept.len() != ring.len() {
@@ -56,30 +60,30 @@ pub(crate) fn displacement(kept: &[Point], ring: &[Point]) -> Option<Point>
 }
 
 /// The figure of one ring, if it is the last of the kept rings with an index below `end`, moved.
-fn ring_again(rings: &Rings, end: u32, ring: &[Point]) -> Option<KeptFigure>
-    ensures { IfSome result (λ f. IsFigure rings.now f (ring.now ∷ [])) }
+fn ring_again(rings: &Outlines, end: u32, form: &Form<'_>) -> Option<KeptFigure>
+    ensures { IfSome result (λ f. IsFigure rings.now f (form.now.ring.now ∷ [])) }
 {
     let begin = end.checked_sub(1)?;
     if end as usize > rings.len() {
         return None;
     }
-    let by = displacement(rings.ring(begin as usize), ring)?;
+    let by = rings.outline(begin as usize).displacement(form)?;
     Some(KeptFigure { begin, end, by })
 }
 
 /// The figure of one ring, if it is one of two kept ones, moved.
-fn ring_found(rings: &Rings, ends: (u32, u32), ring: &[Point]) -> Option<KeptFigure>
-    ensures { IfSome result (λ f. IsFigure rings.now f (ring.now ∷ [])) }
+fn ring_found(rings: &Outlines, ends: (u32, u32), form: &Form<'_>) -> Option<KeptFigure>
+    ensures { IfSome result (λ f. IsFigure rings.now f (form.now.ring.now ∷ [])) }
 {
-    match ring_again(rings, ends.0, ring) {
+    match ring_again(rings, ends.0, form) {
         Some(figure) => Some(figure),
-        None => ring_again(rings, ends.1, ring),
+        None => ring_again(rings, ends.1, form),
     }
 }
 
 /// The figure of several rings, if they are those of the last shape, all moved by the same
 /// displacement.
-fn rings_again(rings: &Rings, last: &Span, figure: &[Ring]) -> Option<KeptFigure>
+fn rings_again(rings: &Outlines, last: &Span, figure: &[Ring]) -> Option<KeptFigure>
     requires { IsStretch rings.now last.now }
     ensures { IfSome result (λ f. IsFigure rings.now f figure.now) }
 {
@@ -88,9 +92,9 @@ fn rings_again(rings: &Rings, last: &Span, figure: &[Ring]) -> Option<KeptFigure
         return None;
     }
     let first = figure.first()?;
-    let by = displacement(rings.ring(begin), first.points())?;
+    let by = rings.outline(begin).displacement_to(first.points())?;
     for (j, ring) in figure.iter().enumerate() {
-        if !is_again(rings.ring(begin + j), by, ring.points()) {
+        if !rings.outline(begin + j).is_again(by, ring.points()) {
             return None;
         }
     }
@@ -104,7 +108,7 @@ fn rings_again(rings: &Rings, last: &Span, figure: &[Ring]) -> Option<KeptFigure
 /// The figure of one ring. Keeps the ring, unless it is the last ring of the last shape or one that
 /// is found in the table, moved.
 pub(crate) fn figure_of_ring(
-    rings: &mut Rings,
+    rings: &mut Outlines,
     forms: &mut Forms,
     last: Option<&Span>,
     ring: &[Point],
@@ -113,22 +117,24 @@ pub(crate) fn figure_of_ring(
     ensures figure { IfOk result (λ f. IsFigure rings.new f (ring.now ∷ [])) }
     ensures before { IsPrefixOf rings.old rings.new }
 {
+    let form = Form::of(ring);
     if let Some(last) = last {
-        if let Some(figure) = ring_again(rings, last.end, ring) {
+        if let Some(figure) = ring_again(rings, last.end, &form) {
             return Ok(figure);
         }
     }
-    if let Some(figure) = ring_found(rings, forms.candidates(ring), ring) {
+    let hash = hash_of_form(&form);
+    if let Some(figure) = ring_found(rings, forms.candidates(hash), &form) {
         return Ok(figure);
     }
-    let figure = keep_ring(rings, ring)?;
-    forms.keep(ring, figure.end)?;
+    let figure = keep_form(rings, &form)?;
+    forms.keep(hash, figure.end)?;
     Ok(figure)
 }
 
 /// The figure of several rings. Keeps the rings, unless they are those of the last shape, moved.
 pub(crate) fn figure_of_rings(
-    rings: &mut Rings,
+    rings: &mut Outlines,
     last: Option<&Span>,
     figure: &[Ring],
 ) -> Result<KeptFigure, AllocError>
@@ -144,15 +150,43 @@ pub(crate) fn figure_of_rings(
     keep_rings(rings, figure)
 }
 
+/// Keeps a rectangle, and returns its figure.
+fn keep_rectangle(rings: &mut Outlines, kept: &Rectangle) -> Result<KeptFigure, AllocError>
+    requires { All FitsPoint (rectangle_at kept.now) }
+    ensures figure { IfOk result (λ f. IsFigure rings.new f (rectangle_at kept.now ∷ [])) }
+    ensures before { IsPrefixOf rings.old rings.new }
+{
+    let begin = kept_count(rings.len())?;
+    let end = kept_sum(rings.len(), 1)?;
+    rings.push_rectangle(kept.diagonal, kept.along_y)?;
+    Ok(KeptFigure {
+        begin,
+        end,
+        by: kept.from,
+    })
+}
+
 /// Keeps a ring, and returns its figure.
-fn keep_ring(rings: &mut Rings, ring: &[Point]) -> Result<KeptFigure, AllocError>
+fn keep_form(rings: &mut Outlines, form: &Form<'_>) -> Result<KeptFigure, AllocError>
+    requires { IsRing form.now.ring.now }
+    ensures figure { IfOk result (λ f. IsFigure rings.new f (form.now.ring.now ∷ [])) }
+    ensures before { IsPrefixOf rings.old rings.new }
+{
+    match &form.rectangle {
+        Some(rectangle) => keep_rectangle(rings, rectangle),
+        None => keep_ring(rings, form.ring),
+    }
+}
+
+/// Keeps a ring by its points, and returns its figure.
+fn keep_ring(rings: &mut Outlines, ring: &[Point]) -> Result<KeptFigure, AllocError>
     requires { IsRing ring.now }
     ensures figure { IfOk result (λ f. IsFigure rings.new f (ring.now ∷ [])) }
     ensures before { IsPrefixOf rings.old rings.new }
 {
     let begin = kept_count(rings.len())?;
     let end = kept_sum(rings.len(), 1)?;
-    rings.push(ring)?;
+    rings.push_ring(ring)?;
     Ok(KeptFigure {
         begin,
         end,
@@ -161,7 +195,7 @@ fn keep_ring(rings: &mut Rings, ring: &[Point]) -> Result<KeptFigure, AllocError
 }
 
 /// Keeps several rings, and returns their figure.
-fn keep_rings(rings: &mut Rings, figure: &[Ring]) -> Result<KeptFigure, AllocError>
+fn keep_rings(rings: &mut Outlines, figure: &[Ring]) -> Result<KeptFigure, AllocError>
     ensures figure { IfOk result (λ f. IsFigure rings.new f figure.now) }
     ensures before { IsPrefixOf rings.old rings.new }
 {

@@ -6,6 +6,7 @@ ghost use Rattle.lvl_cells.specs.inside.Beside.{shifts_beside};
 
 use crate::few_shapes::FewShapes;
 use crate::moved::{MovedRing, ORIGIN};
+use crate::outline::Outline;
 use crate::shape_lists::ShapeLists;
 use lvl_grid::Point;
 use lvl_names::{Layer, Offsets};
@@ -40,14 +41,16 @@ impl Model for Single {
 }
 
 /// Keeps a list of shifts, unless it is the zero shift alone.
-fn kept_shifts(alloc: Global, shifts: &Offsets) -> Result<Option<Box<Offsets>>, AllocError>
-    ensures { IfOk result (λ kept. shifts_beside kept ≡ shifts.now) }
+pub(crate) fn kept_shifts(
+    alloc: Global,
+    shifts: Offsets,
+) -> Result<Option<Box<Offsets>>, AllocError>
+    ensures { IfOk result (λ kept. shifts_beside kept ≡ shifts) }
 {
     if shifts.is_single() {
         return Ok(None);
     }
-    let copy = shifts.clone()?;
-    Ok(Some(Box::new(alloc, copy)?))
+    Ok(Some(Box::new(alloc, shifts)?))
 }
 
 impl Single {
@@ -65,7 +68,7 @@ impl Single {
         Ok(Single {
             layer,
             ring: Vec::from_slice(alloc, ring)?,
-            shifts: kept_shifts(alloc, shifts)?,
+            shifts: kept_shifts(alloc, shifts.clone()?)?,
         })
     }
 
@@ -89,7 +92,11 @@ impl Single {
         ensures value { result ∷ [] ≡ self.now.figure }
         ensures ring { IsRing result }
     {
-        MovedRing::new(&self.ring, ORIGIN)
+        let outline = Outline {
+            points: &self.ring,
+            along_y: false,
+        };
+        MovedRing::new(outline, ORIGIN)
     }
 
     /// The shifts, or None for the zero shift alone.
@@ -114,8 +121,8 @@ impl Single {
     {
         let mut few = FewShapes::new(alloc);
         match &self.shifts {
-            Some(shifts) => few.push_ring(alloc, self.layer, &self.ring, shifts)?,
-            None => few.push_ring(alloc, self.layer, &self.ring, &Offsets::single())?,
+            Some(shifts) => few.push_ring(self.layer, &self.ring, shifts)?,
+            None => few.push_ring(self.layer, &self.ring, &Offsets::single())?,
         }
         Ok(few)
     }

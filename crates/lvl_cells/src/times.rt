@@ -34,7 +34,7 @@ fn pass_on(linked: &Linked<'_>, i: usize, times: &mut [u64], most: u64) -> bool
     for j in 0..cell.references.len() {
         let reference = cell.references.reference(j);
         if let Some(target) = linked.target(index, j) {
-            let Some(more) = plus_times(times[target], here, reference.shifts().len(), most) else {
+            let Some(more) = plus_times(times[target], here, reference.shift_count(), most) else {
                 return false;
             };
             times[target] = more;

@@ -10,7 +10,7 @@ use Rattle.lvl_changed.specs.declared.arrays.Array.{Array}
 use Rattle.lvl_changed.specs.inside.Arrays.{IsRebased}
 use Rattle.lvl_changed.specs.inside.Rows.{IsSameLine, scaled}
 use Rattle.lvl_changed.specs.inside.Shifts.{AreMovedBy}
-use Rattle.lvl_changed.proofs.Grid.{lattice_has, swapped, zero_times, OnLattice}
+use Rattle.lvl_changed.proofs.Grid.{lattice_has, swapped}
 use Rattle.lvl_changed.proofs.Sums.{zero_point}
 
 from_zero : (p : Point) → p ≡ shifted zero_point p

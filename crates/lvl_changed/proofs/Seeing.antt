@@ -1,6 +1,6 @@
 -- The first difference of two layouts that are known to draw the same but for some changes.
 use Rattle.std.proofs.Common.{◌≡◌, ◌↔◌, ◌⊎◌, ◌∷◌, [], inl, inr, List, Option, Some, None, ℤ, ◌<ℤ◌, true, int_lt, arith}
-use Rattle.std.proofs.Common.{◌<◌, Contains, zero, suc, false, sym, ◌∙◌}
+use Rattle.std.proofs.Common.{◌<◌, Contains, zero, suc, false, sym, subst, ◌∙◌}
 use Rattle.std.specs.Prelude.{IfNone, IfSome}
 use Rattle.std.proofs.lemmas.Bool.{cases_Bool}
 use Rattle.std.proofs.lemmas.Int.{ints}
@@ -16,6 +16,8 @@ use Rattle.lvl_compare.specs.Parts.{IsSeenIn, SomeHas}
 use Rattle.lvl_compare.specs.Tops.{Draws, DrawSame, DrawSameOn, IsFirstDifference, IsFirstDifferenceOn}
 use Rattle.lvl_compare.specs.inside.Strips.{Difference}
 use Rattle.lvl_compare.proofs.Finding.{not_below}
+use Rattle.lvl_changed.specs.Changed.{DrawSameBut}
+use Rattle.lvl_changed.specs.declared.changes.Changes.{Changes}
 
 below : (a b : ℤ) → int_lt a b ≡ true → a <ℤ b
 below a b h = grind (arith, ints, h)
@@ -89,6 +91,13 @@ both_parts L ws s A B (inl listed) out within =
 -- both draw the same but in the windows, on the Layers for which L holds
 abbrev pub SameBut : (Layer → Type 0) → List Window → Draws → Draws → Type 0
 SameBut L ws a b = (l : Layer) (s : Square) → (¬ (L l × SomeHas ws s)) → a l s ↔ b l s
+
+-- changes as a list of windows, and a property that the Layers have if any are listed
+pub but_changes : (a b : Draws) (changes : Changes) (L : Layer → Type 0) (ws : List Window)
+    → ((l : Layer) → IfSome changes.layers (λ list. Contains list.items l) → L l) → ws ≡ changes.windows.items
+    → DrawSameBut changes a b → SameBut L ws a b
+but_changes a b changes L ws listed is out = λ l s none.
+    out l s (λ h. none (listed l h.0, subst (λ us. SomeHas us s) (sym is) h.1))
 
 -- what is found in the windows is what is found among all squares that are compared
 pub seen_same : (a b : Draws) (v : Option Window) (ws : List Window) (found : Option Difference)

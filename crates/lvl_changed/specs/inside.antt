@@ -3,6 +3,7 @@ pub mod Placements
 pub mod Shifts
 pub mod Arrays
 pub mod Finding
+pub mod Pairs
 pub mod Shapes
 pub mod Figures
 pub mod Layers

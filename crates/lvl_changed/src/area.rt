@@ -126,7 +126,7 @@ impl Area {
         self.windows.hold_cell(library, cell)
     }
 
-    /// The same of a cell that is placed by the map.
+    /// Adds all that a cell covers where the map places it, with its Layers as the view maps them.
     pub(crate) fn hold_placed_cell(
         &mut self,
         library: &Fitted,

@@ -37,7 +37,7 @@ fn placing(reference: &KeptReference<'_>, cell: usize) -> Result<Array, AllocErr
         turn: reference.turn(),
         at: reference.at(),
     };
-    let shifts = reference.shifts().clone()?;
+    let shifts = reference.copied_shifts()?;
     Ok(Array { cell, by, shifts })
 }
 

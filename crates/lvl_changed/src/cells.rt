@@ -10,7 +10,8 @@ ghost use Rattle.lvl_view.specs.Moved.{IsMoved};
 ghost use Rattle.lvl_changed.specs.Changed.{DrawSameBut};
 ghost use Rattle.lvl_changed.specs.inside.Areas.{AlikeOutside, IsIn};
 ghost use Rattle.lvl_changed.specs.inside.Drawing.{AreDrawnOn};
-ghost use Rattle.lvl_changed.specs.inside.Finding.{AreFound, IsFound};
+ghost use Rattle.lvl_changed.specs.inside.Finding.{AreFound};
+ghost use Rattle.lvl_changed.specs.inside.Pairs.{AreFoundIn, IsFoundIn, first_covers, second_covers};
 
 use crate::area::Area;
 use crate::changes::Changes;
@@ -21,6 +22,7 @@ use crate::partners::{partner_in, partners_of};
 use crate::references::hold_references;
 use crate::shapes::hold_shapes;
 use crate::whole::{Budget, is_same_pair, settled};
+use lvl_compare::Pair;
 use lvl_flat::Fitted;
 use lvl_view::View;
 use std::alloc::{AllocError, Global};
@@ -54,29 +56,24 @@ fn none_known(alloc: Global, count: usize) -> Result<Vec<Option<Found>>, AllocEr
 /// second does.
 fn changes_of(
     alloc: Global,
-    first: &Fitted,
+    pair: &Pair<'_>,
     ours: usize,
-    second: &Fitted,
     drawn: &[Option<Layers>],
     theirs: usize,
-    view: &View,
     known: &[Option<Found>],
     most: usize,
 ) -> Result<Area, AllocError>
-    requires ours { ours < length first.now.cells }
-    requires drawn { AreDrawnOn second.now.cells drawn.now }
-    requires theirs { theirs < length second.now.cells }
-    ensures { IfOk result (λ area. AreFound view.now.pairs first.now.cells second.now.cells known.now
-        → AlikeOutside area (CoversAt first.now.cells ours)
-        (IsMoved view.now.pairs (CoversAt second.now.cells theirs))) }
+    requires ours { ours < length pair.now.first.now.cells }
+    requires drawn { AreDrawnOn pair.now.second.now.cells drawn.now }
+    requires theirs { theirs < length pair.now.second.now.cells }
+    ensures { IfOk result (λ area. AreFoundIn pair.now known.now
+        → AlikeOutside area (first_covers pair.now ours) (second_covers pair.now theirs)) }
 {
     let mut area = Area::none(alloc, most);
-    let our_cell = first.checked().cell(ours);
-    let their_cell = second.checked().cell(theirs);
-    hold_shapes(&mut area, alloc, our_cell, their_cell, view)?;
-    hold_references(
-        &mut area, alloc, first, ours, second, drawn, theirs, view, known,
-    )?;
+    let our_cell = pair.first.checked().cell(ours);
+    let their_cell = pair.second.checked().cell(theirs);
+    hold_shapes(&mut area, alloc, our_cell, their_cell, pair.view)?;
+    hold_references(&mut area, alloc, pair, ours, drawn, theirs, known)?;
     Ok(area)
 }
 
@@ -100,42 +97,29 @@ fn extent_of(
 /// An area outside of which a cell covers what its partner does, or nothing if it has no partner.
 fn found_of(
     alloc: Global,
-    first: &Fitted,
+    pair: &Pair<'_>,
     our_drawn: &[Option<Layers>],
     cell: usize,
-    second: &Fitted,
     their_drawn: &[Option<Layers>],
     partner: Option<usize>,
-    view: &View,
     known: &[Option<Found>],
     most: usize,
 ) -> Result<Found, AllocError>
-    requires ours { AreDrawnOn first.now.cells our_drawn.now }
-    requires cell { cell < length first.now.cells }
-    requires theirs { AreDrawnOn second.now.cells their_drawn.now }
-    requires partner { IfSome partner (λ n. n < length second.now.cells) }
+    requires ours { AreDrawnOn pair.now.first.now.cells our_drawn.now }
+    requires cell { cell < length pair.now.first.now.cells }
+    requires theirs { AreDrawnOn pair.now.second.now.cells their_drawn.now }
+    requires partner { IfSome partner (λ n. n < length pair.now.second.now.cells) }
     ensures partner { IfOk result (λ found. found.partner ≡ partner) }
-    ensures found { IfOk result (λ found. AreFound view.now.pairs first.now.cells second.now.cells known.now
-        → IsFound view.now.pairs first.now.cells second.now.cells cell found) }
+    ensures found { IfOk result (λ found. AreFoundIn pair.now known.now → IsFoundIn pair.now cell found) }
 {
     let Some(theirs) = partner else {
-        let area = extent_of(alloc, first, our_drawn, cell)?;
+        let area = extent_of(alloc, pair.first, our_drawn, cell)?;
         return Ok(Found {
             partner: None,
             area,
         });
     };
-    let area = changes_of(
-        alloc,
-        first,
-        cell,
-        second,
-        their_drawn,
-        theirs,
-        view,
-        known,
-        most,
-    )?;
+    let area = changes_of(alloc, pair, cell, their_drawn, theirs, known, most)?;
     Ok(Found {
         partner: Some(theirs),
         area,
@@ -201,7 +185,16 @@ pub fn changed(
     let their_drawn = drawn_by_cells(alloc, theirs)?;
     let times = ours.times();
     let everywhere = view.everywhere(alloc)?;
-    let mut budget = Budget::new(alloc, first, second, view)?;
+    let pair = Pair {
+        first,
+        second,
+        view,
+    };
+    let unbounded = Pair {
+        view: &everywhere,
+        ..pair
+    };
+    let mut budget = Budget::new(alloc, &pair)?;
     let mut known = none_known(alloc, ours.cells().len())?;
     for i in (0..ours.order().len()).rev() {
         let cell = ours.order()[i];
@@ -212,26 +205,15 @@ pub fn changed(
         let most = most_windows(times[cell]);
         let found = found_of(
             alloc,
-            first,
+            &pair,
             &our_drawn,
             cell,
-            second,
             &their_drawn,
             partner,
-            view,
             &known,
             most,
         )?;
-        let is_same = is_same_pair(
-            alloc,
-            first,
-            cell,
-            second,
-            &found,
-            &everywhere,
-            times[cell],
-            &mut budget,
-        )?;
+        let is_same = is_same_pair(alloc, &unbounded, cell, &found, times[cell], &mut budget)?;
         keep(&mut known, cell, settled(alloc, found, is_same));
     }
     Ok(changes_in(known, ours.top(), theirs.top()))

@@ -1,17 +1,14 @@
 //! Where two libraries may draw differently, and their comparison only there.
 ghost use Rattle.std.specs.Prelude.{IfOk, IfSome, IfNone};
 ghost use Rattle.lvl_columns.specs.Windows.{IsShown};
-ghost use Rattle.lvl_flat.specs.Flattened.{TopCovers};
-ghost use Rattle.lvl_view.specs.Moved.{IsMoved};
+ghost use Rattle.lvl_compare.specs.Pairs.{ours, theirs};
 ghost use Rattle.lvl_compare.specs.Tops.{DrawSame, IsFirstDifference};
 ghost use Rattle.lvl_changed.specs.Changed.{DrawSameBut};
 
-use lvl_compare::{difference_in_windows, difference_on_layers};
-use lvl_flat::Fitted;
+use lvl_compare::{Pair, difference_in_windows, difference_on_layers};
 use lvl_grid::{Square, Window};
 use lvl_names::Layer;
 use lvl_region::Side;
-use lvl_view::View;
 use std::alloc::{AllocError, Global};
 
 /// Where two libraries may draw differently: in the windows, on the Layers.
@@ -27,21 +24,21 @@ pub struct Changes {
 /// Only these are compared.
 pub(crate) fn difference_among(
     alloc: Global,
-    first: &Fitted,
-    second: &Fitted,
-    view: &View,
+    pair: &Pair<'_>,
     changes: &Changes,
     most: usize,
 ) -> Result<Option<(Layer, Square, Side)>, AllocError>
-    ensures same { IfOk result (λ found.
-        DrawSameBut changes.now (TopCovers first.now) (IsMoved view.now.pairs (TopCovers second.now))
-        → IfNone found (DrawSame (IsShown view.now.window) (TopCovers first.now)
-        (IsMoved view.now.pairs (TopCovers second.now)))) }
-    ensures differ { IfOk result (λ found.
-        DrawSameBut changes.now (TopCovers first.now) (IsMoved view.now.pairs (TopCovers second.now))
-        → IfSome found (λ at. IsFirstDifference (IsShown view.now.window) (TopCovers first.now)
-        (IsMoved view.now.pairs (TopCovers second.now)) at.0 at.1 at.2)) }
+    ensures same { IfOk result (λ found. DrawSameBut changes.now (ours pair.now) (theirs pair.now)
+        → IfNone found (DrawSame (IsShown pair.now.view.now.window) (ours pair.now) (theirs pair.now))) }
+    ensures differ { IfOk result (λ found. DrawSameBut changes.now (ours pair.now) (theirs pair.now)
+        → IfSome found (λ at. IsFirstDifference (IsShown pair.now.view.now.window) (ours pair.now) (theirs pair.now)
+        at.0 at.1 at.2)) }
 {
+    let Pair {
+        first,
+        second,
+        view,
+    } = *pair;
     let windows = &changes.windows;
     match &changes.layers {
         Some(layers) => difference_on_layers(alloc, first, second, view, layers, windows, most),

@@ -3,13 +3,14 @@ ghost use Rattle.std.specs.Prelude.{IfOk, IfSome, IfNone};
 ghost use Rattle.lvl_columns.specs.Windows.{IsShown};
 ghost use Rattle.lvl_flat.specs.Flattened.{TopCovers};
 ghost use Rattle.lvl_view.specs.Moved.{IsMoved};
+ghost use Rattle.lvl_compare.specs.Pairs.{ours, theirs};
 ghost use Rattle.lvl_compare.specs.Tops.{DrawSame, IsFirstDifference};
 ghost use Rattle.lvl_changed.specs.Changed.{DrawSameBut};
 
 use crate::cells::changed;
 use crate::changes::{Changes, difference_among};
 use crate::pays::pays_by_cells;
-use lvl_compare::difference_by_strips;
+use lvl_compare::{Pair, difference_by_strips};
 use lvl_flat::Fitted;
 use lvl_grid::{Square, Window};
 use lvl_names::Layer;
@@ -28,8 +29,8 @@ fn area(window: &Window) -> u64 {
 
 /// Whether the windows have at most half as many squares as the extent of the larger layout. The
 /// answer is one of cost only.
-fn are_small(windows: &[Window], first: &Fitted, second: &Fitted) -> bool {
-    let all = area(&first.extent()).max(area(&second.extent()));
+fn are_small(windows: &[Window], pair: &Pair<'_>) -> bool {
+    let all = area(&pair.first.extent()).max(area(&pair.second.extent()));
     let mut sum = 0u64;
     for window in windows {
         sum = sum.saturating_add(area(window));
@@ -38,31 +39,26 @@ fn are_small(windows: &[Window], first: &Fitted, second: &Fitted) -> bool {
 }
 
 /// Whether it is likely to pay to compare only these changes.
-fn pays(changes: &Changes, first: &Fitted, second: &Fitted) -> bool {
+fn pays(changes: &Changes, pair: &Pair<'_>) -> bool {
     match &changes.layers {
         Some(layers) if layers.len() <= FEW_LAYERS => true,
-        _ => are_small(&changes.windows, first, second),
+        _ => are_small(&changes.windows, pair),
     }
 }
 
 /// Where the layouts may differ, or None if it isn't likely to pay to search for that, or to compare
 /// only what is there.
-fn changes_to_compare(
-    alloc: Global,
-    first: &Fitted,
-    second: &Fitted,
-    view: &View,
-) -> Result<Option<Changes>, AllocError>
+fn changes_to_compare(alloc: Global, pair: &Pair<'_>) -> Result<Option<Changes>, AllocError>
     ensures { IfOk result (λ found. IfSome found (λ changes.
-        DrawSameBut changes (TopCovers first.now) (IsMoved view.now.pairs (TopCovers second.now)))) }
+        DrawSameBut changes (ours pair.now) (theirs pair.now))) }
 {
-    if !pays_by_cells(first.checked()) || !pays_by_cells(second.checked()) {
+    if !pays_by_cells(pair.first.checked()) || !pays_by_cells(pair.second.checked()) {
         return Ok(None);
     }
-    let Some(changes) = changed(alloc, first, second, view)? else {
+    let Some(changes) = changed(alloc, pair.first, pair.second, pair.view)? else {
         return Ok(None);
     };
-    if !pays(&changes, first, second) {
+    if !pays(&changes, pair) {
         return Ok(None);
     }
     Ok(Some(changes))
@@ -89,8 +85,13 @@ pub fn difference_by_changes(
         (λ at. IsFirstDifference (IsShown view.now.window) (TopCovers first.now)
         (IsMoved view.now.pairs (TopCovers second.now)) at.0 at.1 at.2)) }
 {
-    let Some(changes) = changes_to_compare(alloc, first, second, view)? else {
+    let pair = Pair {
+        first,
+        second,
+        view,
+    };
+    let Some(changes) = changes_to_compare(alloc, &pair)? else {
         return difference_by_strips(alloc, first, second, view, most);
     };
-    difference_among(alloc, first, second, view, &changes, most)
+    difference_among(alloc, &pair, &changes, most)
 }

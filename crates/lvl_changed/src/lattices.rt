@@ -131,7 +131,7 @@ pub(crate) fn sums(
     Ok(lattice_of_sums(outer, inner, by))
 }
 
-/// The same as one lattice.
+/// The sums of a shift of each list as one lattice, or None if they aren't one.
 fn lattice_of_sums(outer: &Offsets, inner: &Offsets, by: &Map) -> Option<Offsets>
     ensures { IfSome result (AreSums by.now outer.now inner.now) }
 {

@@ -1,10 +1,8 @@
 //! A first look at a small part of where two layouts may differ.
 use crate::changes::Changes;
 use crate::pays::{placed_in, share};
-use lvl_compare::{difference_in_windows, difference_on_layers};
-use lvl_flat::Fitted;
+use lvl_compare::{Pair, difference_in_windows, difference_on_layers};
 use lvl_grid::Window;
-use lvl_view::View;
 use std::alloc::{AllocError, Global};
 use std::slice;
 
@@ -38,15 +36,18 @@ fn looked_at(window: &Window, rings: u64) -> Window {
 /// both cells for each.
 pub(crate) fn differ_at_a_look(
     alloc: Global,
-    first: &Fitted,
-    second: &Fitted,
-    view: &View,
+    pair: &Pair<'_>,
     changes: &Changes,
     most: usize,
 ) -> Result<bool, AllocError> {
     let Some(window) = changes.windows.get(changes.windows.len() / 2) else {
         return Ok(false);
     };
+    let Pair {
+        first,
+        second,
+        view,
+    } = *pair;
     let rings = placed_in(first, Some(window)).max(placed_in(second, Some(window)));
     let part = looked_at(window, rings.max(1));
     let windows = slice::from_ref(&part);

@@ -22,7 +22,7 @@ fn shifts_of(cell: &Cell) -> u64 {
         sum = sum.saturating_add(cell.shapes.shift_count(i));
     }
     for j in 0..cell.references.len() {
-        sum = sum.saturating_add(cell.references.reference(j).shifts().len());
+        sum = sum.saturating_add(cell.references.reference(j).shift_count());
     }
     sum
 }

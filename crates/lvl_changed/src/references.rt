@@ -12,6 +12,7 @@ ghost use Rattle.lvl_view.specs.Views.{target_of};
 ghost use Rattle.lvl_changed.specs.inside.Areas.{AlikeOutside, Grows, HasImages, IsIn};
 ghost use Rattle.lvl_changed.specs.inside.Drawing.{AreDrawnOn};
 ghost use Rattle.lvl_changed.specs.inside.Finding.{AreFound};
+ghost use Rattle.lvl_changed.specs.inside.Pairs.{AreFoundIn};
 ghost use Rattle.lvl_changed.specs.inside.Placements.{PlacedCover, ReferencesCover, ReferAlike};
 
 use crate::area::Area;
@@ -23,6 +24,7 @@ use crate::placed::{Placed, placed_of};
 use crate::placements::{hold_alone, sort_places};
 use crate::rows::split_alone;
 use lvl_cells::Checked;
+use lvl_compare::Pair;
 use lvl_flat::Fitted;
 use lvl_view::View;
 use std::alloc::{AllocError, Global};
@@ -153,7 +155,7 @@ fn in_order(placed: Placed) -> Placed
     Placed { singles, arrays }
 }
 
-/// The same single placements, with other arrays.
+/// The single placements of what is placed, with other arrays.
 fn with_arrays(placed: Placed, arrays: Vec<Array>) -> Placed
     ensures { result ≡ record { singles = placed.singles; arrays = arrays } }
 {
@@ -193,23 +195,21 @@ fn hold_placed(
 pub(crate) fn hold_references(
     area: &mut Area,
     alloc: Global,
-    first: &Fitted,
+    pair: &Pair<'_>,
     ours: usize,
-    second: &Fitted,
     drawn: &[Option<Layers>],
     theirs: usize,
-    view: &View,
     known: &[Option<Found>],
 ) -> Result<(), AllocError>
-    requires ours { ours < length first.now.cells }
-    requires drawn { AreDrawnOn second.now.cells drawn.now }
-    requires theirs { theirs < length second.now.cells }
-    ensures held { OnOk result (AreFound view.now.pairs first.now.cells second.now.cells known.now
-        → ReferAlike area.new view.now.pairs first.now.cells ours second.now.cells theirs) }
+    requires ours { ours < length pair.now.first.now.cells }
+    requires drawn { AreDrawnOn pair.now.second.now.cells drawn.now }
+    requires theirs { theirs < length pair.now.second.now.cells }
+    ensures held { OnOk result (AreFoundIn pair.now known.now → ReferAlike area.new pair.now.view.now.pairs
+        pair.now.first.now.cells ours pair.now.second.now.cells theirs) }
     ensures kept { OnOk result (Grows area.old area.new) }
 {
-    let placed = partners_placed(area, alloc, first.checked(), ours, known)?;
-    let others = placed_of(alloc, second.checked(), theirs)?;
-    hold_placed(area, alloc, second, drawn, view, placed, others)?;
+    let placed = partners_placed(area, alloc, pair.first.checked(), ours, known)?;
+    let others = placed_of(alloc, pair.second.checked(), theirs)?;
+    hold_placed(area, alloc, pair.second, drawn, pair.view, placed, others)?;
     Ok(())
 }

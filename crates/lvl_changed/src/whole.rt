@@ -2,11 +2,11 @@
 ghost use Rattle.std.specs.Prelude.{◌≡◌, ◌↔◌, IfOk, IfSome, IsTrue, false};
 ghost use Rattle.lvl_grid.specs.declared.point.Square.{Square};
 ghost use Rattle.lvl_names.specs.declared.layer.Layer.{Layer};
-ghost use Rattle.lvl_flat.specs.Flattened.{CoversAt, TopCovers};
-ghost use Rattle.lvl_view.specs.Moved.{IsMoved};
+ghost use Rattle.lvl_compare.specs.Pairs.{ours, theirs};
 ghost use Rattle.lvl_changed.specs.Changed.{DrawSameBut};
 ghost use Rattle.lvl_changed.specs.inside.Areas.{AlikeOutside};
-ghost use Rattle.lvl_changed.specs.inside.Finding.{IsFound, PartnerCovers};
+ghost use Rattle.lvl_changed.specs.inside.Finding.{PartnerCovers};
+ghost use Rattle.lvl_changed.specs.inside.Pairs.{IsFoundIn, first_covers, second_covers};
 
 use crate::area::Area;
 use crate::changes::{Changes, difference_among};
@@ -14,8 +14,8 @@ use crate::found::Found;
 use crate::look::differ_at_a_look;
 use crate::pays::{placed_in, placed_rings, size_of};
 use lvl_cells::Checked;
+use lvl_compare::Pair;
 use lvl_flat::Fitted;
-use lvl_view::View;
 use std::alloc::{AllocError, Global};
 
 /// What all comparisons of whole cells may cost together in any case.
@@ -55,18 +55,14 @@ pub(crate) struct Budget {
 }
 
 impl Budget {
-    /// What they may cost for two libraries under a view.
-    pub(crate) fn new(
-        alloc: Global,
-        first: &Fitted,
-        second: &Fitted,
-        view: &View,
-    ) -> Result<Budget, AllocError> {
+    /// What they may cost for a pair of libraries.
+    pub(crate) fn new(alloc: Global, pair: &Pair<'_>) -> Result<Budget, AllocError> {
+        let (first, second) = (pair.first, pair.second);
         let (cells, rings) = size_of(first.checked());
         let (their_cells, their_rings) = size_of(second.checked());
         let each = cells.saturating_add(their_cells);
         let all = each.saturating_add(rings).saturating_add(their_rings);
-        let window = view.window();
+        let window = pair.view.window();
         let placed = placed_in(first, window).saturating_add(placed_in(second, window));
         let left = MOST_OF_ALL
             .saturating_add(all.saturating_mul(FOR_EACH))
@@ -132,28 +128,25 @@ impl Budget {
 /// place too many rings, or if the view has a window.
 fn are_same_tops(
     alloc: Global,
-    first: &Fitted,
-    second: &Fitted,
-    view: &View,
+    pair: &Pair<'_>,
     changes: &Changes,
     budget: &mut Budget,
 ) -> Result<bool, AllocError>
-    ensures { IfOk result (λ same. IsTrue same
-        → DrawSameBut changes.now (TopCovers first.now) (IsMoved view.now.pairs (TopCovers second.now))
-        → (layer : Layer) (s : Square)
-        → TopCovers first.now layer s ↔ IsMoved view.now.pairs (TopCovers second.now) layer s) }
+    ensures { IfOk result (λ same. IsTrue same → DrawSameBut changes.now (ours pair.now) (theirs pair.now)
+        → (layer : Layer) (s : Square) → ours pair.now layer s ↔ theirs pair.now layer s) }
 {
-    if view.window().is_some() {
+    if pair.view.window().is_some() {
         return Ok(false);
     }
-    let rings = placed_rings(first.checked()).saturating_add(placed_rings(second.checked()));
+    let (first, second) = (pair.first.checked(), pair.second.checked());
+    let rings = placed_rings(first).saturating_add(placed_rings(second));
     if !budget.takes(rings) {
         return Ok(false);
     }
-    if rings > MOST_AT_ONCE && differ_at_a_look(alloc, first, second, view, changes, POINTS)? {
+    if rings > MOST_AT_ONCE && differ_at_a_look(alloc, pair, changes, POINTS)? {
         return Ok(false);
     }
-    let found = difference_among(alloc, first, second, view, changes, POINTS)?;
+    let found = difference_among(alloc, pair, changes, POINTS)?;
     Ok(found.is_none())
 }
 
@@ -167,20 +160,19 @@ struct Roots {
 /// Two cells as tops, or None if one of them can't be one.
 fn roots_of(
     alloc: Global,
-    first: &Fitted,
-    ours: usize,
-    second: &Fitted,
-    theirs: usize,
+    pair: &Pair<'_>,
+    cell: usize,
+    partner: usize,
 ) -> Result<Option<Roots>, AllocError>
     ensures ours { IfOk result (λ found. IfSome found (λ roots.
-        roots.ours ≡ record { cells = first.now.cells; top = ours; order = first.now.order })) }
+        roots.ours ≡ record (pair.now.first.now) { top = cell })) }
     ensures theirs { IfOk result (λ found. IfSome found (λ roots.
-        roots.theirs ≡ record { cells = second.now.cells; top = theirs; order = second.now.order })) }
+        roots.theirs ≡ record (pair.now.second.now) { top = partner })) }
 {
-    let Some(ours) = first.rooted(alloc, ours)? else {
+    let Some(ours) = pair.first.rooted(alloc, cell)? else {
         return Ok(None);
     };
-    let Some(theirs) = second.rooted(alloc, theirs)? else {
+    let Some(theirs) = pair.second.rooted(alloc, partner)? else {
         return Ok(None);
     };
     Ok(Some(Roots { ours, theirs }))
@@ -190,27 +182,28 @@ fn roots_of(
 /// `false` says nothing if the comparison would cost too much.
 fn are_same_cells(
     alloc: Global,
-    first: &Fitted,
-    ours: usize,
-    second: &Fitted,
-    theirs: usize,
-    view: &View,
+    pair: &Pair<'_>,
+    cell: usize,
+    partner: usize,
     area: &Area,
     budget: &mut Budget,
 ) -> Result<bool, AllocError>
     ensures { IfOk result (λ same. IsTrue same
-        → AlikeOutside area.now (CoversAt first.now.cells ours)
-        (IsMoved view.now.pairs (CoversAt second.now.cells theirs))
-        → (layer : Layer) (s : Square) → CoversAt first.now.cells ours layer s
-        ↔ IsMoved view.now.pairs (CoversAt second.now.cells theirs) layer s) }
+        → AlikeOutside area.now (first_covers pair.now cell) (second_covers pair.now partner)
+        → (layer : Layer) (s : Square) → first_covers pair.now cell layer s ↔ second_covers pair.now partner layer s) }
 {
     let Some(changes) = area.changes(alloc)? else {
         return Ok(false);
     };
-    match roots_of(alloc, first, ours, second, theirs)? {
-        Some(roots) => are_same_tops(alloc, &roots.ours, &roots.theirs, view, &changes, budget),
-        None => Ok(false),
-    }
+    let Some(roots) = roots_of(alloc, pair, cell, partner)? else {
+        return Ok(false);
+    };
+    let tops = Pair {
+        first: &roots.ours,
+        second: &roots.theirs,
+        view: pair.view,
+    };
+    are_same_tops(alloc, &tops, &changes, budget)
 }
 
 /// Whether a cell draws the same as its partner, with all that they place, if it does so outside of
@@ -218,27 +211,23 @@ fn are_same_cells(
 /// once, if what it places was compared in vain, or if the comparison would cost too much.
 pub(crate) fn is_same_pair(
     alloc: Global,
-    first: &Fitted,
+    pair: &Pair<'_>,
     cell: usize,
-    second: &Fitted,
     found: &Found,
-    view: &View,
     times: u64,
     budget: &mut Budget,
 ) -> Result<bool, AllocError>
-    ensures { IfOk result (λ same. IsTrue same
-        → IsFound view.now.pairs first.now.cells second.now.cells cell found.now
-        → (layer : Layer) (s : Square) → CoversAt first.now.cells cell layer s
-        ↔ PartnerCovers view.now.pairs second.now.cells found.now.partner layer s) }
+    ensures { IfOk result (λ same. IsTrue same → IsFoundIn pair.now cell found.now
+        → (layer : Layer) (s : Square) → first_covers pair.now cell layer s
+        ↔ PartnerCovers pair.now.view.now.pairs pair.now.second.now.cells found.now.partner layer s) }
 {
-    let Some(theirs) = found.partner else {
+    let Some(partner) = found.partner else {
         return Ok(false);
     };
-    if times < 2 || found.area.windows.is_empty() || !budget.takes_on(first.checked(), cell) {
+    if times < 2 || found.area.windows.is_empty() || !budget.takes_on(pair.first.checked(), cell) {
         return Ok(false);
     }
-    let area = &found.area;
-    let is_same = are_same_cells(alloc, first, cell, second, theirs, view, area, budget)?;
+    let is_same = are_same_cells(alloc, pair, cell, partner, &found.area, budget)?;
     budget.settle(cell, is_same);
     Ok(is_same)
 }

@@ -26,8 +26,10 @@ use Rattle.lvl_compare.specs.Flats.{IsLesser}
 use Rattle.lvl_compare.specs.Tops.{Draws}
 use Rattle.lvl_compare.specs.declared.groups.Span.{Span}
 use Rattle.lvl_compare.specs.declared.groups.Group.{Group}
+use Rattle.lvl_compare.specs.declared.pair.Pair.{Pair}
 use Rattle.lvl_compare.specs.inside.Groups.{AreAbove, AreListed, AreRowsBefore, IsListed, NoneBefore, is_after}
 use Rattle.lvl_compare.specs.inside.Groups.{is_before, is_of_span, is_until, on}
+use Rattle.lvl_compare.specs.Pairs.{ours, theirs}
 use Rattle.lvl_compare.specs.inside.Strips.{Difference, IsFoundIn, IsImproved, IsLeast, Part, Precedes}
 use Rattle.lvl_compare.specs.inside.Strips.{ShowsOf}
 use Rattle.lvl_compare.specs.inside.Strips.{everywhere, rows_to}
@@ -197,12 +199,14 @@ lesser_layers a b big small w k after last l q h =
     ]
 
 -- and where no side draws on a Layer before that one, rows above the square
-lesser_rows : (a t : Draws) (pairs : List LayerPair) (big : Span) (small : Group) (w : Window) (k : Difference)
-    → small.span.after ≡ big.after → IsLesser big.last (Some k.0) small.span.last → AreListed a t pairs small
-    → NoneBefore pairs small k.0 → (y : ℤ) → AreAbove w y k.1 → (l : Layer) (q : Square) → on big (IsInWindow w) l q
-    → on small.span (IsInWindow (rows_to y w)) l q ⊎ IsSpared a (IsMoved pairs t) (Some k) l q
-lesser_rows a t pairs big small w k after last listed none y later l q h =
-    let b : Draws = IsMoved pairs t in
+lesser_rows : (pair : Pair) (big : Span) (small : Group) (w : Window) (k : Difference)
+    → small.span.after ≡ big.after → IsLesser big.last (Some k.0) small.span.last → AreListed pair small
+    → NoneBefore pair.view.now.pairs small k.0 → (y : ℤ) → AreAbove w y k.1 → (l : Layer) (q : Square)
+    → on big (IsInWindow w) l q
+    → on small.span (IsInWindow (rows_to y w)) l q ⊎ IsSpared (ours pair) (theirs pair) (Some k) l q
+lesser_rows pair big small w k after last listed none y later l q h =
+    let a : Draws = ours pair in
+    let b : Draws = theirs pair in
     elim (lesser_layers a b big small.span w k after last l q h) [
       | inr spared ↦ inr spared
       | inl part ↦
@@ -214,7 +218,8 @@ lesser_rows a t pairs big small w k after last listed none y later l q h =
                       inr (inr (
                         λ drawn. absurd (All-contains (λ (m : Layer). ¬ ComesBefore m k.0) small.ours.items l none.ours
                             (listed.ours.all l q drawn part.0) before),
-                        λ drawn. absurd (All-contains (λ (m : Layer). ¬ ComesBefore (target_of pairs m) k.0)
+                        λ drawn. absurd (All-contains
+                            (λ (m : Layer). ¬ ComesBefore (target_of pair.view.now.pairs m) k.0)
                             small.theirs.items drawn.source none.theirs
                             (listed.theirs.all drawn.source q drawn.covers
                             (subst (λ (m : Layer). is_of_span small.span m ≡ true) (sym drawn.is_target) part.0))
@@ -235,23 +240,24 @@ lesser_rows a t pairs big small w k after last listed none y later l q h =
     ]
 
 -- one more part, of which what can't precede the known difference is left out
-pub next_improves : (a t : Draws) (pairs : List LayerPair) (big : Span) (small : Group) (w rows : Window)
-    (k : Difference) (next found : Option Difference) → small.span.after ≡ big.after → IsLesser big.last (Some k.0)
-    small.span.last
-    → AreListed a t pairs small → AreRowsBefore pairs small k w rows
-    → IsFoundIn a (IsMoved pairs t) (on small.span (IsInWindow rows)) next → IsLeast (Some k) next found
-    → IsImproved a (IsMoved pairs t) (on big (IsInWindow w)) (Some k) found
-next_improves a t pairs big small w rows k next found after last listed (inl is) h =
-    let b : Draws = IsMoved pairs t in
+pub next_improves : (pair : Pair) (big : Span) (small : Group) (w rows : Window) (k : Difference)
+    (next found : Option Difference) → small.span.after ≡ big.after → IsLesser big.last (Some k.0) small.span.last
+    → AreListed pair small → AreRowsBefore pair.view.now.pairs small k w rows
+    → IsFoundIn (ours pair) (theirs pair) (on small.span (IsInWindow rows)) next → IsLeast (Some k) next found
+    → IsImproved (ours pair) (theirs pair) (on big (IsInWindow w)) (Some k) found
+next_improves pair big small w rows k next found after last listed (inl is) h =
+    let a : Draws = ours pair in
+    let b : Draws = theirs pair in
     least_improves a b (on small.span (IsInWindow w)) (on big (IsInWindow w)) (Some k) next found
     (λ l q s. (((span_up_to big small.span k.0 l after last).0 s.0).0, s.1))
     (lesser_layers a b big small.span w k after last)
     (subst (λ (v : Window). IsFoundIn a b (on small.span (IsInWindow v)) next) is h)
-next_improves a t pairs big small w rows k next found after last listed (inr is) h =
-    let b : Draws = IsMoved pairs t in
+next_improves pair big small w rows k next found after last listed (inr is) h =
+    let a : Draws = ours pair in
+    let b : Draws = theirs pair in
     least_improves a b (on small.span (IsInWindow (rows_to is.0.y w))) (on big (IsInWindow w)) (Some k) next found
     (λ l q s. (((span_up_to big small.span k.0 l after last).0 s.0).0, in_rows w is.0.y q s.1))
-    (lesser_rows a t pairs big small w k after last listed is.1 is.0.y is.0.above)
+    (lesser_rows pair big small w k after last listed is.1 is.0.y is.0.above)
     (subst (λ (v : Window). IsFoundIn a b (on small.span (IsInWindow v)) next) is.0.is h)
 
 -- with nothing known, the first difference of a part is an improvement
@@ -326,18 +332,3 @@ group_last a b W after span None is before h = λ l q seen.
 group_last a b W after span (Some at) is before h =
     group_found a b W span (Some at) refl
     (subst (λ o. AlikeUpTo a b W o) (sym (ap (λ (s : Span). s.after) is)) before) h
-
--- the Layers of a part of a group
-pub group_listed : (a t : Draws) (pairs : List LayerPair) (big small : Group) (span : Span)
-    → ((l : Layer) → is_of_span span l ≡ true → is_of_span big.span l ≡ true) → small.span ≡ span
-    → small.ours.items ≡ filter (is_of_span span) big.ours.items
-    → small.theirs.items ≡ filter (λ l. is_of_span span (target_of pairs l)) big.theirs.items
-    → AreListed a t pairs big → AreListed a t pairs small
-group_listed a t pairs big small span wider is ours theirs listed = record {
-  ours =
-      subst (λ (s : Span). IsListed a [] s small.ours.items) (sym is)
-      (part_listed a [] big.span span big.ours.items small.ours.items wider ours listed.ours);
-  theirs =
-      subst (λ (s : Span). IsListed t pairs s small.theirs.items) (sym is)
-      (part_listed t pairs big.span span big.theirs.items small.theirs.items wider theirs listed.theirs);
-}

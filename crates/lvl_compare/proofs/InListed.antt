@@ -1,5 +1,5 @@
 -- Listed Layers in their order, and what two layouts draw on them.
-use Rattle.std.proofs.Common.{◌≡◌, ◌<◌, ◌≤◌, ◌-◌, ◌+◌, ◌⊎◌, ◌↔◌, ℕ, List, Option, Some, None, inl, inr, true, refl, sym, ap, ◌∙◌}
+use Rattle.std.proofs.Common.{◌≡◌, ◌<◌, ◌≤◌, ◌-◌, ◌⊎◌, ℕ, List, Option, Some, None, inl, inr, true, refl, sym, ap, ◌∙◌}
 use Rattle.std.proofs.Common.{AllPairs, Contains, length, get_or, take, subst, arith, is_some, false}
 use Rattle.std.specs.Prelude.{All, IfNone, IfSome}
 use Rattle.std.proofs.lemmas.List.Elements.{All-contains}

@@ -10,6 +10,7 @@ use Rattle.lvl_flat.specs.Candidates.{AreCandidates}
 use Rattle.lvl_flat.specs.declared.candidates.Candidates.{Candidates}
 use Rattle.lvl_compare.specs.declared.groups.Group.{Group}
 use Rattle.lvl_compare.specs.declared.lists.Lists.{Lists}
+use Rattle.lvl_compare.specs.declared.pair.Pair.{Pair}
 use Rattle.lvl_compare.specs.inside.Groups.{AreRowsBefore}
 use Rattle.lvl_compare.specs.inside.Lists.{AreBoth}
 use Rattle.lvl_compare.specs.inside.Strips.{Difference}
@@ -23,19 +24,19 @@ candidates_in s w v c inside h = record {
 }
 
 -- candidates for a window are candidates for each part of it
-pub both_in : (a b : Settled) (w v : Window) (lists : Lists) → ((q : Square) → IsInWindow v q → IsInWindow w q)
-    → AreBoth a b w lists → AreBoth a b v lists
-both_in a b w v lists inside h = record {
-  ours = candidates_in a w v lists.ours inside h.ours;
-  theirs = candidates_in b w v lists.theirs inside h.theirs;
+pub both_in : (pair : Pair) (w v : Window) (lists : Lists) → ((q : Square) → IsInWindow v q → IsInWindow w q)
+    → AreBoth pair w lists → AreBoth pair v lists
+both_in pair w v lists inside h = record {
+  ours = candidates_in pair.first.now w v lists.ours inside h.ours;
+  theirs = candidates_in pair.second.now w v lists.theirs inside h.theirs;
 }
 
 -- and so are the shorter ones, if there are any
-pub both_shorter : (a b : Settled) (w : Window) (short : Option Lists) (long result : Lists)
-    → IfSome short (AreBoth a b w) → IfSome short (λ lists. result ≡ lists) → (short ≡ None → result ≡ long)
-    → AreBoth a b w long → AreBoth a b w result
-both_shorter a b w None long result inner some none outer = subst (AreBoth a b w) (sym (none refl)) outer
-both_shorter a b w (Some lists) long result inner some none outer = subst (AreBoth a b w) (sym some) inner
+pub both_shorter : (pair : Pair) (w : Window) (short : Option Lists) (long result : Lists)
+    → IfSome short (AreBoth pair w) → IfSome short (λ lists. result ≡ lists) → (short ≡ None → result ≡ long)
+    → AreBoth pair w long → AreBoth pair w result
+both_shorter pair w None long result inner some none outer = subst (AreBoth pair w) (sym (none refl)) outer
+both_shorter pair w (Some lists) long result inner some none outer = subst (AreBoth pair w) (sym some) inner
 
 -- the rows that may have a square before the known one are rows of the window
 pub rows_in : (pairs : List LayerPair) (group : Group) (k : Difference) (w rows : Window)

@@ -1,6 +1,6 @@
 -- The squares of a window, part by part.
 use Rattle.std.proofs.Common.{◌↔◌, ◌⊎◌, inl, inr, Option, Some, None, ℤ, ◌<ℤ◌, ◌≤ℤ◌}
-use Rattle.std.proofs.Common.{int_lt, refl, arith, zero, pos, negsuc, ◌-ℤ◌, ◌<◌}
+use Rattle.std.proofs.Common.{int_lt, arith, zero, pos, negsuc, ◌-ℤ◌, ◌<◌}
 use Rattle.std.specs.Prelude.{IfNone, IfSome}
 use Rattle.std.specs.Int.{int_min, int_max}
 use Rattle.std.proofs.lemmas.Int.{ints, clamps}
@@ -13,7 +13,7 @@ use Rattle.lvl_columns.specs.Windows.{IsShown}
 use Rattle.lvl_compare.specs.Tops.{Draws, DrawSame, IsFirstDifference}
 use Rattle.lvl_compare.specs.declared.groups.Span.{Span}
 use Rattle.lvl_compare.specs.inside.Groups.{on}
-use Rattle.lvl_compare.specs.inside.Strips.{AreHalves, Difference, IsFoundIn, IsImproved, everywhere, rows_to, up}
+use Rattle.lvl_compare.specs.inside.Strips.{AreHalves, Difference, IsImproved, rows_to, up}
 use Rattle.lvl_compare.specs.inside.Strips.{seen_of}
 use Rattle.lvl_compare.proofs.Finding.{below, improved_more, not_below}
 
@@ -73,21 +73,22 @@ nowhere_else a b Seen P ours theirs l q seen same =
 
 pub found_same : (a b : Draws) (Seen P : Square → Type 0) (found : Option Difference)
     → ((l : Layer) (q : Square) → Seen q → a l q → P q) → ((l : Layer) (q : Square) → Seen q → b l q → P q)
-    → IsFoundIn a b (everywhere P) found → IfNone found (DrawSame Seen a b)
+    → IfNone found (DrawSame P a b) → IfNone found (DrawSame Seen a b)
 found_same a b Seen P None ours theirs h = λ l q seen. nowhere_else a b Seen P ours theirs l q seen (h l q)
 found_same a b Seen P (Some at) ours theirs h = tt
 
 pub found_apart : (a b : Draws) (Seen P : Square → Type 0) (found : Option Difference) → ((q : Square) → P q → Seen q)
     → ((l : Layer) (q : Square) → Seen q → a l q → P q) → ((l : Layer) (q : Square) → Seen q → b l q → P q)
-    → IsFoundIn a b (everywhere P) found → IfSome found (λ at. IsFirstDifference Seen a b at.0 at.1 at.2)
+    → IfSome found (λ at. IsFirstDifference P a b at.0 at.1 at.2)
+    → IfSome found (λ at. IsFirstDifference Seen a b at.0 at.1 at.2)
 found_apart a b Seen P None shown ours theirs h = tt
 found_apart a b Seen P (Some at) shown ours theirs h = record {
-  seen = shown at.1 h.shown;
+  seen = shown at.1 h.seen;
   alone = h.alone;
   least_layer = λ l before q seen.
-      nowhere_else a b Seen P ours theirs l q seen (λ in'. h.least l q in' (inl before));
+      nowhere_else a b Seen P ours theirs l q seen (λ in'. h.least_layer l before q in');
   least_square = λ q seen before.
-      nowhere_else a b Seen P ours theirs at.0 q seen (λ in'. h.least at.0 q in' (inr (refl, before)));
+      nowhere_else a b Seen P ours theirs at.0 q seen (λ in'. h.least_square q in' before);
 }
 
 up_rises : (a b : ℤ) → pos zero ≤ℤ a → a <ℤ b → up a < up b

@@ -1,4 +1,5 @@
 pub mod Flats
 pub mod Tops
 pub mod Parts
+pub mod Pairs
 pub mod inside

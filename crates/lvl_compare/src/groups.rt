@@ -1,14 +1,12 @@
 //! Groups of consecutive Layers, which are compared one group after another.
-ghost use Rattle.std.specs.Prelude.{◌≡◌, List, filter, true, false, IfOk, Some};
+ghost use Rattle.std.specs.Prelude.{◌≡◌, filter, true, false, IfOk, Some};
 ghost use Rattle.lvl_names.specs.declared.layer.Layer.{Layer as PlainLayer};
-ghost use Rattle.lvl_flat.specs.Flattened.{TopCovers};
 ghost use Rattle.lvl_view.specs.Views.{target_of};
-ghost use Rattle.lvl_view.specs.declared.map.LayerPair.{LayerPair};
 ghost use Rattle.lvl_compare.specs.Flats.{IsLesser};
 ghost use Rattle.lvl_compare.specs.inside.Groups.{AreListed, AreNotBefore, NoneBefore, is_before, is_of_span};
 
 use crate::flats::lesser;
-use lvl_flat::Fitted;
+use crate::pair::Pair;
 use lvl_names::{Layer, comes_before, in_order};
 use lvl_view::View;
 use std::alloc::{AllocError, Global};
@@ -112,35 +110,36 @@ fn some_before(layers: &[Layer], view: &View, layer: Layer) -> bool
 
 impl Group {
     /// All Layers of both layouts.
-    pub(crate) fn whole(alloc: Global, first: &Fitted, second: &Fitted) -> Result<Group, AllocError>
+    pub(crate) fn whole(alloc: Global, pair: &Pair<'_>) -> Result<Group, AllocError>
         ensures every { IfOk result (λ group. (layer : PlainLayer) → is_of_span group.span layer ≡ true) }
-        ensures listed { IfOk result (λ group. (pairs : List LayerPair)
-            → AreListed (TopCovers first.now) (TopCovers second.now) pairs group) }
+        ensures listed { IfOk result (AreListed pair.now) }
     {
         Ok(Group {
             span: Span {
                 after: None,
                 last: None,
             },
-            ours: first.layers(alloc)?,
-            theirs: second.layers(alloc)?,
+            ours: pair.first.layers(alloc)?,
+            theirs: pair.second.layers(alloc)?,
         })
     }
 
-    /// Those of the Layers that count as Layers of a span. The view maps the Layers of the second
-    /// layout.
-    pub(crate) fn part(&self, alloc: Global, view: &View, span: Span) -> Result<Group, AllocError>
+    /// Those of the Layers that count as Layers of a part of the span.
+    pub(crate) fn part(
+        &self,
+        alloc: Global,
+        pair: &Pair<'_>,
+        span: Span,
+    ) -> Result<Group, AllocError>
+        requires within { (layer : PlainLayer) → is_of_span span layer ≡ true → is_of_span self.now.span layer ≡ true }
+        requires listed { AreListed pair.now self.now }
         ensures span { IfOk result (λ part. part.span ≡ span) }
-        ensures ours { IfOk result (λ part. part.ours.items ≡ filter (is_of_span span) self.now.ours.items) }
-        ensures theirs { IfOk result (λ part. part.theirs.items
-            ≡ filter (λ l. is_of_span span (target_of view.now.pairs l)) self.now.theirs.items) }
+        ensures listed { IfOk result (AreListed pair.now) }
     {
         let unmapped = View::whole(alloc);
-        Ok(Group {
-            span,
-            ours: layers_in(alloc, &self.ours, &unmapped, span)?,
-            theirs: layers_in(alloc, &self.theirs, view, span)?,
-        })
+        let ours = layers_in(alloc, &self.ours, &unmapped, span)?;
+        let theirs = layers_in(alloc, &self.theirs, pair.view, span)?;
+        Ok(Group { span, ours, theirs })
     }
 
     /// Whether a Layer of the group counts as a Layer before this one.

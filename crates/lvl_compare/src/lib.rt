@@ -24,6 +24,7 @@
 
 pub use flats::{first_difference, first_difference_in, lesser, past};
 pub use listed::difference_on_layers;
+pub use pair::Pair;
 pub use regions::difference_with;
 pub use windows::{difference_by_strips, difference_in_windows};
 
@@ -32,6 +33,7 @@ mod groups;
 mod listed;
 mod lists;
 mod pace;
+mod pair;
 mod regions;
 mod sizes;
 mod strips;

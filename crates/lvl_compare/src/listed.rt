@@ -8,8 +8,10 @@ ghost use Rattle.lvl_compare.specs.Parts.{IsSeenIn};
 ghost use Rattle.lvl_compare.specs.Tops.{DrawSameOn, IsFirstDifferenceOn};
 ghost use Rattle.lvl_compare.specs.inside.Groups.{is_of_span};
 ghost use Rattle.lvl_compare.specs.inside.Listed.{IsFoundOn, IsUpTo};
+ghost use Rattle.lvl_compare.specs.Pairs.{ours, seen_in, theirs};
 
 use crate::groups::{Group, Span};
+use crate::pair::Pair;
 use crate::strips::Difference;
 use crate::windows::difference_in_group;
 use lvl_flat::Fitted;
@@ -77,25 +79,22 @@ fn span_of(drawn: &[Layer], layers: &[Layer], from: usize, end: usize) -> Span
 /// Layers between which no other is drawn are searched together.
 fn difference_on_listed(
     alloc: Global,
-    first: &Fitted,
-    second: &Fitted,
-    view: &View,
+    pair: &Pair<'_>,
     layers: &[Layer],
     windows: &[Window],
     most: usize,
 ) -> Result<Option<Difference>, AllocError>
     requires { AllPairs ComesBefore layers.now }
-    ensures { IfOk result (IsFoundOn layers.now (IsSeenIn view.now.window windows.now)
-        (TopCovers first.now) (IsMoved view.now.pairs (TopCovers second.now))) }
+    ensures { IfOk result (IsFoundOn layers.now (seen_in pair.now windows.now) (ours pair.now) (theirs pair.now)) }
 {
-    let whole = Group::whole(alloc, first, second)?;
-    let drawn = whole.targets(alloc, view)?;
+    let whole = Group::whole(alloc, pair)?;
+    let drawn = whole.targets(alloc, pair.view)?;
     let mut from = 0;
     while from < layers.len() {
         let end = run_end(&drawn, layers, from);
         let span = span_of(&drawn, layers, from, end);
-        let group = whole.part(alloc, view, span)?;
-        let found = difference_in_group(alloc, first, second, view, &group, windows, most)?;
+        let group = whole.part(alloc, pair, span)?;
+        let found = difference_in_group(alloc, pair, &group, windows, most)?;
         if found.is_some() {
             return Ok(found);
         }
@@ -130,5 +129,10 @@ pub fn difference_on_layers(
         (IsMoved view.now.pairs (TopCovers second.now)) at.0 at.1 at.2)) }
 {
     let ordered = in_order(Vec::from_slice(alloc, layers)?)?;
-    difference_on_listed(alloc, first, second, view, &ordered, windows, most)
+    let pair = Pair {
+        first,
+        second,
+        view,
+    };
+    difference_on_listed(alloc, &pair, &ordered, windows, most)
 }

@@ -3,8 +3,9 @@ ghost use Rattle.std.specs.Prelude.{◌≡◌, IfOk, IfSome, None};
 ghost use Rattle.lvl_grid.specs.declared.point.Window.{Window as PlainWindow};
 ghost use Rattle.lvl_compare.specs.inside.Lists.{AreBoth};
 
+use crate::pair::Pair;
 use crate::sizes::Sizes;
-use lvl_flat::{Candidates, Fitted};
+use lvl_flat::Candidates;
 use lvl_grid::Window;
 use std::alloc::{AllocError, Global};
 
@@ -23,12 +24,12 @@ fn has(window: &Window, other: &Window) -> bool {
 
 impl Lists {
     /// All own shapes and references of both tops.
-    pub(crate) fn whole(first: &Fitted, second: &Fitted) -> Lists
-        ensures { (window : PlainWindow) → AreBoth first.now second.now window result }
+    pub(crate) fn whole(pair: &Pair<'_>) -> Lists
+        ensures { (window : PlainWindow) → AreBoth pair.now window result }
     {
         Lists {
-            ours: first.candidates(),
-            theirs: second.candidates(),
+            ours: pair.first.candidates(),
+            theirs: pair.second.candidates(),
         }
     }
 
@@ -41,15 +42,14 @@ impl Lists {
     fn narrowed(
         &self,
         alloc: Global,
-        first: &Fitted,
-        second: &Fitted,
+        pair: &Pair<'_>,
         window: &Window,
     ) -> Result<(Lists, Sizes), AllocError>
-        requires { AreBoth first.now second.now window.now self.now }
-        ensures { IfOk result (λ narrowed. AreBoth first.now second.now window.now narrowed.0) }
+        requires { AreBoth pair.now window.now self.now }
+        ensures { IfOk result (λ narrowed. AreBoth pair.now window.now narrowed.0) }
     {
-        let (ours, our_size) = first.narrowed(alloc, &self.ours, window)?;
-        let (theirs, their_size) = second.narrowed(alloc, &self.theirs, window)?;
+        let (ours, our_size) = pair.first.narrowed(alloc, &self.ours, window)?;
+        let (theirs, their_size) = pair.second.narrowed(alloc, &self.theirs, window)?;
         let sizes = Sizes {
             ours: our_size,
             theirs: their_size,
@@ -58,10 +58,10 @@ impl Lists {
     }
 
     /// Estimates of what is drawn in the window, by samples of the lists if they are long.
-    fn sampled(&self, first: &Fitted, second: &Fitted, window: &Window) -> Sizes {
+    fn sampled(&self, pair: &Pair<'_>, window: &Window) -> Sizes {
         Sizes {
-            ours: first.sampled(&self.ours, window),
-            theirs: second.sampled(&self.theirs, window),
+            ours: pair.first.sampled(&self.ours, window),
+            theirs: pair.second.sampled(&self.theirs, window),
         }
     }
 
@@ -71,17 +71,16 @@ impl Lists {
     pub(crate) fn shortened(
         &self,
         alloc: Global,
-        first: &Fitted,
-        second: &Fitted,
+        pair: &Pair<'_>,
         window: &Window,
     ) -> Result<(Option<Lists>, Sizes), AllocError>
-        requires { AreBoth first.now second.now window.now self.now }
-        ensures { IfOk result (λ shortened. IfSome shortened.0 (AreBoth first.now second.now window.now)) }
+        requires { AreBoth pair.now window.now self.now }
+        ensures { IfOk result (λ shortened. IfSome shortened.0 (AreBoth pair.now window.now)) }
     {
-        if has(window, &first.extent()) && has(window, &second.extent()) {
-            return Ok((None, self.sampled(first, second, window)));
+        if has(window, &pair.first.extent()) && has(window, &pair.second.extent()) {
+            return Ok((None, self.sampled(pair, window)));
         }
-        let (lists, sizes) = self.narrowed(alloc, first, second, window)?;
+        let (lists, sizes) = self.narrowed(alloc, pair, window)?;
         let len = self.len();
         if lists.len() > len - len / 4 {
             return Ok((None, sizes));

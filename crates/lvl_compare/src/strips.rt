@@ -3,19 +3,18 @@
 ghost use Rattle.std.specs.Prelude.{◌≡◌, ◌≤◌, ◌+◌, ◌*◌, ◌<ℤ◌, ◌↔◌, IsTrue, IfOk, IfSome};
 ghost use Rattle.lvl_grid.specs.Clip.{IsInWindow};
 ghost use Rattle.lvl_columns.specs.Windows.{window_of};
-ghost use Rattle.lvl_flat.specs.Flattened.{TopCovers};
-ghost use Rattle.lvl_view.specs.Moved.{IsMoved};
 ghost use Rattle.lvl_compare.specs.inside.Strips.{AreHalves, Precedes, IsFoundIn, IsImproved, IsLeast, rows_to};
 ghost use Rattle.lvl_compare.specs.inside.Strips.{seen_of};
 ghost use Rattle.lvl_compare.specs.inside.Groups.{AreAbove, AreListed, AreRowsBefore, on};
 ghost use Rattle.lvl_compare.specs.inside.Lists.{AreBoth};
 ghost use Rattle.lvl_compare.specs.inside.Paces.{cuts_left};
+ghost use Rattle.lvl_compare.specs.Pairs.{ours, theirs};
 
 use crate::flats::first_difference;
 use crate::groups::Group;
 use crate::lists::{Lists, shorter};
 use crate::pace::Pace;
-use lvl_flat::Fitted;
+use crate::pair::Pair;
 use lvl_grid::{Square, Window};
 use lvl_names::{Layer, comes_before};
 use lvl_region::Side;
@@ -71,22 +70,20 @@ pub(crate) fn shared(first: Window, second: Option<&Window>) -> Window
 /// more than `most` points there, that is reported as out of memory.
 fn difference_of(
     alloc: Global,
-    first: &Fitted,
-    second: &Fitted,
-    view: &View,
+    pair: &Pair<'_>,
     group: &Group,
     lists: &Lists,
     window: &Window,
     most: usize,
 ) -> Result<Option<Difference>, AllocError>
-    requires listed { AreListed (TopCovers first.now) (TopCovers second.now) view.now.pairs group.now }
-    requires lists { AreBoth first.now second.now window.now lists.now }
-    ensures { IfOk result (IsFoundIn (TopCovers first.now)
-        (IsMoved view.now.pairs (TopCovers second.now)) (on group.now.span (IsInWindow window.now))) }
+    requires listed { AreListed pair.now group.now }
+    requires lists { AreBoth pair.now window.now lists.now }
+    ensures { IfOk result (IsFoundIn (ours pair.now) (theirs pair.now) (on group.now.span (IsInWindow window.now))) }
 {
+    let (first, second) = (pair.first, pair.second);
     let ours = first.within_of(alloc, &lists.ours, &group.ours, window, most)?;
     let theirs = second.within_of(alloc, &lists.theirs, &group.theirs, window, most)?;
-    let mapped = theirs.mapped(alloc, view)?;
+    let mapped = theirs.mapped(alloc, pair.view)?;
     let found = first_difference(alloc, &ours, &mapped)?;
     Ok(found)
 }
@@ -138,26 +135,24 @@ fn rows_before(
 /// its Layer, and if there is none before that one, rows that may have a square before its own.
 fn difference_after(
     alloc: Global,
-    first: &Fitted,
-    second: &Fitted,
-    view: &View,
+    pair: &Pair<'_>,
     group: &Group,
     lists: &Lists,
     window: &Window,
     found: Option<Difference>,
     most: usize,
 ) -> Result<Option<Difference>, AllocError>
-    requires listed { AreListed (TopCovers first.now) (TopCovers second.now) view.now.pairs group.now }
-    requires lists { AreBoth first.now second.now window.now lists.now }
-    ensures { IfOk result (IsImproved (TopCovers first.now) (IsMoved view.now.pairs (TopCovers second.now))
+    requires listed { AreListed pair.now group.now }
+    requires lists { AreBoth pair.now window.now lists.now }
+    ensures { IfOk result (IsImproved (ours pair.now) (theirs pair.now)
         (on group.now.span (IsInWindow window.now)) found) }
 {
     let Some(known) = found else {
-        return difference_of(alloc, first, second, view, group, lists, window, most);
+        return difference_of(alloc, pair, group, lists, window, most);
     };
-    let lesser = group.part(alloc, view, group.span.up_to(known.0))?;
-    let rows = rows_before(alloc, view, &lesser, window, &known);
-    let next = difference_of(alloc, first, second, view, &lesser, lists, &rows, most)?;
+    let lesser = group.part(alloc, pair, group.span.up_to(known.0))?;
+    let rows = rows_before(alloc, pair.view, &lesser, window, &known);
+    let next = difference_of(alloc, pair, &lesser, lists, &rows, most)?;
     Ok(least(found, next))
 }
 
@@ -235,27 +230,22 @@ fn halves(window: &Window, across: bool) -> Option<(Window, Window)>
 /// The search after a window that is drawn as a whole, with at most this number of points on a side.
 fn whole(
     alloc: Global,
-    first: &Fitted,
-    second: &Fitted,
-    view: &View,
+    pair: &Pair<'_>,
     group: &Group,
     lists: &Lists,
     window: &Window,
     before: Progress,
     most: usize,
 ) -> Result<Progress, AllocError>
-    requires listed { AreListed (TopCovers first.now) (TopCovers second.now) view.now.pairs group.now }
-    requires lists { AreBoth first.now second.now window.now lists.now }
-    ensures found { IfOk result (λ after. IsImproved (TopCovers first.now)
-        (IsMoved view.now.pairs (TopCovers second.now)) (on group.now.span (IsInWindow window.now))
-        before.found after.found) }
+    requires listed { AreListed pair.now group.now }
+    requires lists { AreBoth pair.now window.now lists.now }
+    ensures found { IfOk result (λ after. IsImproved (ours pair.now) (theirs pair.now)
+        (on group.now.span (IsInWindow window.now)) before.found after.found) }
     ensures few { IfOk result (λ after. after.windows + 2 * cuts_left after.pace
         ≤ before.windows + 2 * cuts_left before.pace + 1) }
 {
     let known = before.found;
-    let found = difference_after(
-        alloc, first, second, view, group, lists, window, known, most,
-    )?;
+    let found = difference_after(alloc, pair, group, lists, window, known, most)?;
     Ok(Progress {
         found,
         pace: before.pace,
@@ -267,33 +257,26 @@ fn whole(
 /// a side may have in a window; only if that doesn't help, a side may have any number of points.
 fn uncut(
     alloc: Global,
-    first: &Fitted,
-    second: &Fitted,
-    view: &View,
+    pair: &Pair<'_>,
     group: &Group,
     lists: &Lists,
     window: &Window,
     before: Progress,
 ) -> Result<Progress, AllocError>
-    requires listed { AreListed (TopCovers first.now) (TopCovers second.now) view.now.pairs group.now }
-    requires lists { AreBoth first.now second.now window.now lists.now }
-    ensures found { IfOk result (λ after. IsImproved (TopCovers first.now)
-        (IsMoved view.now.pairs (TopCovers second.now)) (on group.now.span (IsInWindow window.now))
-        before.found after.found) }
+    requires listed { AreListed pair.now group.now }
+    requires lists { AreBoth pair.now window.now lists.now }
+    ensures found { IfOk result (λ after. IsImproved (ours pair.now) (theirs pair.now)
+        (on group.now.span (IsInWindow window.now)) before.found after.found) }
     ensures few { IfOk result (λ after. after.windows + 2 * cuts_left after.pace
         ≤ before.windows + 2 * cuts_left before.pace + 1) }
 {
     let most = before.pace.points();
-    let tried = whole(
-        alloc, first, second, view, group, lists, window, before, most,
-    );
+    let tried = whole(alloc, pair, group, lists, window, before, most);
     if let Ok(after) = tried {
         return Ok(after);
     }
     let any = usize::MAX;
-    whole(
-        alloc, first, second, view, group, lists, window, before, any,
-    )
+    whole(alloc, pair, group, lists, window, before, any)
 }
 
 /// The search of a window, where a side is expected to have this number of points at most. If that
@@ -305,45 +288,38 @@ fn uncut(
 /// There are at most two windows for each cut, and one more.
 pub(crate) fn difference_within(
     alloc: Global,
-    first: &Fitted,
-    second: &Fitted,
-    view: &View,
+    pair: &Pair<'_>,
     group: &Group,
     wider: &Lists,
     window: &Window,
     expected: u64,
     before: Progress,
 ) -> Result<Progress, AllocError>
-    requires listed { AreListed (TopCovers first.now) (TopCovers second.now) view.now.pairs group.now }
-    requires lists { AreBoth first.now second.now window.now wider.now }
-    ensures found { IfOk result (λ after. IsImproved (TopCovers first.now)
-        (IsMoved view.now.pairs (TopCovers second.now)) (on group.now.span (IsInWindow window.now))
-        before.found after.found) }
+    requires listed { AreListed pair.now group.now }
+    requires lists { AreBoth pair.now window.now wider.now }
+    ensures found { IfOk result (λ after. IsImproved (ours pair.now) (theirs pair.now)
+        (on group.now.span (IsInWindow window.now)) before.found after.found) }
     ensures few { IfOk result (λ after. after.windows + 2 * cuts_left after.pace
         ≤ before.windows + 2 * cuts_left before.pace + 1) }
 {
     let most = before.pace.points();
     if expected <= most as u64 {
-        let tried = whole(
-            alloc, first, second, view, group, wider, window, before, most,
-        );
+        let tried = whole(alloc, pair, group, wider, window, before, most);
         if let Ok(after) = tried {
             return Ok(after);
         }
     }
-    let (short, sizes) = wider.shortened(alloc, first, second, window)?;
+    let (short, sizes) = wider.shortened(alloc, pair, window)?;
     let lists = shorter(&short, wider);
     if sizes.are_tried(expected, most) {
-        let tried = whole(
-            alloc, first, second, view, group, lists, window, before, most,
-        );
+        let tried = whole(alloc, pair, group, lists, window, before, most);
         if let Ok(after) = tried {
             return Ok(after);
         }
     }
     let across = sizes.is_cut_across();
     let (Some(pace), Some((low, high))) = (before.pace.next(), halves(window, across)) else {
-        return uncut(alloc, first, second, view, group, lists, window, before);
+        return uncut(alloc, pair, group, lists, window, before);
     };
     let begun = Progress {
         found: before.found,
@@ -351,6 +327,6 @@ pub(crate) fn difference_within(
         windows: before.windows.saturating_add(1),
     };
     let (less, more) = sizes.of_halves(across);
-    let half = difference_within(alloc, first, second, view, group, lists, &low, less, begun)?;
-    difference_within(alloc, first, second, view, group, lists, &high, more, half)
+    let half = difference_within(alloc, pair, group, lists, &low, less, begun)?;
+    difference_within(alloc, pair, group, lists, &high, more, half)
 }

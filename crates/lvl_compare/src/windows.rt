@@ -6,11 +6,13 @@ ghost use Rattle.lvl_view.specs.Moved.{IsMoved};
 ghost use Rattle.lvl_compare.specs.Parts.{IsSeenIn};
 ghost use Rattle.lvl_compare.specs.Tops.{DrawSame, IsFirstDifference};
 ghost use Rattle.lvl_compare.specs.inside.Groups.{AreListed, on};
+ghost use Rattle.lvl_compare.specs.Pairs.{ours, seen_in, theirs};
 ghost use Rattle.lvl_compare.specs.inside.Strips.{IsFoundIn, everywhere};
 
 use crate::groups::{Group, Span};
 use crate::lists::Lists;
 use crate::pace::Pace;
+use crate::pair::Pair;
 use crate::strips::{Difference, Progress, difference_within, shared};
 use lvl_flat::Fitted;
 use lvl_grid::{Square, Window};
@@ -23,30 +25,26 @@ use std::slice;
 /// The first difference of two layouts on the Layers of a group, in some windows.
 pub(crate) fn difference_in_group(
     alloc: Global,
-    first: &Fitted,
-    second: &Fitted,
-    view: &View,
+    pair: &Pair<'_>,
     group: &Group,
     windows: &[Window],
     most: usize,
 ) -> Result<Option<Difference>, AllocError>
-    requires { AreListed (TopCovers first.now) (TopCovers second.now) view.now.pairs group.now }
-    ensures { IfOk result (IsFoundIn (TopCovers first.now) (IsMoved view.now.pairs (TopCovers second.now))
-        (on group.now.span (IsSeenIn view.now.window windows.now))) }
+    requires { AreListed pair.now group.now }
+    ensures { IfOk result (IsFoundIn (ours pair.now) (theirs pair.now)
+        (on group.now.span (seen_in pair.now windows.now))) }
 {
-    let lists = Lists::whole(first, second);
+    let lists = Lists::whole(pair);
     let mut found = None;
     for window in windows {
-        let part = shared(*window, view.window());
+        let part = shared(*window, pair.view.window());
         let start = Progress {
             found,
             pace: Pace::new(most),
             windows: 0,
         };
         let size = group.span.least_size();
-        let end = difference_within(
-            alloc, first, second, view, group, &lists, &part, size, start,
-        )?;
+        let end = difference_within(alloc, pair, group, &lists, &part, size, start)?;
         found = end.found;
     }
     Ok(found)
@@ -56,29 +54,26 @@ pub(crate) fn difference_in_group(
 /// order, up to the first group that has a difference.
 pub(crate) fn difference_by_groups(
     alloc: Global,
-    first: &Fitted,
-    second: &Fitted,
-    view: &View,
+    pair: &Pair<'_>,
     windows: &[Window],
     most: usize,
 ) -> Result<Option<Difference>, AllocError>
-    ensures { IfOk result (IsFoundIn (TopCovers first.now) (IsMoved view.now.pairs (TopCovers second.now))
-        (everywhere (IsSeenIn view.now.window windows.now))) }
+    ensures { IfOk result (IsFoundIn (ours pair.now) (theirs pair.now) (everywhere (seen_in pair.now windows.now))) }
 {
-    let layers = Group::whole(alloc, first, second)?;
-    let ends = layers.ends(alloc, view)?;
+    let layers = Group::whole(alloc, pair)?;
+    let ends = layers.ends(alloc, pair.view)?;
     let mut after = None;
     for end in &ends {
         let last = Some(*end);
-        let group = layers.part(alloc, view, Span { after, last })?;
-        let found = difference_in_group(alloc, first, second, view, &group, windows, most)?;
+        let group = layers.part(alloc, pair, Span { after, last })?;
+        let found = difference_in_group(alloc, pair, &group, windows, most)?;
         if found.is_some() {
             return Ok(found);
         }
         after = last;
     }
-    let group = layers.part(alloc, view, Span { after, last: None })?;
-    difference_in_group(alloc, first, second, view, &group, windows, most)
+    let group = layers.part(alloc, pair, Span { after, last: None })?;
+    difference_in_group(alloc, pair, &group, windows, most)
 }
 
 /// The first Layer, and on it the first square, by `y` and then `x`, that only one of two layouts
@@ -104,7 +99,7 @@ pub fn difference_by_strips(
 {
     let window = first.extent().joined(second.extent());
     let windows = slice::from_ref(&window);
-    difference_by_groups(alloc, first, second, view, windows, most)
+    difference_in_windows(alloc, first, second, view, windows, most)
 }
 
 /// The first Layer, and on it the first square of the windows, by `y` and then `x`, that only one
@@ -128,5 +123,10 @@ pub fn difference_in_windows(
         (λ at. IsFirstDifference (IsSeenIn view.now.window windows.now) (TopCovers first.now)
         (IsMoved view.now.pairs (TopCovers second.now)) at.0 at.1 at.2)) }
 {
-    difference_by_groups(alloc, first, second, view, windows, most)
+    let pair = Pair {
+        first,
+        second,
+        view,
+    };
+    difference_by_groups(alloc, &pair, windows, most)
 }

@@ -14,3 +14,4 @@ pub mod Lines
 pub mod Masks
 pub mod Parts
 pub mod Hashings
+pub mod Gathered

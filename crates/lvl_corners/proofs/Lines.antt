@@ -1,19 +1,16 @@
 -- Digested Layers are read back from their lines.
 use Rattle.std.proofs.Common.{◌≡◌, ◌≢◌, ℕ, zero, suc, ◌+◌, ◌/◌, ◌%◌, ◌<◌, ◌≤◌, ◌^◌, List, [], ◌∷◌, ◌++◌, length}
-use Rattle.std.proofs.Common.{get_or, slice_index, codes, flat_map, All, refl, sym, ◌∙◌, ap, subst, arith, Bool, true, not}
+use Rattle.std.proofs.Common.{slice_index, codes, All, refl, sym, ◌∙◌, ap, subst, arith, Bool, true, not}
 use Rattle.std.proofs.Common.{◌==◌}
-use Rattle.std.specs.List.{list_all}
 use Rattle.std.specs.Int.{w32, to_be_bytes, byte_at}
 use Rattle.std.specs.Fmt.{decimal}
 use Rattle.std.proofs.lemmas.Fmt.{decimal_by_steps, decimal_injective}
 use Rattle.std.proofs.lemmas.List.{append_assoc, append_cancel_left}
 use Rattle.std.proofs.lemmas.List.Sums.{AllPass-from_list_all}
-use Rattle.std.proofs.lemmas.List.Elements.{All-nil, All-cons, All-head, All-tail, All-append, All-push, All-weaker}
+use Rattle.std.proofs.lemmas.List.Elements.{All-nil, All-cons, All-head, All-tail, All-push, All-weaker}
 use Rattle.hex.specs.Hex.{encode_lower, encode_with, lower_digits, decode_of, IsBytes}
 use Rattle.hex.proofs.HexLemmas.{decode_of-encode_lower}
 use Rattle.sha2.specs.Sha256.{sha256, digest_bytes}
-use Rattle.lvl_names.specs.declared.layer.Layer.{Layer}
-use Rattle.lvl_corners.specs.declared.digest.LayerDigest.{LayerDigest}
 use Rattle.lvl_corners.specs.declared.mask.DigestedLayer.{DigestedLayer}
 use Rattle.lvl_corners.specs.Masks.{digest_line, mask_lines}
 

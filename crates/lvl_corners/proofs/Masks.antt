@@ -1,9 +1,10 @@
 -- What the digests of two masks say about what they cover.
-use Rattle.std.proofs.Common.{◌≡◌, ◌≢◌, ◌↔◌, ◌⊎◌, ℕ, ◌<◌, ◌==◌, Bool, true, false, List, [], ◌∷◌, ◌++◌, length, get_or}
-use Rattle.std.proofs.Common.{min, ◌-◌, ◌^◌, flat_map, All, Any, Contains, Some, ℤ, pos, ◌-ℤ◌, inl, inr, refl, sym, ◌∙◌, ap, subst, arith}
+use Rattle.std.proofs.Common.{◌≡◌, ◌≢◌, ◌↔◌, ◌⊎◌, ℕ, ◌==◌, Bool, true, List, [], ◌∷◌, length, get_or}
+use Rattle.std.proofs.Common.{min, ◌-◌, ◌^◌, flat_map, All, Contains, ℤ, pos, ◌-ℤ◌, inl, inr, refl, sym, ◌∙◌, ap}
+use Rattle.std.proofs.Common.{subst, arith}
 use Rattle.std.proofs.lemmas.Bool.{cases_Bool}
 use Rattle.std.proofs.lemmas.List.{append_cancel_left}
-use Rattle.std.proofs.lemmas.List.Elements.{All-nil, All-cons, All-head, All-tail, Contains-get_or}
+use Rattle.std.proofs.lemmas.List.Elements.{All-nil, All-cons, All-head, All-tail}
 use Rattle.hex.specs.Hex.{IsBytes}
 use Rattle.sha2.specs.Sha256.{sha256}
 use Rattle.lvl_grid.specs.declared.point.Square.{Square}
@@ -12,9 +13,8 @@ use Rattle.lvl_names.specs.Layers.{ComesBefore}
 use Rattle.lvl_corners.specs.declared.corner.Corner.{Corner}
 use Rattle.lvl_corners.specs.declared.mask.DigestedLayer.{DigestedLayer}
 use Rattle.lvl_corners.specs.Bytes.{corner_bytes, layer_bytes, layer_head}
-use Rattle.lvl_corners.specs.Corners.{change_at, AreCornersOf, FitsCorner}
-use Rattle.lvl_corners.specs.Digests.{IsDigestFor}
-use Rattle.lvl_corners.specs.Masks.{Covers, IsDigested, AreDigests, mask_lines, CoverSame, Collide, CornersCollide}
+use Rattle.lvl_corners.specs.Corners.{change_at, AreCornersOf}
+use Rattle.lvl_corners.specs.Masks.{Covers, IsDigested, AreDigests, mask_lines, CoverSame, CornersCollide}
 use Rattle.lvl_corners.specs.Masks.{AreDecided}
 use Rattle.lvl_corners.proofs.Pairs.{in_first, one_order}
 use Rattle.lvl_corners.proofs.Deciding.{one_list, same_squares}

@@ -1,7 +1,7 @@
 -- The corners of two parts of a column, one above the other.
 use Rattle.std.proofs.Common.{◌≡◌, Bool, true, false, ◌||◌, List, [], ◌++◌, Some, None}
 use Rattle.std.proofs.Common.{ℤ, pos, ◌+ℤ◌, ◌-ℤ◌, ◌<ℤ◌, ◌≤ℤ◌, int_lt, int_le, ◌↔◌, inl, inr, Contains}
-use Rattle.std.proofs.Common.{refl, sym, ◌∙◌, ap, subst, arith}
+use Rattle.std.proofs.Common.{refl, sym, ◌∙◌, ap, arith}
 use Rattle.std.specs.Bool.{Decides}
 use Rattle.std.proofs.lemmas.Int.{ints, by_lt_z}
 use Rattle.std.proofs.lemmas.Bool.{and_parts, and_from, cases_Bool, or_cases, or_left, or_right}
@@ -23,7 +23,7 @@ pub record AreParts (P L U : Square → Type 0) (at : ℤ) : Type 0 where
   pub low : (s : Square) → L s ↔ ((s.y <ℤ at) × P s)
   pub high : (s : Square) → U s ↔ (((at -ℤ pos 1) ≤ℤ s.y) × P s)
 
-both_decide : (P L U : Square → Type 0) (at : ℤ) (h : AreParts P L U at) (c e : Square → Bool)
+pub both_decide : (P L U : Square → Type 0) (at : ℤ) (h : AreParts P L U at) (c e : Square → Bool)
     → ((s : Square) → Decides (c s) (L s)) → ((s : Square) → Decides (e s) (U s)) → (s : Square)
     → Decides (c s || e s) (P s)
 both_decide P L U at h c e l u s = (
@@ -36,7 +36,7 @@ both_decide P L U at h c e l u s = (
       (λ ge. or_right (c s) (e s) ((u s).1 ((h.high s).1 (omega (arith, ints, ge), p)))),
 )
 
-same_change : (c e : Square → Bool) (x y : ℤ) → ((u : ℤ) → c (record { x = u; y = y }) ≡ e (record { x = u; y = y }))
+pub same_change : (c e : Square → Bool) (x y : ℤ) → ((u : ℤ) → c (record { x = u; y = y }) ≡ e (record { x = u; y = y }))
     → ((u : ℤ) → c (record { x = u; y = y -ℤ pos 1 }) ≡ e (record { x = u; y = y -ℤ pos 1 }))
     → change_at c x y ≡ change_at e x y
 same_change c e x y here below =
@@ -187,45 +187,5 @@ corners_beyond P x ks left h =
               all.1,
               all.2,
             )),
-      );
-    }
-
--- a set that has no corners at the abscissas of a span has none at one of them, in any rows
-pub none_at : (P : Square → Type 0) (span rows : Span) (x : ℤ) → spanned span x ≡ true → AreCornersIn P span []
-    → AreCornersAt P x rows []
-none_at P span rows x inner h = record {
-  covered = h.covered;
-  is_covered = h.is_covered;
-  bounded = h.bounded;
-  rising = h.rising;
-  each = λ k. (
-    λ c. let none = c.1 in absurd (omega (arith, none)),
-    λ all. (h.each k).1 (subst (λ z. spanned span z ≡ true) (sym all.0) inner, all.2, all.3),
-  );
-}
-
--- a set that has no corners at any abscissa of a span, of which x is one, has none at all of them
-pub none_in : (P : Square → Type 0) (span : Span) (x : ℤ) → spanned span x ≡ true
-    → ((z : ℤ) → spanned span z ≡ true → AreCornersAt P z whole []) → AreCornersIn P span []
-none_in P span x inner none =
-    let h = none x inner in
-    record {
-      covered = h.covered;
-      is_covered = h.is_covered;
-      bounded = h.bounded;
-      rising = h.rising;
-      each = λ k. (
-        λ c. let gone = c.1 in absurd (omega (arith, gone)),
-        λ all.
-            let other = none k.x all.0 in
-            let same : (s : Square) → h.covered s ≡ other.covered s = λ s. same_from_decides (h.covered s)
-            (other.covered s) (h.is_covered s) (other.is_covered s) in
-            (other.each k).1 (
-              refl,
-              refl,
-              all.1,
-              all.2 ∙ same_change h.covered other.covered k.x k.y (λ u. same (record { x = u; y = k.y }))
-                  (λ u. same (record { x = u; y = k.y -ℤ pos 1 })),
-            ),
       );
     }

@@ -95,7 +95,7 @@ both_decide P L R at h c e l r s = (
       (λ ge. or_right (c s) (e s) ((r s).1 ((h.right s).1 (omega (arith, ints, ge), p)))),
 )
 
-same_change : (c e : Square → Bool) (x y : ℤ) → ((v : ℤ) → c (record { x = x; y = v }) ≡ e (record { x = x; y = v }))
+pub same_change : (c e : Square → Bool) (x y : ℤ) → ((v : ℤ) → c (record { x = x; y = v }) ≡ e (record { x = x; y = v }))
     → ((v : ℤ) → c (record { x = x -ℤ pos 1; y = v }) ≡ e (record { x = x -ℤ pos 1; y = v }))
     → change_at c x y ≡ change_at e x y
 same_change c e x y here before =

@@ -5,3 +5,4 @@ pub mod Masks
 pub mod Digests
 pub mod inside
 pub mod Parts
+pub mod Gathered

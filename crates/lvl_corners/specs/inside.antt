@@ -5,3 +5,4 @@ pub mod Budgets
 pub mod Hashing
 pub mod Begun
 pub mod Sinks
+pub mod Parts

@@ -4,7 +4,7 @@ ghost use Rattle.std.specs.Ordering.{int_eq};
 ghost use Rattle.lvl_grid.specs.Winding.{SomeCovers};
 ghost use Rattle.lvl_sweep.specs.Bands.{slab_of};
 ghost use Rattle.lvl_corners.specs.inside.Marks.{net, signed, interval_step, row_step, band_net};
-ghost use Rattle.lvl_corners.specs.inside.Marks.{AreInOrder, AreMarksAt, AreMarksOf};
+ghost use Rattle.lvl_corners.specs.inside.Marks.{AreInOrder, AreMarksOf};
 ghost use Rattle.lvl_corners.specs.Spans.{spanned};
 ghost use Rattle.lvl_corners.specs.inside.Rows.{ended_net};
 
@@ -40,7 +40,7 @@ fn push_interval(
 }
 
 /// Appends the ends of all intervals, as [`push_interval`] does.
-fn push_row(
+pub(crate) fn push_row(
     marks: &mut Vec<Mark>,
     y: i64,
     intervals: &[(i64, i64)],
@@ -140,7 +140,7 @@ fn push_rows(marks: &mut Vec<Mark>, row: &Row, band: &Band) -> Result<(), AllocE
 
 /// Appends the corners of the rectangles of the last band, in the row at which it ends, and of the
 /// next one, in the row at which it begins. The row is then the one at which the next one ends.
-fn push_band(marks: &mut Vec<Mark>, row: &mut Row, band: &Band) -> Result<(), AllocError>
+pub(crate) fn push_band(marks: &mut Vec<Mark>, row: &mut Row, band: &Band) -> Result<(), AllocError>
     ensures { OnOk result ((x y : ℤ) → net x y marks.new.items +ℤ ended_net x y row.new
         ≡ (net x y marks.old.items +ℤ ended_net x y row.old) +ℤ band_net x y (slab_of band.now)) }
 {
@@ -198,27 +198,6 @@ pub(crate) fn marks_of<R: RingList>(
     ensures order { IfOk result (λ marks. AreInOrder marks.items) }
 {
     let mut marks = marks_within(alloc, rings, span)?;
-    marks.sort_unstable_by_key(|mark| (mark.x, mark.y));
-    Ok(marks)
-}
-
-/// The corners, at one abscissa and at the ordinates of some rows, of all rectangles of the bands of
-/// rings, in order.
-pub(crate) fn marks_at<R: RingList>(
-    alloc: Global,
-    rings: &R,
-    x: i64,
-    rows: Span,
-) -> Result<Vec<Mark>, AllocError>
-    ensures marks { IfOk result (λ marks. AreMarksAt (SomeCovers (R.rings rings.now)) x rows marks.items) }
-    ensures order { IfOk result (λ marks. AreInOrder marks.items) }
-{
-    let from = Span {
-        from: Some(x),
-        below: None,
-    };
-    let mut marks = marks_within(alloc, rings, from)?;
-    marks.retain(|mark| mark.x == x && rows.has(mark.y));
     marks.sort_unstable_by_key(|mark| (mark.x, mark.y));
     Ok(marks)
 }

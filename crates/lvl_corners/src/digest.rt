@@ -1,9 +1,11 @@
 //! The digest of a Layer.
-ghost use Rattle.std.specs.Prelude.{◌≡◌, [], List, IfOk, OnOk, OnErr, All};
+ghost use Rattle.std.specs.Prelude.{◌≡◌, Bool, [], List, IfOk, IsTrue, OnOk, OnErr, All};
 ghost use Rattle.std.specs.String.{string_bytes};
+ghost use Rattle.lvl_grid.specs.declared.point.Square.{Square as GridSquare};
 ghost use Rattle.lvl_grid.specs.Winding.{SomeCovers};
 ghost use Rattle.lvl_corners.specs.declared.corner.Corner.{Corner as GridCorner};
 ghost use Rattle.lvl_corners.specs.Corners.{FitsCorner};
+ghost use Rattle.lvl_corners.specs.Gathered.{AreMoreGathered, HasGathered, IsLowered};
 ghost use Rattle.lvl_corners.specs.Parts.{AreCornersAt};
 ghost use Rattle.lvl_corners.specs.Spans.{AreCornersIn};
 ghost use Rattle.lvl_corners.specs.Bytes.{layer_head, BytesDecide};
@@ -14,7 +16,9 @@ ghost use Rattle.lvl_corners.specs.declared.hashing.LayerHashing.{LayerHashing a
 
 use crate::columns::send_corners_in;
 use crate::hashing::LayerHashing;
-use crate::send::send_rows;
+use crate::mark::Mark;
+use crate::part::{Found, drop_from, marks_near, push_right, sort_at, sort_within};
+use crate::send::send_sums;
 use crate::span::Span;
 use lvl_grid::Rings;
 use lvl_names::Layer;
@@ -41,12 +45,14 @@ fn head_of(alloc: Global, layer: Layer) -> Result<String, AllocError>
 ///
 /// The bytes of a Layer are "layer L datatype D", a line feed, and the corners in order of `x` and
 /// then `y`: for each, `x` and `y`, eight bytes each, and its change, one byte, in two's complement
-/// with the high byte first (own rule). It takes some two hundred bytes, whatever is hashed.
+/// with the high byte first (own rule). It takes some two hundred bytes, whatever
+/// is hashed, besides what is gathered.
 #[derive(Drop)]
 pub struct LayerHash {
     layer: Layer,
     hasher: Sha256,
     corners: u64,
+    right: Vec<Mark>,
 }
 
 impl LayerHash {
@@ -62,6 +68,7 @@ impl LayerHash {
             layer,
             hasher,
             corners: 0,
+            right: Vec::new(alloc),
         })
     }
 
@@ -84,6 +91,7 @@ impl LayerHash {
         ensures taken { (begun : GridHashing) (corners : List GridCorner) → IsBegun self.old begun
             → HasTaken begun hashing corners → HashesOn self.old self.new corners }
         ensures layer { self.new.layer ≡ self.old.layer }
+        ensures right { self.new.right ≡ self.old.right }
     {
         hashing.flush();
         self.corners = hashing.count();
@@ -110,32 +118,85 @@ impl LayerHash {
         Ok(())
     }
 
-    /// Hashes the corners of what the rings cover at one abscissa and at the ordinates of some rows,
-    /// as the next ones. So a column may be hashed part by part, from below, as [`parts_append`]
-    /// says. The rings must cover what the Layer does left and right of the abscissa, in the rows and
-    /// in the one below them. Fails only if out of memory, and then the hash is unchanged.
+    /// Hashes the corners of what the rings cover at the abscissa `x` and at the ordinates of some rows, as
+    /// the next ones, and gathers those right of it. So a strip may be hashed part by part, from below, as
+    /// [`parts_append`] says. The rings must cover what the Layer does from one column left of `x` up to
+    /// `end`, in the rows and in the one below them.
+    ///
+    /// Only those left of `end` are gathered, which is lowered if there are more than there is room for.
+    /// Returns it; those that were gathered at or beyond it, also before, are dropped. Fails only if out of
+    /// memory, and then the hash is of no use.
     ///
     /// [`parts_append`]: crate::parts_append
-    pub fn push_rows(
+    pub fn push_part(
         &mut self,
         alloc: Global,
         rings: &Rings,
         x: i64,
+        end: i64,
         rows: Span,
-    ) -> Result<(), AllocError>
+        room: usize,
+    ) -> Result<i64, AllocError>
         ensures hashed { OnOk result ((corners : List GridCorner)
             × AreCornersAt (SomeCovers rings.now) x rows corners
             × All FitsCorner corners
             × HashesOn self.old self.new corners) }
+        ensures gathered { IfOk result (λ stop.
+            AreMoreGathered (SomeCovers rings.now) x stop rows self.old self.new) }
+        ensures lowered { IfOk result (IsLowered x end) }
         ensures layer { self.new.layer ≡ self.old.layer }
-        ensures err { OnErr result (self.new ≡ self.old) }
     {
+        drop_from(&mut self.right, end);
         if rings.is_empty() {
-            return Ok(());
+            return Ok(end);
         }
+        let Found { mut marks, end } = marks_near(alloc, rings, x, end, room)?;
+        push_right(&mut self.right, &marks, x, end, rows)?;
+        sort_at(&mut marks, x, rows);
         let mut hashing = self.begun(alloc)?;
-        send_rows(alloc, rings, x, rows, &mut hashing)?;
+        send_sums(&marks, &mut hashing)?;
         self.put(hashing);
+        Ok(end)
+    }
+
+    /// The number of points at which something was gathered by [`LayerHash::push_part`], or more.
+    pub fn gathered(&self) -> usize {
+        self.right.len()
+    }
+
+    /// Appends the abscissas of these points.
+    pub fn push_abscissas(&self, abscissas: &mut Vec<i64>) -> Result<(), AllocError> {
+        for mark in &self.right {
+            abscissas.push(mark.x)?;
+        }
+        Ok(())
+    }
+
+    /// Drops what was gathered.
+    pub fn clear_gathered(&mut self)
+        ensures none { self.new.right.items ≡ [] }
+        ensures same { HashesOn self.old self.new [] }
+        ensures layer { self.new.layer ≡ self.old.layer }
+    {
+        self.right.clear();
+    }
+
+    /// Hashes the gathered corners that are at the abscissas of a span, as the next ones, and drops all.
+    /// Fails only if out of memory.
+    pub fn push_gathered(&mut self, alloc: Global, span: Span) -> Result<(), AllocError>
+        requires { (covered : GridSquare → Bool) × HasGathered covered span self.old }
+        ensures hashed { OnOk result ((covered : GridSquare → Bool) → HasGathered covered span self.old
+            → (corners : List GridCorner)
+            × AreCornersIn (λ s. IsTrue (covered s)) span corners
+            × All FitsCorner corners
+            × HashesOn self.old self.new corners) }
+        ensures layer { self.new.layer ≡ self.old.layer }
+    {
+        sort_within(&mut self.right, span);
+        let mut hashing = self.begun(alloc)?;
+        send_sums(&self.right, &mut hashing)?;
+        self.put(hashing);
+        self.right = Vec::new(alloc);
         Ok(())
     }
 

@@ -18,7 +18,6 @@
 //! ```
 #![tactic(auto)]
 
-pub use any::has_corners_in;
 pub use columns::{send_corners, send_corners_in};
 pub use corner::Corner;
 pub use digest::{LayerDigest, LayerHash, bytes_decide};
@@ -27,7 +26,6 @@ pub use same::{corners_of, cover_same};
 pub use sink::CornerSink;
 pub use span::{Span, parts_append, strips_append};
 
-mod any;
 mod bands;
 mod columns;
 mod corner;
@@ -36,6 +34,7 @@ mod digest;
 mod hashing;
 mod mark;
 mod mask;
+mod part;
 mod same;
 mod send;
 mod sink;

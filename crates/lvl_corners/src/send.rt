@@ -5,11 +5,10 @@ ghost use Rattle.lvl_grid.specs.Winding.{SomeCovers};
 ghost use Rattle.lvl_corners.specs.declared.corner.Corner.{Corner as GridCorner};
 ghost use Rattle.lvl_corners.specs.Corners.{FitsCorner};
 ghost use Rattle.lvl_corners.specs.inside.Marks.{net, change_of, AreInOrder};
-ghost use Rattle.lvl_corners.specs.Parts.{AreCornersAt};
 ghost use Rattle.lvl_corners.specs.Spans.{AreCornersIn};
 ghost use Rattle.lvl_corners.specs.inside.Sums.{IsAt, Steps, AreTotals};
 
-use crate::bands::{marks_at, marks_of};
+use crate::bands::marks_of;
 use crate::mark::Mark;
 use crate::sink::CornerSink;
 use crate::span::Span;
@@ -35,7 +34,7 @@ fn step<S: CornerSink>(sum: Sum, mark: Mark, sink: &mut S) -> Result<Sum, AllocE
 }
 
 /// Sends a corner for each point at which the sum of the changes of the marks isn't 0.
-fn send_sums<S: CornerSink>(marks: &[Mark], sink: &mut S) -> Result<(), AllocError>
+pub(crate) fn send_sums<S: CornerSink>(marks: &[Mark], sink: &mut S) -> Result<(), AllocError>
     requires order { AreInOrder marks.now }
     requires small { (x y : ℤ) → FitsSigned w8 (net x y marks.now) }
     ensures { OnOk result ((sent : List GridCorner)
@@ -68,25 +67,6 @@ pub(crate) fn send_swept<R: RingList, S: CornerSink>(
         × AreCornersIn (SomeCovers (R.rings rings.now)) span corners) }
 {
     let marks = marks_of(alloc, rings, span)?;
-    send_sums(&marks, sink)?;
-    Ok(())
-}
-
-/// Sends the corners of what the rings cover, at one abscissa and at the ordinates of some rows, to a
-/// sink, from below, by one sweep.
-pub(crate) fn send_rows<R: RingList, S: CornerSink>(
-    alloc: Global,
-    rings: &R,
-    x: i64,
-    rows: Span,
-    sink: &mut S,
-) -> Result<(), AllocError>
-    ensures { OnOk result ((corners : List GridCorner)
-        × S.takes sink.old sink.new corners
-        × All FitsCorner corners
-        × AreCornersAt (SomeCovers (R.rings rings.now)) x rows corners) }
-{
-    let marks = marks_at(alloc, rings, x, rows)?;
     send_sums(&marks, sink)?;
     Ok(())
 }

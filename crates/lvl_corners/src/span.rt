@@ -2,6 +2,7 @@
 ghost use Rattle.std.specs.Prelude.{◌≡◌, ◌<ℤ◌, negsuc, ◌-◌, ◌^◌, true, Some, IsTrue};
 ghost use Rattle.lvl_sweep.specs.Ahead.{is_from};
 ghost use Rattle.lvl_corners.specs.Spans.{is_below, spanned, whole, left_part, right_part, StripsAppend};
+ghost use Rattle.lvl_corners.specs.Gathered.{GatheredAppend, GatheredLeft};
 ghost use Rattle.lvl_corners.specs.Parts.{PartsAppend, PartsAreAll};
 
 /// The abscissas (or ordinates) from `from` on, if it is given, and below `below`, if that is given.
@@ -89,8 +90,11 @@ pub fn strips_append()
 
 /// A law, for proofs: corners at one abscissa are found part by part. Those below an ordinate are those
 /// of the squares below it, the others those of the squares from one row before it on, and both lists,
-/// one after the other, are the corners at that abscissa. The call does nothing.
+/// one after the other, are the corners at that abscissa. So are those right of it that are gathered, up to
+/// an end that is lowered meanwhile. The call does nothing.
 pub fn parts_append()
     ensures append { PartsAppend }
     ensures all { PartsAreAll }
+    ensures gathered { GatheredAppend }
+    ensures left { GatheredLeft }
 {}

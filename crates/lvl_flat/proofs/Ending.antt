@@ -121,15 +121,17 @@ filled_if (ring ∷ rings) false e =
     absurd (omega arith)
 
 -- one more sheet, which is left out if it has no rings
-pub filled_step : (ss filled all rest rest' : List PlainSheet) (s : PlainSheet) (b : Bool)
-    → (length s.rings == 0) ≡ not b → (filled ≡ filter is_filled ss) × (ss ++ rest ≡ all) → rest ≡ s ∷ rest'
-    → (filled ++ cond b (s ∷ []) [] ≡ filter is_filled (ss ++ s ∷ [])) × ((ss ++ s ∷ []) ++ rest' ≡ all)
-filled_step ss filled all rest rest' s b e so next = (
-  ap (λ fs. fs ++ cond b (s ∷ []) []) so.0
-      ∙ sym (filter-append is_filled ss (s ∷ [])
-      ∙ ap (λ t. filter is_filled ss ++ cond t (s ∷ []) []) (filled_if s.rings b e)),
-  append_assoc ss (s ∷ []) rest' ∙ (ap (λ r. ss ++ r) (sym next) ∙ so.1),
-)
+pub filled_step : (ss filled : List PlainSheet) (s : PlainSheet) (b : Bool) → (length s.rings == 0) ≡ not b
+    → filled ≡ filter is_filled ss → filled ++ cond b (s ∷ []) [] ≡ filter is_filled (ss ++ s ∷ [])
+filled_step ss filled s b e so =
+    ap (λ fs. fs ++ cond b (s ∷ []) []) so
+    ∙ sym (filter-append is_filled ss (s ∷ [])
+    ∙ ap (λ t. filter is_filled ss ++ cond t (s ∷ []) []) (filled_if s.rings b e))
+
+-- the sheets that are left after one more
+pub sheets_go : (all ss rest rest' : List PlainSheet) (s : PlainSheet) → ss ++ rest ≡ all → rest ≡ s ∷ rest'
+    → (ss ++ s ∷ []) ++ rest' ≡ all
+sheets_go all ss rest rest' s parts next = append_assoc ss (s ∷ []) rest' ∙ (ap (λ r. ss ++ r) (sym next) ∙ parts)
 
 -- with no visit left, what the top covers in the scope is drawn
 covered : (s : Settled) (layers : List Layer) (scope : Scope) (sheets : List PlainSheet)

@@ -43,6 +43,16 @@ pub(crate) fn bounds_of_shape_shifts(shapes: &Shapes, i: usize) -> Bounds
     }
 }
 
+/// The box of the shifts of a reference.
+pub(crate) fn bounds_of_places(reference: &KeptReference<'_>) -> Bounds
+    ensures { All (HoldsPoint result) reference.now.shifts }
+{
+    match reference.shifts() {
+        Some(shifts) => bounds_of_shifts(shifts),
+        None => Bounds::around(ORIGIN),
+    }
+}
+
 /// The bounds, widened to have the points of a ring after a move by any displacement in `shifts`,
 /// or None if a corner would be outside 64 bits.
 fn hold_ring(bounds: Bounds, ring: &MovedRing<'_>, shifts: Bounds) -> Option<Bounds>
@@ -101,7 +111,7 @@ fn hold_reference(bounds: Bounds, reference: &KeptReference<'_>, target: Bounds)
         → All (λ e. HoldsPoint held (image (map_at reference.now e) p)) reference.now.shifts) }
 {
     let placed = placed_by(target, reference)?;
-    let everywhere = placed.moved(bounds_of_shifts(reference.shifts()))?;
+    let everywhere = placed.moved(bounds_of_places(reference))?;
     Some(bounds.joined(everywhere))
 }
 
@@ -180,7 +190,7 @@ impl Boxes {
         }
     }
 
-    /// The same boxes, which aren't copied.
+    /// A handle on these boxes, which aren't copied.
     pub(crate) fn shared(&self) -> Result<Boxes, AllocError>
         ensures { IfOk result (λ boxes. boxes ≡ self.now) }
     {

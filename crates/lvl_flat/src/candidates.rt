@@ -10,7 +10,7 @@ ghost use Rattle.lvl_flat.specs.inside.Bounds.{HoldsOwn};
 ghost use Rattle.lvl_flat.specs.inside.Parts.{HasParts, MissesPart};
 
 use crate::bounds::Bounds;
-use crate::boxes::{Boxes, bounds_of_shifts, hold_shape, placed_by};
+use crate::boxes::{Boxes, bounds_of_places, hold_shape, placed_by};
 use crate::estimate::{Count, Measures};
 use crate::indexes::Indexes;
 use lvl_cells::{Checked, Shapes};
@@ -61,7 +61,7 @@ fn bounds_of_reference(checked: &Checked, boxes: &Boxes, j: usize) -> Option<Bou
     let target = checked.target(top, j)?;
     let reference = checked.cell(top).references.get(j)?;
     let placed = placed_by(boxes.get(target)?, &reference)?;
-    placed.moved(bounds_of_shifts(reference.shifts()))
+    placed.moved(bounds_of_places(&reference))
 }
 
 /// A box that has all squares that the own shape or the reference at this index of the top covers,

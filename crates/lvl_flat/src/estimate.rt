@@ -132,7 +132,7 @@ fn points_of_cell(checked: &Checked, cell: usize, known: &[u64]) -> u64 {
             return points;
         };
         let inner = known.get(target).copied().unwrap_or(0);
-        let count = place.references.reference(j).shifts().len();
+        let count = place.references.reference(j).shift_count();
         points = points.saturating_add(inner.saturating_mul(count));
     }
     points
@@ -165,7 +165,7 @@ impl Measures {
         }
     }
 
-    /// The same sizes, which aren't copied.
+    /// A handle on these sizes, which aren't copied.
     pub(crate) fn shared(&self) -> Result<Measures, AllocError> {
         let points = self.points.clone()?;
         Ok(Measures { points })
@@ -185,7 +185,7 @@ impl Measures {
         let target = checked.target(top, j).unwrap_or(usize::MAX);
         let inner = self.points.get(target).copied().unwrap_or(0);
         let places = match checked.cell(top).references.get(j) {
-            Some(reference) => reference.shifts().len(),
+            Some(reference) => reference.shift_count(),
             None => 0,
         };
         Size {

@@ -22,7 +22,9 @@ pub(crate) fn pass_by(checked: &Checked, boxes: &Boxes, window: &Window, visit: 
         return visit;
     }
     let reference = cell.references.reference(visit.reference);
-    let shifts = reference.shifts();
+    let Some(shifts) = reference.shifts() else {
+        return visit;
+    };
     if shifts.len() < visit.place || shifts.len() - visit.place < LEAST_RUN {
         return visit;
     }

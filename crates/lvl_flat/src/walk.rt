@@ -28,7 +28,7 @@ pub fn placing_at(reference: &KeptReference<'_>, place: u64) -> Option<Map>
     ensures some { IfSome result (λ m. IsPlacing reference.now place m) }
     ensures none { IfNone result (slice_get reference.now.shifts place ≡ None) }
 {
-    let shift = reference.shifts().at(place)?;
+    let shift = reference.shift(place)?;
     let at = reference.at();
     Some(Map {
         flip: reference.flip(),
@@ -57,7 +57,7 @@ pub(crate) fn next_step(checked: &Checked, visit: &Visit) -> Step
         return Step::Done;
     }
     let reference = cell.references.reference(visit.reference);
-    if visit.place >= reference.shifts().len() {
+    if visit.place >= reference.shift_count() {
         return Step::Past(Visit {
             reference: visit.reference + 1,
             place: 0,
@@ -104,7 +104,7 @@ pub(crate) fn is_done(checked: &Checked, visit: &Visit) -> bool
 {
     let cell = &checked.cells()[visit.cell];
     if let Some(reference) = cell.references.get(visit.reference) {
-        if visit.place < reference.shifts().len() {
+        if visit.place < reference.shift_count() {
             return false;
         }
     }

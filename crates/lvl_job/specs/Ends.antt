@@ -47,7 +47,7 @@ view_form WindowText = codes "\nlvl: --window takes x=A..B,y=C..D\n"
 view_form (MapTwice layer) = codes "\n"
 view_form EmptyWindow = codes "\n"
 
--- the same for a fault of what is ignored
+-- the rest of the line of a fault of what is ignored, and a line with the form that was expected
 abbrev pub ignore_form : List ℕ
 ignore_form = codes "\nlvl: --ignore takes properties, texts, names, padding, points or all, joined by commas\n"
 

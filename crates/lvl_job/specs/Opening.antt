@@ -19,7 +19,7 @@ abbrev pub why_unopened : JobFault → OpenFault
 why_unopened (NotOpened name why) = why
 why_unopened fault = Other
 
--- the same where a job reports it
+-- what opening a file gave, as a job reports it
 abbrev pub held_by_job : {F : Type 0} → (F → Option (List ℕ)) → Result F JobFault → Opened
 held_by_job remaining (Ok file) = Ok (remaining file)
 held_by_job remaining (Err fault) = Err (why_unopened fault)

@@ -103,7 +103,7 @@ fn compare_tops<'a>(alloc: Global) -> Result<Command<'a>, AllocError>
         .arg(option(alloc, "top-b", "NAME", "The second layout's top cell"))
 }
 
-/// The same with `[--map PAIRS] [--window RANGES] [--ignore WORDS] [--large] [--unpack] [--why] [--units]`.
+/// `compare A B`, tops, `[--map PAIRS] [--window RANGES] [--ignore WORDS] [--large] [--unpack] [--why] [--units]`.
 fn compare<'a>(alloc: Global) -> Result<Command<'a>, AllocError>
     ensures { IfOk result (λ c. app_of c ≡ compare_app) }
 {
@@ -143,7 +143,7 @@ fn several<'a>(alloc: Global) -> Result<Command<'a>, AllocError>
         .arg(flag(alloc, "unpack", UNPACK_HELP))
 }
 
-/// The same with `[--list] [--check] [--quiet]`.
+/// `digest` with these options and `[--list] [--check] [--quiet]`.
 fn digest<'a>(alloc: Global) -> Result<Command<'a>, AllocError>
     ensures { IfOk result (λ c. app_of c ≡ digest_app) }
 {
@@ -185,7 +185,7 @@ fn comparing<'a>(alloc: Global) -> Result<Command<'a>, AllocError>
         .subcommand(watched(alloc, compare(alloc)?)?)
 }
 
-/// The same with the subcommands `show` and `digest`.
+/// A line with the subcommands `compare`, `show` and `digest`.
 fn hashing<'a>(alloc: Global) -> Result<Command<'a>, AllocError>
     ensures { IfOk result (λ c. app_of c ≡ hashing_line) }
 {

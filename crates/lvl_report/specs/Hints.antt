@@ -60,7 +60,7 @@ reads_spelling profile (Record (UnsupportedId id)) = is_ok (record_type profile 
 reads_spelling profile (Figure (OasisPath RepeatedPoint)) = profile.ignore.points
 reads_spelling profile kind = false
 
--- the same for a file of either format
+-- whether that for which a file of either format is refused is read under the profile
 abbrev pub is_read_by : Profile → FileFault → Bool
 is_read_by profile (Gds fault) = reads_record profile fault.kind
 is_read_by profile (Oasis (At offset kind)) = reads_spelling profile kind
@@ -91,7 +91,7 @@ lifts_gds given (Element Repetition) = nat_lt given.array large.array
 lifts_gds given TooManyStructures = nat_lt given.cells large.cells
 lifts_gds given kind = false
 
--- the same for an OASIS file
+-- whether an OASIS file is refused by a limit that is lower than the one for whole chips
 abbrev pub lifts_oasis : Limits → OasisKind → Bool
 lifts_oasis given (Value TooLong) = nat_lt given.file large.file
 lifts_oasis given (Block BlockTooLong) = nat_lt given.file large.file
@@ -99,7 +99,7 @@ lifts_oasis given (Value RepetitionSize) = nat_lt given.placed large.placed
 lifts_oasis given TooManyCells = nat_lt given.cells large.cells
 lifts_oasis given kind = false
 
--- the same for a file of either format
+-- whether a file of either format is refused by a limit that is lower than the one for whole chips
 abbrev pub lifts_file : Limits → FileFault → Bool
 lifts_file given (Gds fault) = lifts_gds given fault.kind
 lifts_file given (Oasis (At offset kind)) = lifts_oasis given kind

@@ -134,7 +134,7 @@ fn lifts_gds(given: Limits, kind: &GdsKind) -> bool
     }
 }
 
-/// The same for an OASIS file.
+/// Whether an OASIS file is refused by a limit that is lower than the one for whole chips.
 fn lifts_oasis(given: Limits, kind: &OasisKind) -> bool
     ensures { result ≡ lifts_oasis given kind.now }
 {
@@ -147,7 +147,7 @@ fn lifts_oasis(given: Limits, kind: &OasisKind) -> bool
     }
 }
 
-/// The same for a file of either format.
+/// Whether a file of either format is refused by a limit that is lower than the one for whole chips.
 fn lifts_file(given: Limits, fault: &FileFault) -> bool
     ensures { result ≡ lifts_file given fault.now }
 {

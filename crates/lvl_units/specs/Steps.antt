@@ -36,7 +36,8 @@ pub record IsDoubleStep (real : ℕ) (f : Fraction) : Type 0 where
   pub finite : real / 2 ^ 52 < 2047
   pub is : IsQuotient f (2 ^ 1075) ((2 ^ 52 + real % 2 ^ 52) * 2 ^ (real / 2 ^ 52) * 10 ^ 6)
 
--- the same of 32 bits: eight bits of an exponent in excess of 127, and 23 bits of a fraction
+-- the length of a step, given steps in a micrometre as a number of IEEE 754 of 32 bits: a sign, eight bits of an
+-- exponent in excess of 127, and 23 bits of a fraction
 pub record IsFloatStep (real : ℕ) (f : Fraction) : Type 0 where
   pub positive : real < 2 ^ 31
   pub normal : 0 < real / 2 ^ 23

@@ -50,7 +50,7 @@ fn box_of(ring: &MovedRing<'_>) -> (Point, Point)
     (low, high)
 }
 
-/// The same of the ring moved by a displacement.
+/// The lower left and the upper right corner of the box of a ring after a move by a displacement.
 pub(crate) fn moved_box_of(ring: &MovedRing<'_>, by: Point) -> (WidePoint, WidePoint)
     requires { IsRing ring.now }
     ensures { IsBoxOf (as_point result.0) (as_point result.1) (map (shifted by) ring.now) }

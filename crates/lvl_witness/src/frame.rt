@@ -3,7 +3,7 @@ ghost use Rattle.std.specs.Prelude.{◌≡◌};
 ghost use Rattle.lvl_witness.specs.inside.Moves.{begun, IsMove, IsReached};
 
 use crate::areas::area_of_reference;
-use crate::places::next_place;
+use crate::places::next_place_of;
 use crate::wide::pulled;
 use crate::witness::Step;
 use lvl_flat::{Fitted, placing_at};
@@ -54,10 +54,10 @@ pub(crate) fn next_move(fitted: &Fitted, frame: &Frame, square: Square) -> Move
         return Move::Out;
     }
     let reference = references.reference(frame.reference);
-    let places = reference.shifts().len();
+    let places = reference.shift_count();
     let cell = checked.target_of(frame.cell, frame.reference);
     let area = area_of_reference(fitted, cell, &reference, pulled(&frame.map, square));
-    let place = next_place(reference.shifts(), frame.place, area);
+    let place = next_place_of(&reference, frame.place, area);
     let Some(by) = placing_at(&reference, place) else {
         return Move::Past(Frame {
             reference: frame.reference + 1,

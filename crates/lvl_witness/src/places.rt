@@ -4,6 +4,7 @@ ghost use Rattle.lvl_witness.specs.inside.Areas.{AreApart, IsSmallArea};
 
 use crate::areas::Area;
 use crate::lattice::{lattice_of, next_in_lattice};
+use lvl_cells::KeptReference;
 use lvl_names::Offsets;
 
 /// The fewest places of a lattice for which there is arithmetic. Fewer are as fast one by one.
@@ -42,5 +43,17 @@ pub(crate) fn next_place(shifts: &Offsets, from: u64, area: Option<Area>) -> u64
     match lattice_of(shifts) {
         Some(lattice) => next_in_lattice(shifts, &lattice, from, &area),
         None => next_listed(shifts, from, &area),
+    }
+}
+
+/// The place of the reference's next shift in the area, from place `from` on, as [`next_place`] finds it.
+pub(crate) fn next_place_of(reference: &KeptReference<'_>, from: u64, area: Option<Area>) -> u64
+    requires { IfSome area (IsSmallArea 70) }
+    ensures on { from ≤ result }
+    ensures apart { AreApart reference.now.shifts from result area }
+{
+    match reference.shifts() {
+        Some(shifts) => next_place(shifts, from, area),
+        None => next_place(&Offsets::single(), from, area),
     }
 }

@@ -33,6 +33,7 @@ pub use unpacked::Unpacked;
 mod block;
 mod fault;
 mod slice;
+mod stored;
 #[cfg(test)]
 mod tests;
 mod unpack;

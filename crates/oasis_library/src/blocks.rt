@@ -19,7 +19,7 @@ use oasis_stream::{OasisKind, read_inside};
 use oasis_values::{Input, ValueFault};
 use std::alloc::Global;
 
-/// The same refusal, with a rule of blocks as one of the file.
+/// A refusal with a rule of blocks, as one of the file.
 fn of_block(refusal: Cause<BlockRule>) -> Cause<OasisKind>
     ensures { result ≡ of_block refusal }
 {
@@ -29,7 +29,7 @@ fn of_block(refusal: Cause<BlockRule>) -> Cause<OasisKind>
     }
 }
 
-/// The same refusal, as that of a block: one that ends within a record has too few bytes.
+/// A refusal inside a block, as that of the block: one that ends within a record has too few bytes.
 fn in_block(refusal: Cause<OasisKind>) -> Cause<OasisKind>
     ensures { result ≡ in_block refusal }
 {
@@ -45,7 +45,7 @@ fn in_block(refusal: Cause<OasisKind>) -> Cause<OasisKind>
 fn take_inside(
     alloc: Global,
     reading: &mut Reading,
-    input: &mut Input<Unpacked<'_>>,
+    input: &mut Input<Unpacked>,
     count: u64,
 ) -> Result<(), Cause<OasisKind>>
     requires held { (rs : List ARecord) × Holds reading.old rs }
@@ -70,34 +70,40 @@ fn take_inside(
     Ok(())
 }
 
-/// Takes a block, unless it breaches a rule.
+/// Takes a block, unless it breaches a rule. Its records are read from `input`, which begins anew for each block: to
+/// make one costs more than a small block.
 fn take_block(
     alloc: Global,
     reading: &mut Reading,
-    packed: &Block,
+    input: &mut Input<Unpacked>,
+    packed: Block,
     profile: Profile,
 ) -> Result<(), Cause<OasisKind>>
     requires { (is : List Item) × HasRead profile reading.old is }
     ensures refused { IfErr result (λ e. Says e (λ kind.
-        (is : List Item) → HasRead profile reading.old is → BlockBreaches profile is packed.now (cause kind))) }
+        (is : List Item) → HasRead profile reading.old is → BlockBreaches profile is packed (cause kind))) }
     ensures kept { OnOk result ((is : List Item) → HasRead profile reading.old is → (rs : List ARecord)
-        × HasInside profile is packed.now rs × HasRead profile reading.new (is ++ block packed.now rs ∷ [])) }
+        × HasInside profile is packed rs × HasRead profile reading.new (is ++ block packed rs ∷ [])) }
 {
+    let count = packed.count();
     let unpacked = match packed.unpack(alloc, &mut reading.unpacker, reading.room) {
         Ok(unpacked) => unpacked,
         Err(refusal) => return Err(of_block(refusal)),
     };
-    let count = packed.count();
-    let mut input = Input::new(unpacked, profile);
-    take_inside(alloc, reading, &mut input, count)?;
+    drop(input.begin(unpacked, profile));
+    take_inside(alloc, reading, input, count)?;
+    let taken = input.begin(Unpacked::new(alloc), profile);
+    reading.unpacker.take_back(taken);
     reading.room -= count;
     Ok(())
 }
 
-/// Takes the next record, or the records inside if it is a block, unless it breaches a rule.
+/// Takes the next record, or the records inside if it is a block, unless it breaches a rule. Those inside are read from
+/// `inside`.
 pub(crate) fn take_next(
     alloc: Global,
     reading: &mut Reading,
+    inside: &mut Input<Unpacked>,
     next: Record,
     profile: Profile,
 ) -> Result<(), Cause<OasisKind>>
@@ -107,8 +113,8 @@ pub(crate) fn take_next(
     ensures kept { OnOk result ((is : List Item) → HasRead profile reading.old is
         → IsKept profile is next reading.new) }
 {
-    if let Record::Block(packed) = &next {
-        return take_block(alloc, reading, packed, profile);
+    match next {
+        Record::Block(packed) => take_block(alloc, reading, inside, packed, profile),
+        next => reading.take(alloc, profile, next),
     }
-    reading.take(alloc, profile, next)
 }

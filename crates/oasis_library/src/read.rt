@@ -24,6 +24,7 @@ use lvl_cells::Library;
 use lvl_io::Read;
 use lvl_profile::Profile;
 use lvl_refusal::Cause;
+use oasis_blocks::Unpacked;
 use oasis_records::Record;
 use oasis_stream::{OasisKind, read_first, read_next};
 use oasis_values::{Input, ValueFault};
@@ -163,6 +164,7 @@ fn read_records<R: Read>(
         Ok(()) => {}
         Err(kind) => return Err(refuse(0, kind)),
     }
+    let mut inside = Input::new(Unpacked::new(alloc), profile);
     for _ in 0..u64::MAX {
         let offset = input.offset();
         let record = match read_next(input, alloc, reading.order()) {
@@ -170,7 +172,7 @@ fn read_records<R: Read>(
             Err(refusal) => return Err(refused_at(offset, refusal)),
         };
         let is_end = is_end(&record);
-        match take_next(alloc, reading, record, profile) {
+        match take_next(alloc, reading, &mut inside, record, profile) {
             Ok(()) => {}
             Err(refusal) => return Err(refused_at(offset, refusal)),
         }
@@ -231,7 +233,7 @@ fn refuse(offset: u64, kind: OasisKind) -> Cause<OasisFault>
     Cause::Breach(OasisFault::At { offset, kind })
 }
 
-// The same refusal, with an offset.
+// A refusal, with an offset.
 fn refused_at(offset: u64, refusal: Cause<OasisKind>) -> Cause<OasisFault>
     ensures { result ≡ refused_at offset refusal }
 {

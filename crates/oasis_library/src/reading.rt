@@ -36,7 +36,7 @@ pub(crate) struct Reading {
     pub(crate) room: u64,
 }
 
-// The same result, with a rule of names as one of the file.
+// A result with a rule of names, as one of the file.
 fn of_name(answer: Result<(), Cause<NameRule>>) -> Result<(), Cause<OasisKind>>
     ensures { result ≡ of_name answer }
 {
@@ -47,7 +47,7 @@ fn of_name(answer: Result<(), Cause<NameRule>>) -> Result<(), Cause<OasisKind>>
     }
 }
 
-// The same result, with a rule of figures as one of the file.
+// A result with a rule of figures, as one of the file.
 fn of_figure(
     answer: Result<Option<Drawn>, Cause<FigureRule>>,
 ) -> Result<Option<Drawn>, Cause<OasisKind>>

@@ -25,12 +25,12 @@ reported (Ok x) = Ok (Ok x)
 reported (Err OutOfMemory) = Err OutOfMemory
 reported (Err (Breach f)) = of_fault f
 
--- the same for a call that doesn't allocate
+-- the result of a call that doesn't allocate, as a result of the input
 abbrev pub reported_breach : {A : Type 0} → Result A RecordFault → Result (Result A RecordRule) (Cause ValueFault)
 reported_breach (Ok x) = Ok (Ok x)
 reported_breach (Err f) = of_fault f
 
--- the same for a call that tests no rule of records
+-- the result of a call that tests no rule of records, as a result of the input
 abbrev pub plain : {A : Type 0} → Result A (Cause ValueFault) → Result (Result A RecordRule) (Cause ValueFault)
 plain (Ok x) = Ok (Ok x)
 plain (Err e) = Err e
@@ -64,7 +64,8 @@ IsDenied {A = A} S xs (Ok (Err k)) = (x : A) → NoneAgrees S xs (Ok (Ok x))
 IsDenied S xs (Err OutOfMemory) = Unit {0}
 IsDenied {A = A} S xs (Err (Breach f)) = is_rule f ≡ true → (x : A) → NoneAgrees S xs (Ok (Ok x))
 
--- the same for a call
+-- if a call returns a rule that is breached, of records or of values, no bytes that spell a record agree with those at
+-- the front
 pub record Denies {R A : Type 0} (remaining : R → Option (List ℕ)) (S : Spelling (Result A RecordRule))
     (old : Input R) (r : Result (Result A RecordRule) (Cause ValueFault)) : Type 0 where
   pub none : has_failed old ≡ false → (xs : List ℕ) → bytes_left remaining old ≡ Some xs

@@ -78,7 +78,7 @@ fn read_padding_length<R: Read>(input: &mut Input<R>, has_offsets: bool) -> Resu
     input.unsigned()
 }
 
-// The same, and the number of bytes that they took.
+// Reads the offsets of tables, if they are here, and the length of the padding, and counts their bytes.
 fn read_padding<R: Read>(input: &mut Input<R>, has_offsets: bool) -> Result<Measured, ValueFault>
     requires { has_failed input.old ≡ false }
     ensures reads { Reads R.remaining R.read_errors R.lent
@@ -176,7 +176,7 @@ fn read_ending<R: Read>(input: &mut Input<R>, padding: u64) -> Result<Validation
     Ok(validation)
 }
 
-// The same, and tests that the record has 256 bytes.
+// Reads what comes after the length of the padding, and tests that the record has 256 bytes.
 fn end_of<R: Read>(
     input: &mut Input<R>,
     id_len: u64,

@@ -18,7 +18,7 @@ use oasis_values::{Input, Text, ValueFault};
 pub enum EntryType {
     /// A TEXTSTRING, a PROPNAME or a PROPSTRING with a string of this kind, which has the next number.
     String(Text),
-    /// The same with a number of its own.
+    /// A name or a string of this kind, which has a number of its own.
     NumberedString(Text),
     /// A LAYERNAME of layers and datatypes, or of text layers and text types.
     LayerName,
@@ -46,7 +46,7 @@ fn skip_x_name<R: Read>(input: &mut Input<R>) -> Result<(), ValueFault>
     input.skip_string(Text::B)
 }
 
-// The same with a number.
+// Reads an attribute, a string and a number.
 fn skip_numbered_x_name<R: Read>(input: &mut Input<R>) -> Result<(), ValueFault>
     ensures reads { Reads R.remaining R.read_errors R.lent IsNumberedXName input.old input.new (as_breach result) }
 {

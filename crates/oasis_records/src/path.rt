@@ -127,7 +127,7 @@ fn read_ends<R: Read>(input: &mut Input<R>) -> Result<Option<Ends>, RecordFault>
     Ok(Some(ends))
 }
 
-// The same, if the letter E is set.
+// Reads the scheme byte and the extensions, if the letter E is set.
 fn ends_if<R: Read>(input: &mut Input<R>, info: u8) -> Result<Option<Ends>, RecordFault>
     requires { has_failed input.old ≡ false }
     ensures reads { Reads R.remaining R.read_errors R.lent

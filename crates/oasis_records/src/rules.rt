@@ -18,7 +18,7 @@ pub(crate) fn must<T: Drop>(is_kept: bool, value: T, rule: RecordRule) -> Result
     }
 }
 
-/// The same result, if no rule of records was tested.
+/// The result of a call that tests no rule of records, as one that may.
 pub(crate) fn of_values<T: Drop>(
     answer: Result<T, Cause<ValueFault>>,
 ) -> Result<T, Cause<RecordFault>>
@@ -31,7 +31,7 @@ pub(crate) fn of_values<T: Drop>(
     }
 }
 
-/// The same for a call that doesn't allocate.
+/// The result of a call that neither tests a rule of records nor allocates, as one that may test one.
 pub(crate) fn no_rule<T: Drop>(answer: Result<T, ValueFault>) -> Result<T, RecordFault>
     ensures { reported_breach result ≡ plain (as_breach answer) }
 {

@@ -15,7 +15,7 @@ use oasis_records::{Record, RecordFault, RecordType, read_fields, read_id, read_
 use oasis_values::Input;
 use std::alloc::Global;
 
-// The same result, with a fault as one of the file.
+// A record, or a fault as one of the file.
 fn of_record(answer: Result<Record, Cause<RecordFault>>) -> Result<Record, Cause<OasisKind>>
     ensures { result ≡ of_fault answer }
 {
@@ -93,7 +93,7 @@ pub fn read_inside<R: Read>(
     read_in(input, alloc, order, true)
 }
 
-// The same result, with a fault as one of the file.
+// A magic string that was read, or a fault as one of the file.
 fn of_magic(answer: Result<(), RecordFault>) -> Result<(), OasisKind>
     ensures { result ≡ of_magic_fault answer }
 {

@@ -131,7 +131,7 @@ fn reference_text(alloc: Global, reference: &KeptReference<'_>) -> Result<String
     let Point { x, y } = reference.at();
     format!(in alloc;
         "; {cell} {flip} {turn:?} {x},{y} {}",
-        reference.shifts().len()
+        reference.shift_count()
     )
 }
 

@@ -277,7 +277,7 @@ fn check_all<R: Read>(rt: &impl Abort, alloc: Global, values: &mut Input<R>, len
     assert_eq!(rt; values.byte(), Err(ValueFault::Truncated));
 }
 
-/// The same, at most `most` bytes at a read.
+/// All the groups of these bytes, at most `most` bytes at a read.
 fn check_groups(rt: &impl Abort, alloc: Global, bytes: &[u8], most: usize) {
     let mut values = Input::new(Pieces::new(bytes, most), Profile::STANDARD);
     check_all(rt, alloc, &mut values, bytes.len());
@@ -376,4 +376,17 @@ fn growths(rt: HostRuntime) -> Result<(), Fail> {
         }
     }
     Ok(())
+}
+
+/// After a fault an input begins anew with other bytes. What was ahead is lost, and the reader is given back.
+#[test]
+fn begun_anew(rt: HostRuntime) {
+    let mut values = input(b"\x07\x80");
+    assert_eq!(rt; values.unsigned(), Ok(7));
+    assert_eq!(rt; values.unsigned(), Err(ValueFault::Truncated));
+    let before = values.begin(Pieces::new(b"\x09", 1), Profile::STANDARD);
+    assert!(rt; before.rest.is_empty());
+    assert_eq!(rt; values.offset(), 0);
+    assert_eq!(rt; values.unsigned(), Ok(9));
+    assert_eq!(rt; values.offset(), 1);
 }

@@ -80,7 +80,7 @@ IsRefuted S xs (Ok x) = Unit {0}
 IsRefuted S xs (Err OutOfMemory) = Unit {0}
 IsRefuted {A = A} S xs (Err (Breach f)) = is_rule f ≡ true → (x : A) → NoneAgrees S xs (Ok x)
 
--- the same for a call
+-- if a call returns a rule that is breached, no bytes that spell a value agree with those at the front
 pub record Refutes {R A : Type 0} (remaining : R → Option (List ℕ)) (S : Spelling A) (old : Input R)
     (r : Result A (Cause ValueFault)) : Type 0 where
   pub none : has_failed old ≡ false → (xs : List ℕ) → bytes_left remaining old ≡ Some xs

@@ -21,7 +21,37 @@ pub struct Found<T> {
 }
 
 // Reads until more than `n` bytes are ahead, with `room` bytes left within the limit.
+#[inline(always)]
 fn want_more<R: Read>(
+    reader: &mut R,
+    ahead: &mut Buffer<4096>,
+    room: u64,
+    n: usize,
+) -> Result<(), ValueFault>
+    requires few { n < 4096 }
+    requires had { n ≤ length ahead.old }
+    requires within { n ≤ room }
+    ensures bytes { Stays (prepend_known ahead.old (R.remaining reader.old))
+        (prepend_known ahead.new (R.remaining reader.new)) }
+    ensures front { take (length ahead.old) ahead.new ≡ ahead.old }
+    ensures had { IfOk result (λ _. (n < length ahead.new) × (n < room)) }
+    ensures stops { IfErr result (λ f. IsStop f × ((xs : List ℕ)
+        → prepend_known ahead.old (R.remaining reader.old) ≡ Some xs
+        → Stops f n room (length ahead.new) xs)) }
+    ensures errors { CountsFailure (R.read_errors reader.old) (R.read_errors reader.new)
+        (reader_failed (as_breach result)) }
+    ensures same { R.lent reader.new ≡ R.lent reader.old }
+{
+    if n < ahead.len() && (n as u64) < room {
+        return Ok(());
+    }
+    read_more(reader, ahead, room, n)
+}
+
+// Reads until more than `n` bytes are ahead, by the reader if need be.
+#[cold]
+#[inline(never)]
+fn read_more<R: Read>(
     reader: &mut R,
     ahead: &mut Buffer<4096>,
     room: u64,
@@ -71,17 +101,43 @@ pub(crate) fn find_byte<R: Read>(
     })
 }
 
-// Finds the unsigned integer at the front.
+// Finds the unsigned integer at the front. Mostly it is in hand as a whole.
 pub(crate) fn find_integer<R: Read>(
     reader: &mut R,
     ahead: &mut Buffer<4096>,
     room: u64,
-    profile: Profile,
+    profile: &Profile,
 ) -> Result<Found<u64>, ValueFault>
     ensures bytes { Stays (prepend_known ahead.old (R.remaining reader.old))
         (prepend_known ahead.new (R.remaining reader.new)) }
     ensures had { IfOk result (λ found. (found.len ≤ length ahead.new) × (found.len ≤ room)) }
-    ensures finds { Finds (IsUnsigned profile) room (length ahead.new)
+    ensures finds { Finds (IsUnsigned profile.now) room (length ahead.new)
+        (prepend_known ahead.old (R.remaining reader.old)) result }
+    ensures errors { CountsFailure (R.read_errors reader.old) (R.read_errors reader.new)
+        (reader_failed (as_breach result)) }
+    ensures same { R.lent reader.new ≡ R.lent reader.old }
+{
+    let hand = ahead.ahead();
+    let most = hand.len().min(room as usize);
+    if let Leading::Whole(value, len) = scan_integer(*profile, &hand[..most]) {
+        return Ok(Found { value, len });
+    }
+    read_integer(reader, ahead, room, profile)
+}
+
+// Finds the unsigned integer at the front, by the reader if need be.
+#[cold]
+#[inline(never)]
+fn read_integer<R: Read>(
+    reader: &mut R,
+    ahead: &mut Buffer<4096>,
+    room: u64,
+    profile: &Profile,
+) -> Result<Found<u64>, ValueFault>
+    ensures bytes { Stays (prepend_known ahead.old (R.remaining reader.old))
+        (prepend_known ahead.new (R.remaining reader.new)) }
+    ensures had { IfOk result (λ found. (found.len ≤ length ahead.new) × (found.len ≤ room)) }
+    ensures finds { Finds (IsUnsigned profile.now) room (length ahead.new)
         (prepend_known ahead.old (R.remaining reader.old)) result }
     ensures errors { CountsFailure (R.read_errors reader.old) (R.read_errors reader.new)
         (reader_failed (as_breach result)) }
@@ -90,7 +146,7 @@ pub(crate) fn find_integer<R: Read>(
     'integer: loop {
         let hand = ahead.ahead();
         let most = hand.len().min(room as usize);
-        match scan_integer(profile, &hand[..most]) {
+        match scan_integer(*profile, &hand[..most]) {
             Leading::Whole(value, len) => return Ok(Found { value, len }),
             Leading::TooLarge(_) => return Err(ValueFault::IntegerTooLarge),
             Leading::Unfinished => want_more(reader, ahead, room, most)?,

@@ -5,6 +5,7 @@ use crate::fault::ValueFault;
 use crate::find::{find_byte, find_integer};
 use lvl_io::{Buffer, Read};
 use lvl_profile::Profile;
+use std::mem;
 
 /// Reads values from a reader, one at a time. It reads from the reader only when it needs a byte and has
 /// none ahead.
@@ -42,6 +43,24 @@ impl<R: Read> Input<R> {
             profile,
             failed: false,
         }
+    }
+
+    /// Begins anew: from now on it is as [`Input::new`] makes it. It returns the reader that it had. Bytes that were
+    /// read ahead of that are lost. It costs less than to make another one, which has 4,096 bytes to clear.
+    pub fn begin(&mut self, reader: R, profile: Profile) -> R
+        ensures before { result ≡ input_reader self.old }
+        ensures reader { input_reader self.new ≡ reader }
+        ensures bytes { bytes_left R.remaining self.new ≡ R.remaining reader }
+        ensures offset { input_offset self.new ≡ 0 }
+        ensures profile { input_profile self.new ≡ profile }
+        ensures failed { has_failed self.new ≡ false }
+    {
+        let ahead = self.ahead.len();
+        self.ahead.skip(ahead);
+        self.offset = 0;
+        self.profile = profile;
+        self.failed = false;
+        mem::replace(&mut self.reader, reader)
     }
 
     /// How many bytes of the input were taken. It is available after a fault too.
@@ -115,7 +134,7 @@ impl<R: Read> Input<R> {
             &mut self.reader,
             &mut self.ahead,
             self.profile.limits.file - self.offset,
-            self.profile,
+            &self.profile,
         ) {
             Ok(found) => {
                 self.ahead.skip(found.len);

@@ -50,8 +50,8 @@ pub(crate) fn scan_integer(profile: Profile, bytes: &[u8]) -> Leading
     Leading::Unfinished
 }
 
-// The same, if nine bytes that continue make `value` and the tenth isn't 0 or 1: with padding it may still
-// be an integer.
+// What the bytes begin with, if nine that continue make `value` and the tenth isn't 0 or 1: with padding it may
+// still be an integer.
 fn scan_long(profile: Profile, bytes: &[u8], value: u64) -> Leading
     requires long { 9 < length bytes.now }
     requires continues { Continues (take 9 bytes.now) }
@@ -69,7 +69,7 @@ fn scan_long(profile: Profile, bytes: &[u8], value: u64) -> Leading
     scan_padding(profile, bytes, value + HIGHEST_UNIT * u64::from(digit))
 }
 
-// The same, if ten bytes that continue make `value`: only zero groups may follow.
+// What the bytes begin with, if ten that continue make `value`: only zero groups may follow.
 fn scan_padding(profile: Profile, bytes: &[u8], value: u64) -> Leading
     requires padded { most_bytes profile ≡ 256 }
     requires long { 10 ≤ length bytes.now }

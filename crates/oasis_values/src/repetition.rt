@@ -93,7 +93,7 @@ fn line_size(limits: Limits, dimension: u64) -> Option<u64>
     Some(places)
 }
 
-// The same along two steps.
+// The numbers of places along two steps, `columns + 2` and `rows + 2`; `None` if there are too many.
 fn matrix_size(limits: Limits, columns: u64, rows: u64) -> Option<Size>
     ensures value { result ≡ matrix_size limits columns rows }
     ensures small { IfSome result IsSmall }

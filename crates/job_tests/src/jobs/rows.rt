@@ -1,6 +1,6 @@
 //! Jobs, and what they write and say.
 
-/// The last line of the digest of `square`, by `tools/digest.py`.
+/// The last line of the digest of `square`, by `tools/lib/digest.py`.
 const SQUARE_DIGEST: &str =
     "mask sha256 cfc0bc7fd8a84f10bc2892f2c74e75073d5463f896d47d97244a7b12a9635572\n";
 
@@ -10,13 +10,13 @@ const IN_BLOCK: &str = "refused: first: oasis 24 Unsupported 34 at 37\n";
 /// `tagged` where its property is not ignored.
 const UNREAD_FIRST: &str = "refused: first: gds 11 Unsupported 43 at 154\n";
 
-/// The same of the second file.
+/// `tagged` as the second file, where its property is not ignored.
 const UNREAD_SECOND: &str = "refused: second: gds 11 Unsupported 43 at 154\n";
 
 /// What is said of both.
 const TRY_PROPERTIES: &str = "lvl: try --ignore properties, or --ignore all\n";
 
-/// The same of the only file.
+/// What is said of it as the only file.
 const TRY_TAGGED: &str = "lvl: tagged: try --ignore properties, or --ignore all\n";
 
 /// What is said of several cells that could be the top of the only file.

@@ -1,5 +1,6 @@
--- The shifts of the only shape of a cell, which are kept beside it.
+-- The shifts of what keeps no list for the zero shift alone.
 use Rattle.std.specs.Prelude.{List, Option, Some, None}
+use Rattle.std.specs.Borrow.{Bor}
 use Rattle.std.specs.Global.{Box}
 use Rattle.lvl_grid.specs.declared.point.Point.{Point}
 use Rattle.lvl_names.specs.Shifts.{one_place}
@@ -8,3 +9,8 @@ use Rattle.lvl_names.specs.Shifts.{one_place}
 abbrev pub shifts_beside : Option (Box (List Point)) → List Point
 shifts_beside None = one_place
 shifts_beside (Some b) = b.value
+
+-- the borrowed shifts, or the zero shift alone if none are borrowed
+abbrev pub borrowed_shifts : Option (Bor (List Point)) → List Point
+borrowed_shifts None = one_place
+borrowed_shifts (Some b) = b.now

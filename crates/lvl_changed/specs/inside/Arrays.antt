@@ -25,7 +25,7 @@ as_reference a = record { cell = []; flip = a.by.flip; turn = a.by.turn; at = a.
 abbrev pub each_place : Array → List Placement
 each_place a = placed a.cell (as_reference a)
 
--- the same of all arrays
+-- the cells of all arrays, each placed at each of its array's places
 abbrev pub every_place : List Array → List Placement
 every_place arrays = flat_map each_place arrays
 
@@ -72,7 +72,7 @@ AddsArray old new a =
     (cells : List (PlainCell Rings)) (layer : Layer) (s : Square)
     → PlacedCover cells new layer s ↔ (PlacedCover cells old layer s ⊎ PlacedCover cells (each_place a) layer s)
 
--- the same of the partner of the array's cell, or of nothing if there is no partner
+-- the new placements cover what the old ones or the partner of the array's cell do, if it has one
 abbrev pub AddsPartner : List Placement → List Placement → Option ℕ → Array → Type 0
 AddsPartner old new partner a =
     (cells : List (PlainCell Rings)) (layer : Layer) (s : Square)

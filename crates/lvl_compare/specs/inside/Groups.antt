@@ -7,11 +7,13 @@ use Rattle.lvl_grid.specs.declared.point.Square.{Square}
 use Rattle.lvl_grid.specs.declared.point.Window.{Window}
 use Rattle.lvl_names.specs.declared.layer.Layer.{Layer}
 use Rattle.lvl_names.specs.Layers.{ComesBefore}
+use Rattle.lvl_flat.specs.Flattened.{TopCovers}
 use Rattle.lvl_view.specs.Views.{target_of}
 use Rattle.lvl_view.specs.declared.map.LayerPair.{LayerPair}
 use Rattle.lvl_compare.specs.Tops.{Draws}
 use Rattle.lvl_compare.specs.declared.groups.Span.{Span}
 use Rattle.lvl_compare.specs.declared.groups.Group.{Group}
+use Rattle.lvl_compare.specs.declared.pair.Pair.{Pair}
 use Rattle.lvl_compare.specs.inside.Strips.{Difference, Part, rows_to}
 
 -- the first Layer comes before the second
@@ -43,9 +45,9 @@ pub record IsListed (drawn : Draws) (pairs : List LayerPair) (span : Span) (laye
   pub all : (l : Layer) (q : Square) → drawn l q → is_of_span span (target_of pairs l) ≡ true → Contains layers l
 
 -- the group has those Layers of both layouts that count as Layers of its span
-pub record AreListed (first second : Draws) (pairs : List LayerPair) (group : Group) : Type 0 where
-  pub ours : IsListed first [] group.span group.ours.items
-  pub theirs : IsListed second pairs group.span group.theirs.items
+pub record AreListed (pair : Pair) (group : Group) : Type 0 where
+  pub ours : IsListed (TopCovers pair.first.now) [] group.span group.ours.items
+  pub theirs : IsListed (TopCovers pair.second.now) pair.view.now.pairs group.span group.theirs.items
 
 -- none of the Layers counts as a Layer before this one
 abbrev pub AreNotBefore : List LayerPair → Layer → List Layer → Type 0

@@ -70,11 +70,3 @@ pub record AreMarksOf (P : Square → Type 0) (span : Span) (marks : List Mark) 
   pub is_covered : (s : Square) → IsTrue (covered s) ↔ P s
   pub bounded : IsBounded covered
   pub changes : (x y : ℤ) → net x y marks ≡ cond (spanned span x) (change_at covered x y) (pos 0)
-
--- at each point at the abscissa at with an ordinate of the rows, the marks add up to the change of the set of squares P,
--- and elsewhere to 0
-pub record AreMarksAt (P : Square → Type 0) (at : ℤ) (rows : Span) (marks : List Mark) : Type 0 where
-  pub covered : Square → Bool
-  pub is_covered : (s : Square) → IsTrue (covered s) ↔ P s
-  pub bounded : IsBounded covered
-  pub changes : (x y : ℤ) → net x y marks ≡ cond (int_eq x at && spanned rows y) (change_at covered x y) (pos 0)

@@ -1,5 +1,5 @@
--- The laws of corner sinks, for lists, for hashers, and for one that only remembers whether it has taken a corner.
-use Rattle.std.proofs.Common.{◌≡◌, Bool, false, ℕ, List, [], ◌++◌, flat_map, refl, sym, ◌∙◌, ap, subst, arith}
+-- The laws of corner sinks, for lists and for hashers.
+use Rattle.std.proofs.Common.{◌≡◌, ℕ, List, [], ◌++◌, flat_map, sym, ◌∙◌, ap, subst, arith}
 use Rattle.std.proofs.lemmas.List.{append-nil, append_assoc, length-append}
 use Rattle.std.proofs.lemmas.Grind.{flat_map-append}
 use Rattle.lvl_corners.specs.declared.corner.Corner.{Corner}
@@ -37,16 +37,3 @@ hasher_takes_both a b c ks ls h k =
         then,
       );
     }
-
--- if no corner is seen at the end, none was at the beginning, and none was taken
-abbrev pub IsUnseen : Bool → Bool → List Corner → Type 0
-IsUnseen a b taken = b ≡ false → (a ≡ false) × (taken ≡ [])
-
-pub seen_takes_none : (s : Bool) → IsUnseen s s []
-seen_takes_none s = λ none. (none, refl)
-
-pub seen_takes_both : (a b c : Bool) (ks ls : List Corner) → IsUnseen a b ks → IsUnseen b c ls → IsUnseen a c (ks ++ ls)
-seen_takes_both a b c ks ls h k = λ none.
-    let then = k none in
-    let first = h then.0 in
-    (first.0, rw (first.1, then.1) refl)

@@ -46,7 +46,7 @@ pub record IsBetween (shifts : List Point) (i j k : ℕ) : Type 0 where
 pub record HasRows (row : ℕ) (shifts : List Point) : Type 0 where
   pub line : (i j k : ℕ) → i ≤ j → j ≤ k → i / row ≡ k / row → IsBetween shifts i j k
 
--- the same for the shifts at one place in each row
+-- of the shifts at one place in each row, each is between any earlier and any later one
 pub record HasColumns (row : ℕ) (shifts : List Point) : Type 0 where
   pub line : (i j k : ℕ) → i ≤ j → j ≤ k → i % row ≡ j % row → j % row ≡ k % row → IsBetween shifts i j k
 

@@ -21,7 +21,7 @@ Pick = PlainReference × Point
 abbrev pub picks : List PlainReference → List Pick
 picks references = flat_map (λ r. map (λ e. (r, e)) r.shifts) references
 
--- the same without the first `place` shifts of the first reference
+-- each reference with each of its shifts, but for the first `place` shifts of the first reference
 abbrev pub picks_from : List PlainReference → ℕ → List Pick
 picks_from [] place = []
 picks_from (r ∷ references) place = map (λ e. (r, e)) (drop place r.shifts) ++ picks references

@@ -19,7 +19,7 @@ HasSame es fs = (f : Edge → ℕ) → sum_by f fs ≡ sum_by f es
 abbrev pub rises : ℕ → Square → Edge → Bool
 rises r s e = alive s.y e && (int_lt s.x e.x && ((e.ring == r) && e.up))
 
--- the same for an edge that goes down
+-- the edge is one of ring r, crosses the row of the square right of it, and goes down
 abbrev pub falls : ℕ → Square → Edge → Bool
 falls r s e = alive s.y e && (int_lt s.x e.x && ((e.ring == r) && not e.up))
 

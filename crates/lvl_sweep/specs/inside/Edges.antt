@@ -22,7 +22,7 @@ how_many_turn counts = count_by (λ c. not (int_eq c (pos 0))) counts
 abbrev pub net : ℕ → List Edge → ℤ
 net r es = pos (count_by (λ e. (e.ring == r) && e.up) es) -ℤ pos (count_by (λ e. (e.ring == r) && not e.up) es)
 
--- the same for the edges at an abscissa of at most z
+-- the number of edges of ring r at an abscissa of at most z that go up, less the number of those that go down
 abbrev pub net_left : ℕ → ℤ → List Edge → ℤ
 net_left r z es =
     pos (count_by (λ e. int_le e.x z && ((e.ring == r) && e.up)) es) -ℤ pos

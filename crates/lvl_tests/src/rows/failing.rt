@@ -14,7 +14,7 @@ use std::test::Fail;
 /// Where the records of the square in GDSII begin, and where it ends.
 const GDS: [usize; 14] = [0, 6, 34, 40, 60, 88, 96, 100, 106, 112, 156, 160, 164, 168];
 
-/// The same in OASIS.
+/// Where the records of the square in OASIS begin, and where it ends.
 const OASIS: [usize; 6] = [0, 13, 34, 39, 47, 303];
 
 /// The start of the record that isn't whole in the first `k` bytes.

@@ -21,7 +21,7 @@ const GDS: [Part; 3] = [
     ("bytes 00 04 07 00 00 04 04 00", &[0, 4, 8]),
 ];
 
-/// The same of rectangles in OASIS.
+/// What is before the rectangles of a file in OASIS, one of them, and what is after them.
 const OASIS: [Part; 3] = [
     ("oasis-begin 0E 03 TOP", &[0, 13, 34]),
     ("bytes 14 7B 01 00 0A 0A 00 00", &[0]),
@@ -161,7 +161,7 @@ fn are_asked(alloc: Global, ours: &[u8], theirs: &[u8], most: [u64; 2]) -> Resul
     Ok(first.is_asked_little(most[0]) && second.is_asked_little(most[1]))
 }
 
-/// The same in a view that shows all.
+/// Whether two files that are compared in a view that shows all are asked for at most so often.
 fn are_asked_in_a_view(alloc: Global, bytes: &[u8], most: [u64; 2]) -> Result<bool, Fail> {
     let view = View::read(alloc, None, None)?;
     let mut out = sink(alloc, 1000)?;

@@ -117,7 +117,7 @@ oasis 16 FB 01 00 02 04 00 02 14 14 00 00 | oasis 25 Undefined path-end-extensio
 oasis 14 7F 01 00 01 01 00 00 00 | oasis 25 Undefined repetition at 39
 ";
 
-/// The same, of its records, figures, names, its end and its cells.
+/// Records of an OASIS file and why it is refused, of its records, figures, names, its end and its cells.
 const RULES: &str = "\
 oasis-cells 03 01 A 04 01 B 00 | oasis 26 MixedNames at 37
 oasis-cells 04 01 A 00 04 01 B 00 | oasis 27 NumberTwice at 38

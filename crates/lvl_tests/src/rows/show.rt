@@ -99,7 +99,7 @@ fn says_first(alloc: Global, bytes: &[u8], head: &str) -> Result<bool, Fail> {
     Ok(text.as_slice() == want.as_bytes() && status == Ok(Status::Same))
 }
 
-/// The same with the file as the second.
+/// Whether the square and the file are the same, and each says this of itself, with the file as the second.
 fn says_second(alloc: Global, bytes: &[u8], head: &str) -> Result<bool, Fail> {
     let want = format!(in alloc; "first: {GDS}\nsecond: {head}\nsame\n")?;
     let (text, status) = written(alloc, SQUARE, bytes, &no_tops(), 1000)?;

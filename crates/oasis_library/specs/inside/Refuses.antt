@@ -14,7 +14,7 @@ abbrev pub Refuses : Profile → List ℕ → Option (List ℕ) → OasisFault �
 Refuses profile xs left (At at k) = RefusesAt profile xs left at k
 Refuses profile xs left (Unresolved n) = ReportsUnresolved profile xs n
 
--- the same refusal, with an offset
+-- a refusal, with an offset
 abbrev pub refused_at : ℕ → Cause OasisKind → Cause OasisFault
 refused_at at (Breach k) = Breach (At at k)
 refused_at at OutOfMemory = OutOfMemory

@@ -5,8 +5,8 @@ use Rattle.gds_elements.proofs.values.points.Goals as goal
 pub loop-preserved : goal.loop-preserved
 loop-preserved c =
     let n = length c.args.payload.now / 8 in
-    let e : n - c.loop.counter ≡ n - (c.loop.counter + 1) + 1 = omega arith in (
-      omega (arith, c.loop.invariant.0, ap length c.split_at.ensures.back, length-drop 8 c.loop.rest.now),
-      rw (c.in_ok-push.ensures.items, c.point.ensures.value, c.split_at.ensures.front, c.split_at.ensures.back)
-          (points_more _ _ _ _ _ e c.loop.invariant.1),
-    )
+    let e : n - c.loop.counter ≡ n - (c.loop.counter + 1) + 1 = omega arith in record {
+      enough = omega (arith, c.loop.invariant.enough, ap length c.split_at.ensures.back, length-drop 8 c.loop.rest.now);
+      points = rw (c.in_ok-push.ensures.items, c.point.ensures.value, c.split_at.ensures.front, c.split_at.ensures.back)
+          (points_more _ _ _ _ _ e c.loop.invariant.points);
+    }

@@ -3,6 +3,7 @@ use Rattle.gds_elements.specs.Values.{points_of}
 use Rattle.gds_elements.proofs.values.points.Given as goal
 
 abbrev pub invariant-loop : goal.invariant-loop
-invariant-loop l =
-    (8 * (l.end - l.counter) ≤ length l.rest)
-    × (l.points.items ++ points_of (l.end - l.counter) l.rest ≡ points_of l.end l.payload)
+invariant-loop l = record {
+  enough : 8 * (l.end - l.counter) ≤ length l.rest;
+  points : l.points.items ++ points_of (l.end - l.counter) l.rest ≡ points_of l.end l.payload;
+}

@@ -26,8 +26,10 @@ loop-start-preserved c =
     up_to_end layers start end more in
     let rising : AllPairs ComesBefore (take start layers ++ slice_range layers start end) =
     subst (AllPairs ComesBefore) (sym whole) (pairs_up_to ComesBefore layers end c.in_ok-layers.ensures.rising) in
-    let listed = rw held at c.in_ok-push_group.ensures in (
-      subst (λ (ls : List Layer). AreDigestsOn (TopCovers c.args.fitted.now) ls c.push_group.new.digested.items) whole
-          (listed (take start layers) rising c.loop-start.invariant.0),
-      within,
-    )
+    let listed = rw held at c.in_ok-push_group.ensures in
+    record {
+      digested =
+          subst (λ (ls : List Layer). AreDigestsOn (TopCovers c.args.fitted.now) ls c.push_group.new.digested.items) whole
+          (listed (take start layers) rising c.loop-start.invariant.digested);
+      within = within;
+    }

@@ -7,4 +7,7 @@ use Rattle.lvl_cells.proofs.names.index_of.Given as goal
 
 -- the names so far are distinct, and the index has them
 abbrev pub invariant-loop-i : goal.invariant-loop-i
-invariant-loop-i l = IsDistinct bytes_eq (take l.i (names l.cells)) × IsIndexOf (take l.i (names l.cells)) l.index
+invariant-loop-i l = record {
+  distinct : IsDistinct bytes_eq (take l.i (names l.cells));
+  index : IsIndexOf (take l.i (names l.cells)) l.index;
+}

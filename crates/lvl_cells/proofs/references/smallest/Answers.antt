@@ -10,5 +10,5 @@ single_item (y ∷ z ∷ zs) x one at = absurd (omega (arith, one))
 
 pub returns-in_ok-new-in-1 : goal.returns-in_ok-new-in-1
 returns-in_ok-new-in-1 c =
-    ap (λ r. r ∷ []) (c.in_ok-new-in-1.ensures.ok ∙ c.in_ok-single-in-1.ensures)
+    ap (λ r. r ∷ []) (c.in_ok-new-in-1.ensures.ok ∙ c.in_ok-single-in-1.ensures ∙ c.in_ok-copied-in-1.ensures)
     ∙ single_item c.args.lists c.reference.result (sym c.len.ensures ∙ c.in-1.is) c.reference.ensures

@@ -11,5 +11,5 @@ returns-clause-figure c =
     let figure : KeptFigure = record { begin = c.in_ok-begin.begin; end = c.in_ok-end.end; by = origin } in
     let end : figure.end ≡ length c.args.rings.now + length more =
     omega (arith, c.in_ok-end.ensures.0, c.len-2.ensures) in
-    subst (λ (rs : Rings). IsFigure rs figure more) (sym c.in_ok-push.ensures.ok)
+    subst (λ (rs : Rings). IsFigure rs figure more) (sym c.in_ok-push_ring.ensures.ok)
     (added c.args.rings.now more figure (c.in_ok-begin.ensures.0 ∙ c.len.ensures) end c.in_ok-end.ensures.1 refl)

@@ -38,12 +38,12 @@ returns-in_default-plus_times-clause-many c = λ _.
     let s : Settled = c.args.linked.now in
     let step =
     step_along s c.args.i (get_or c.args.times.now (get_or c.order.result.now c.args.i 0) 0) c.loop-j.j c.in-Some.target
-    c.len.result c.order.result.now c.cells.result.now c.cell.inside.references c.index-cells-index.result
+    c.shift_count.result c.order.result.now c.cells.result.now c.cell.inside.references c.index-cells-index.result
     c.reference-reference.result c.loop-j.times c.order.ensures.sorted c.order.ensures.value c.cells.ensures.value
     c.requires.within c.index-cells-index.is (ap (λ (d : PlainCell Rings). d.references) c.cell.view_is)
     (slice_get_within c.cell.inside.references c.loop-j.j c.reference-reference.result c.reference-reference.ensures)
     (sym (get_or_from_slice_get c.cell.inside.references c.loop-j.j c.reference-reference.result
-    c.reference-reference.result c.reference-reference.ensures)) (c.len.ensures.count ∙ ap length c.shifts.ensures.all)
+    c.reference-reference.result c.reference-reference.ensures)) c.shift_count.ensures
     c.in-Some.ensures.target c.loop-j.invariant in
     step.many c.args.most (c.in_default-plus_times.ensures.many refl)
 
@@ -68,18 +68,20 @@ loop-j-preserved c =
     elim c.match-target.branch [
       | in-Some+in-Some-plus_times w ↦
           let step =
-          step_along s c.args.i here c.loop-j.j w.in-Some.target w.len.result c.order.result.now c.cells.result.now
-          c.cell.inside.references c.index-cells-index.result c.reference-reference.result c.loop-j.times
+          step_along s c.args.i here c.loop-j.j w.in-Some.target w.shift_count.result c.order.result.now
+          c.cells.result.now c.cell.inside.references c.index-cells-index.result c.reference-reference.result
+          c.loop-j.times
           c.order.ensures.sorted c.order.ensures.value c.cells.ensures.value c.requires.within c.index-cells-index.is
           listed
           (slice_get_within c.cell.inside.references c.loop-j.j c.reference-reference.result
           c.reference-reference.ensures)
           (sym (get_or_from_slice_get c.cell.inside.references c.loop-j.j c.reference-reference.result
           c.reference-reference.result c.reference-reference.ensures))
-          (w.len.ensures.count ∙ ap length w.shifts.ensures.all) w.in-Some.ensures.target c.loop-j.invariant in
+          w.shift_count.ensures w.in-Some.ensures.target c.loop-j.invariant in
           let new : set c.loop-j.times w.in-Some.target w.in-Some-plus_times.more ≡ c.match-target.times =
           sym w.times-is in
-          let value : get_or c.loop-j.times w.in-Some.target 0 + here * w.len.result ≡ w.in-Some-plus_times.more =
+          let value : get_or c.loop-j.times w.in-Some.target 0 + here * w.shift_count.result
+          ≡ w.in-Some-plus_times.more =
           sym w.in-Some-plus_times.ensures.value in
           subst (IsPassing s c.args.i here (drop (c.loop-j.j + 1) c.cell.inside.references))
           (ap (set c.loop-j.times w.in-Some.target) value ∙ new) step.next

@@ -10,9 +10,9 @@ use Rattle.lvl_changed.proofs.cells.changes_of.Goals as goal
 
 pub returns : goal.returns
 returns c = λ known.
-    let ours : List (PlainCell Rings) = c.args.first.now.cells in
-    let theirs : List (PlainCell Rings) = c.args.second.now.cells in
-    let pairs : List LayerPair = c.args.view.now.pairs in
+    let ours : List (PlainCell Rings) = c.args.pair.now.first.now.cells in
+    let theirs : List (PlainCell Rings) = c.args.pair.now.second.now.cells in
+    let pairs : List LayerPair = c.args.pair.now.view.now.pairs in
     let x : PlainCell Rings = c.cell-our_cell.result.now in
     let y : PlainCell Rings = c.cell-their_cell.result.now in
     let old : Area = c.hold_shapes.new.area in

@@ -1,17 +1,12 @@
 use Rattle.std.proofs.lemmas.Result.{IfOk-weaker}
-use Rattle.lvl_flat.specs.Flattened.{TopCovers}
-use Rattle.lvl_view.specs.Moved.{IsMoved}
-use Rattle.lvl_changed.specs.Changed.{DrawSameBut}
 use Rattle.lvl_changed.proofs.difference.difference_by_changes.Goals as goal
 
 pub returns-clause-same : goal.returns-clause-same
 returns-clause-same c =
-    let outside : DrawSameBut c.in-Some.changes (TopCovers c.args.first.now)
-    (IsMoved c.args.view.now.pairs (TopCovers c.args.second.now)) = rw c.in-Some.is at c.in_ok-changes.ensures in
+    let outside = rw c.in-Some.is at c.in_ok-changes.ensures in
     IfOk-weaker c.difference_among.result _ _ (λ found same. same outside) c.difference_among.ensures.same
 
 pub returns-clause-differ : goal.returns-clause-differ
 returns-clause-differ c =
-    let outside : DrawSameBut c.in-Some.changes (TopCovers c.args.first.now)
-    (IsMoved c.args.view.now.pairs (TopCovers c.args.second.now)) = rw c.in-Some.is at c.in_ok-changes.ensures in
+    let outside = rw c.in-Some.is at c.in_ok-changes.ensures in
     IfOk-weaker c.difference_among.result _ _ (λ found differ. differ outside) c.difference_among.ensures.differ

@@ -18,9 +18,9 @@ use Rattle.lvl_changed.proofs.references.hold_references.Goals as goal
 
 pub returns-clause-held : goal.returns-clause-held
 returns-clause-held c = λ known x y at there.
-    let pairs : List LayerPair = c.args.view.now.pairs in
-    let ours : List (PlainCell Rings) = c.args.first.now.cells in
-    let theirs : List (PlainCell Rings) = c.args.second.now.cells in
+    let pairs : List LayerPair = c.args.pair.now.view.now.pairs in
+    let ours : List (PlainCell Rings) = c.args.pair.now.first.now.cells in
+    let theirs : List (PlainCell Rings) = c.args.pair.now.second.now.cells in
     let ps : List Placement = all_places c.in_ok-placed.placed in
     let qs : List Placement = all_places c.in_ok-others.others in
     let old : Area = c.partners_placed.new.area in

@@ -6,6 +6,9 @@ use Rattle.lvl_corners.proofs.send.send_sums.Given as goal
 
 -- the sink has taken the corners at the points so far
 abbrev pub invariant-loop-mark : goal.invariant-loop-mark
-invariant-loop-mark g l =
-    (sent : List Corner) × g.S.CornerSink.takes l.fn.sink l.sink sent × All FitsCorner sent × AreSummed l.marks
-    l.mark-index sent l.sum
+invariant-loop-mark g l = record {
+  sent : List Corner;
+  taken : g.S.CornerSink.takes l.fn.sink l.sink sent;
+  fits : All FitsCorner sent;
+  summed : AreSummed l.marks l.mark-index sent l.sum;
+}

@@ -13,8 +13,7 @@ returns-clause-held c = λ p within k e lt.
     let r : PlainReference = c.args.reference.now in
     let m : Map = before_shifts r in
     let d : Point = get_or r.shifts k e in
-    let shifts : All (HoldsPoint c.bounds_of_shifts.result) r.shifts =
-    subst (All (HoldsPoint c.bounds_of_shifts.result)) c.shifts.ensures.all c.bounds_of_shifts.ensures in
+    let shifts : All (HoldsPoint c.bounds_of_places.result) r.shifts = c.bounds_of_places.ensures in
     let there : HoldsPoint c.joined.result (shifted d (image m p)) =
     c.joined.ensures.second.holds _
     (c.in_ok-everywhere.ensures (image m p) d (c.in_ok-placed.ensures p within) (shifts k e lt)) in

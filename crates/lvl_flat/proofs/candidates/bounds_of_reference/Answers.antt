@@ -23,7 +23,7 @@ returns c =
     let j = c.args.j in
     let r : PlainReference = c.in_ok-reference.reference in
     let m : Map = before_shifts r in
-    let by : Bounds = c.bounds_of_shifts.result in
+    let by : Bounds = c.bounds_of_places.result in
     let placed : Bounds = c.in_ok-placed.placed in
     let inner : Bounds = c.in_ok-get.field-0 in
     let target : IsTargetOf s.cells c.top-top.result j c.in_ok-target.target = c.in_ok-target.ensures.target in
@@ -38,7 +38,7 @@ returns c =
     subst (λ rs. slice_get rs j ≡ Some r) refs (sym c.get.ensures ∙ c.in_ok-reference.was) in
     let both : Some target.reference ≡ Some r = sym target.reference_is ∙ there in
     let one : target.reference ≡ r = cc in
-    let shifts : All (HoldsPoint by) r.shifts = subst (All (HoldsPoint by)) c.shifts.ensures.all c.bounds_of_shifts.ensures in
+    let shifts : All (HoldsPoint by) r.shifts = c.bounds_of_places.ensures in
     let held = (c.requires c.in_ok-target.target inner target.target c.in_ok-get.ensures target.target_is).1 in
     if_some (λ (b : Bounds). (p e : Point) → HoldsPoint placed p → HoldsPoint by e → HoldsPoint b (shifted e p))
     (HasParts s Reference j) c.moved.result

@@ -26,14 +26,14 @@ returns c = record {
       let found : slice_get c.cell.inside.references c.args.visit.reference ≡ Some r = c.reference-reference.ensures in
       let there : slice_get cell.references c.args.visit.reference ≡ Some r =
       subst (λ rs. slice_get rs c.args.visit.reference ≡ Some r) references found in
-      let shifts : c.shifts-shifts.result.now ≡ r.shifts = c.shifts-shifts.ensures.all in
+      let shifts : c.in-Some.shifts.now ≡ r.shifts = c.in-Some.ensures.some in
       let inside : k < length r.shifts =
       omega (arith, below, c.missed_from-place.ensures.inside, ap length shifts) in
       let e : Point = get_or r.shifts k origin in
       let shift : slice_get r.shifts k ≡ Some e = slice_get-get_or r.shifts k origin inside in
-      let seen : slice_get c.shifts-shifts.result.now k ≡ Some e =
+      let seen : slice_get c.in-Some.shifts.now k ≡ Some e =
       subst (λ xs. slice_get xs k ≡ Some e) (sym shifts) shift in
-      missed_at cells c.args.boxes.now c.args.window.now _ cell r c.in-Some.target k c.in-Some-get.bounds
-      c.in-Some-placed_by.inner e c.requires.boxes at there c.in-Some.ensures.target c.in-Some-get.ensures
+      missed_at cells c.args.boxes.now c.args.window.now _ cell r c.in-Some-target.target k c.in-Some-get.bounds
+      c.in-Some-placed_by.inner e c.requires.boxes at there c.in-Some-target.ensures.target c.in-Some-get.ensures
       c.in-Some-placed_by.ensures shift (c.missed_from-place.ensures.missed k e from below seen);
 }

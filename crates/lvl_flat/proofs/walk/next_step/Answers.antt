@@ -22,8 +22,8 @@ returns-then-visit-len c =
     ap (λ (b : PlainCell Rings). b.references) c.cell.view_is in
     step_done cells c.args.visit.now cell at (omega (arith, c.if-visit-len.true, c.len.ensures, ap length references))
 
-pub returns-then-visit-len-2 : goal.returns-then-visit-len-2
-returns-then-visit-len-2 c =
+pub returns-then-visit-shift_count : goal.returns-then-visit-shift_count
+returns-then-visit-shift_count c =
     let cells : List (PlainCell Rings) = c.args.checked.now.cells in
     let cell : PlainCell Rings = c.index-cells-visit.result in
     let listed : slice_get c.cells.result.now c.args.visit.now.cell ≡ Some cell =
@@ -39,7 +39,7 @@ returns-then-visit-len-2 c =
     let there : slice_get cell.references c.args.visit.now.reference ≡ Some r =
     subst (λ rs. slice_get rs c.args.visit.now.reference ≡ Some r) references found in
     step_past cells c.args.visit.now cell r at there
-    (omega (arith, c.if-visit-len-2.true, c.len-2.ensures.count, ap length c.shifts.ensures.all))
+    (omega (arith, c.if-visit-shift_count.true, c.shift_count.ensures))
 
 pub returns-in-None : goal.returns-in-None
 returns-in-None c =
@@ -92,7 +92,7 @@ unreachable-requires c =
     let none : Point = record { x = pos 0; y = pos 0 } in
     let some : slice_get shifts place ≡ Some (get_or shifts place none) =
     slice_get-get_or shifts place none
-    (omega (arith, c.if-visit-len-2.false, c.len-2.ensures.count, ap length c.shifts.ensures.all)) in
+    (omega (arith, c.if-visit-shift_count.false, c.shift_count.ensures)) in
     let past : slice_get shifts place ≡ None = c.in_default.ensures.none in
     cc
 

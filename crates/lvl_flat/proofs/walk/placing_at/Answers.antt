@@ -1,7 +1,6 @@
-use Rattle.std.proofs.Common.{◌≡◌, ◌+ℤ◌, slice_get, Some, get_or, sym, ap, subst, ◌∙◌, arith, Bool, to_z, of_z, w64}
+use Rattle.std.proofs.Common.{◌≡◌, ◌+ℤ◌, slice_get, Some, sym, ap, subst, ◌∙◌, arith, Bool, to_z, of_z, w64}
 use Rattle.std.proofs.Common.{rules, FitsSigned}
 use Rattle.std.proofs.lemmas.Int.{ints}
-use Rattle.std.proofs.lemmas.Option.{slice_get_within, get_or_from_slice_get}
 use Rattle.lvl_grid.specs.declared.point.Point.{Point}
 use Rattle.lvl_grid.specs.declared.map.Map.{Map}
 use Rattle.lvl_grid.specs.declared.map.Turn.{Turn}
@@ -12,14 +11,9 @@ use Rattle.lvl_flat.proofs.walk.placing_at.Goals as goal
 pub returns-clause-some : goal.returns-clause-some
 returns-clause-some c =
     let e : Point = c.in_ok-shift.shift in
-    let seen : slice_get c.shifts.result.now c.args.place ≡ Some e = sym c.at.ensures ∙ c.in_ok-shift.was in
     let there : slice_get c.args.reference.now.shifts c.args.place ≡ Some e =
-    subst (λ xs. slice_get xs c.args.place ≡ Some e) c.shifts.ensures.all seen in
-    let read : get_or c.args.reference.now.shifts c.args.place e ≡ e =
-    get_or_from_slice_get c.args.reference.now.shifts c.args.place e e there in
-    let fits : FitsPoint (shifted c.args.reference.now.at e) =
-    subst (λ (p : Point). FitsPoint (shifted c.args.reference.now.at p)) read (c.shifts.ensures.in_range
-    c.args.place e (slice_get_within c.args.reference.now.shifts c.args.place e there)) in
+    sym c.shift.ensures.value ∙ c.in_ok-shift.was in
+    let fits : FitsPoint (shifted c.args.reference.now.at e) = c.in_ok-shift.ensures.in_range in
     let of : Bool → Turn → Point → Map = λ f t p. record { flip = f; turn = t; at = p } in
     let near : FitsPoint (shifted c.at-at.result e) = subst (λ d. FitsPoint (shifted d e)) (sym c.at-at.ensures) fits in
     let ax : FitsSigned w64 c.at-at.result.x = search rules in

@@ -46,12 +46,12 @@ returns-in_default c =
     subst (λ rs. slice_get rs f.reference ≡ Some r) references found in
     let target = target_at s.cells c.checked-checked.result.now.cells f.cell f.reference c.target_of-cell.result cell r
     (ap (λ (x : Settled). x.cells) c.checked-checked.ensures.library) at there c.target_of-cell.ensures in
-    let to : ℕ = c.next_place-place.result in
+    let to : ℕ = c.next_place_of-place.result in
     let area : Option Area = c.area_of_reference-area.result in
     let apart : AreApart r.shifts f.place to area =
-    subst (λ es. AreApart es f.place to area) c.shifts-2.ensures.all c.next_place-place.ensures.apart in
+    c.next_place_of-place.ensures.apart in
     let skipped : IsSkipped s.cells c.args.square f to =
-    places_skipped s.cells c.args.square f cell r to at there c.next_place-place.ensures.on
+    places_skipped s.cells c.args.square f cell r to at there c.next_place_of-place.ensures.on
     (λ layer t k e placed from below shift covers.
     apart_uncovered s.cells c.target_of-cell.result r target.next (as_square c.pulled.result) f.place to area
     target.named target.there c.area_of_reference-area.ensures.has apart layer k e from below shift
@@ -73,10 +73,10 @@ unreachable-requires c =
     subst (λ rs. slice_get rs f.reference ≡ Some r) references found in
     let target = target_at s.cells c.checked-checked.result.now.cells f.cell f.reference c.target_of-cell.result cell r
     (ap (λ (x : Settled). x.cells) c.checked-checked.ensures.library) at there c.target_of-cell.ensures in
-    let place : IsPlacing r c.next_place-place.result c.in-Some.by = c.in-Some.ensures.some in
+    let place : IsPlacing r c.next_place_of-place.result c.in-Some.by = c.in-Some.ensures.some in
     let fits : FitsPoint (image f.map c.in-Some.by.at) =
     subst (λ (m : Map). FitsPoint (image f.map m.at)) (sym place.map_is)
-    (reached_fits s f c.requires cell target.next r place.shift c.next_place-place.result
+    (reached_fits s f c.requires cell target.next r place.shift c.next_place_of-place.result
     c.checked-checked.ensures.in_range at there place.there target.named) in
     let no = c.in_default-then.ensures.fits.1 fits in
     cc
@@ -96,12 +96,12 @@ returns c =
     subst (λ rs. slice_get rs f.reference ≡ Some r) references found in
     let target = target_at s.cells c.checked-checked.result.now.cells f.cell f.reference c.target_of-cell.result cell r
     (ap (λ (x : Settled). x.cells) c.checked-checked.ensures.library) at there c.target_of-cell.ensures in
-    let to : ℕ = c.next_place-place.result in
+    let to : ℕ = c.next_place_of-place.result in
     let area : Option Area = c.area_of_reference-area.result in
     let apart : AreApart r.shifts f.place to area =
-    subst (λ es. AreApart es f.place to area) c.shifts-2.ensures.all c.next_place-place.ensures.apart in
+    c.next_place_of-place.ensures.apart in
     let skipped : IsSkipped s.cells c.args.square f to =
-    places_skipped s.cells c.args.square f cell r to at there c.next_place-place.ensures.on
+    places_skipped s.cells c.args.square f cell r to at there c.next_place_of-place.ensures.on
     (λ layer t k e placed from below shift covers.
     apart_uncovered s.cells c.target_of-cell.result r target.next (as_square c.pulled.result) f.place to area
     target.named target.there c.area_of_reference-area.ensures.has apart layer k e from below shift
@@ -118,7 +118,7 @@ returns c =
             references_are = c.len-2.ensures ∙ ap length references;
             shift = place.shift;
             shift_is = place.there;
-            places_are = c.len-places.ensures.count ∙ ap length c.shifts.ensures.all;
+            places_are = c.shift_count-places.ensures;
             named = target.named;
             cell_is = target.there;
             map_is = place.map_is;

@@ -1,4 +1,4 @@
-use Rattle.std.proofs.Common.{◌≡◌, ℕ, length, Some, ◌+◌}
+use Rattle.std.proofs.Common.{◌≡◌, length, Some, ◌+◌}
 use Rattle.std.specs.Io.KnownBytes.{prepend_known}
 use Rattle.lvl_inflate.specs.Inflates.{left_of}
 use Rattle.oasis_blocks.proofs.unpack.keep_bytes.Given as goal

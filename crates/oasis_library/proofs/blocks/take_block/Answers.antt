@@ -24,7 +24,7 @@ held_with x u rs h = record {
 pub returns-in-Err-clause-refused : goal.returns-in-Err-clause-refused
 returns-in-Err-clause-refused c =
     rw c.of_block.ensures
-    (unpack_says c.args.profile c.args.reading.now c.args.packed.now c.in-Err.refusal c.in-Err.ensures.refused)
+    (unpack_says c.args.profile c.args.reading.now c.args.packed c.in-Err.refusal c.in-Err.ensures.refused)
 
 pub take_inside-requires : goal.take_inside-requires
 take_inside-requires c =
@@ -32,31 +32,31 @@ take_inside-requires c =
     let w = c.requires in
     record {
       held = (records w.0, held_with c.args.reading.now c.unpack.new.unpacker (records w.0) w.1.holds);
-      fresh = c.new-input.ensures.failed;
-      start = c.new-input.ensures.offset;
+      fresh = c.begin.ensures.failed;
+      start = c.begin.ensures.offset;
       counted = λ ys k.
-          let e : Some ys ≡ Some c.in-Ok.unpacked = sym k ∙ c.new-input.ensures.bytes in
+          let e : Some ys ≡ Some c.in-Ok.unpacked = sym k ∙ c.begin.ensures.bytes in
           let same : ys ≡ c.in-Ok.unpacked = cc in
           ap length same ∙ u.counted ∙ sym c.count-count.ensures;
-      within = rw c.new-input.ensures.profile
+      within = rw c.begin.ensures.profile
           (omega (arith, c.in-Ok.ensures.within, u.counted, c.count-count.ensures, w.1.room));
     }
 
 pub returns-in_err-take_inside-clause-refused : goal.returns-in_err-take_inside-clause-refused
 returns-in_err-take_inside-clause-refused c =
-    let refused = rw c.new-input.ensures.profile at c.in_err-take_inside.ensures.refused in
+    let refused = rw c.begin.ensures.profile at c.in_err-take_inside.ensures.refused in
     says_carried _ _ c.from_residual.result c.in_err-take_inside.field-0.0
-    (λ f s. λ is h. inside_breaks c.args.profile c.args.reading.now c.args.packed.now c.in-Ok.unpacked _ is
-    c.in-Ok.ensures.unpacks c.in-Ok.ensures.within h (s (records is) c.in-Ok.unpacked (held_with c.args.reading.now c.unpack.new.unpacker (records is) h.holds) c.new-input.ensures.bytes))
+    (λ f s. λ is h. inside_breaks c.args.profile c.args.reading.now c.args.packed c.in-Ok.unpacked _ is
+    c.in-Ok.ensures.unpacks c.in-Ok.ensures.within h (s (records is) c.in-Ok.unpacked (held_with c.args.reading.now c.unpack.new.unpacker (records is) h.holds) c.begin.ensures.bytes))
     refused c.from_residual.ensures
 
 pub returns-clause-kept : goal.returns-clause-kept
 returns-clause-kept c = λ is h.
-    let whole = rw c.new-input.ensures.profile at c.in_ok-take_inside.ensures.whole in
-    let taken = block_taken c.args.profile c.args.reading.now c.take_inside.new.reading c.args.packed.now c.in-Ok.unpacked
+    let whole = rw c.begin.ensures.profile at c.in_ok-take_inside.ensures.whole in
+    let taken = block_taken c.args.profile c.args.reading.now c.take_inside.new.reading c.args.packed c.in-Ok.unpacked
     is c.in-Ok.ensures.unpacks c.in-Ok.ensures.within h
     (whole (records is) c.in-Ok.unpacked
-    (held_with c.args.reading.now c.unpack.new.unpacker (records is) h.holds) c.new-input.ensures.bytes) in (
+    (held_with c.args.reading.now c.unpack.new.unpacker (records is) h.holds) c.begin.ensures.bytes) in (
       taken.0,
       taken.1,
       record {
@@ -68,7 +68,7 @@ returns-clause-kept c = λ is h.
           unit = taken.2.unit;
           validation = taken.2.validation;
         };
-        room = block_room c.args.profile is c.args.packed.now taken.0 c.args.reading.now.room _ h.room
+        room = block_room c.args.profile is c.args.packed taken.0 c.args.reading.now.room _ h.room
             (omega (arith, c.in_ok-take_inside.ensures.room, c.count-count.ensures));
       },
     )

@@ -13,8 +13,8 @@ returns-in-Block c = record {
 pub take-requires : goal.take-requires
 take-requires c = (records c.requires.0, c.requires.1.holds)
 
-pub returns : goal.returns
-returns c = record {
+pub returns-in_default : goal.returns-in_default
+returns-in_default c = record {
   refused = record_says c.args.profile c.args.reading.now c.args.next c.take.result c.take.ensures.refused;
   kept = record_taken c.args.profile c.args.reading.now c.take.new.self c.args.next
       (not_block c.args.next c.in_default.not-Block) c.take.result c.take.ensures.kept c.take.ensures.none

@@ -13,28 +13,28 @@ abbrev items : Vec (PlainDrawing Rings) → List (PlainDrawing Rings)
 items p = p.items
 
 pub loop-piece-init : goal.loop-piece-init
-loop-piece-init c = (
-  ap (flat_map items) c.into_iter-piece-iterator.ensures.into_iter_gives.0 ∙ c.into_pieces-piece-items.ensures,
-  λ given h. rw c.new-cells.ensures.items tt,
-)
+loop-piece-init c = record {
+  all = ap (flat_map items) c.into_iter-piece-iterator.ensures.into_iter_gives.0 ∙ c.into_pieces-piece-items.ensures;
+  cells = λ given h. rw c.new-cells.ensures.items tt;
+}
 
 pub returns-in_err-more-clause-err : goal.returns-in_err-more-clause-err
 returns-in_err-more-clause-err c =
     says_carried _ _ c.from_residual.result c.in_err-more.field-0.0
     (λ n u given h. unnamed_in_piece items given c.args.drawings c.loop-piece.yielded
     c.loop-piece.piece-iterator.rest.items c.next.new.self.rest.items c.in-Some.piece c.loop-piece.cells.items n
-    c.loop-piece.invariant.0 c.in-Some.ensures.steps.0 (c.loop-piece.invariant.1 given h) (u given h))
+    c.loop-piece.invariant.all c.in-Some.ensures.steps.0 (c.loop-piece.invariant.cells given h) (u given h))
     c.in_err-more.ensures.err c.from_residual.ensures
 
 pub loop-piece-preserved : goal.loop-piece-preserved
-loop-piece-preserved c = (
-  piece_goes items c.args.drawings c.loop-piece.yielded c.loop-piece.piece-iterator.rest.items
-      c.next.new.self.rest.items c.in-Some.piece c.loop-piece.invariant.0 c.in-Some.ensures.steps.0,
-  λ given h. subst (AreCells given (flat_map items (c.loop-piece.yielded ++ c.in-Some.piece ∷ [])))
+loop-piece-preserved c = record {
+  all = piece_goes items c.args.drawings c.loop-piece.yielded c.loop-piece.piece-iterator.rest.items
+      c.next.new.self.rest.items c.in-Some.piece c.loop-piece.invariant.all c.in-Some.ensures.steps.0;
+  cells = λ given h. subst (AreCells given (flat_map items (c.loop-piece.yielded ++ c.in-Some.piece ∷ [])))
       (sym c.in_ok-append.ensures.items)
       (piece_added items given c.loop-piece.yielded c.in-Some.piece c.loop-piece.cells.items c.in_ok-more.more.items
-      (c.loop-piece.invariant.1 given h) (c.in_ok-more.ensures.ok given h)),
-)
+      (c.loop-piece.invariant.cells given h) (c.in_ok-more.ensures.ok given h));
+}
 
 pub returns-clause-ok : goal.returns-clause-ok
 returns-clause-ok c = λ given h.
@@ -42,4 +42,4 @@ returns-clause-ok c = λ given h.
     ∙ c.in-None.ensures.steps.0) in
     subst (λ l. AreCells given l c.loop-piece.cells.items)
     (pieces_end items c.args.drawings c.loop-piece.yielded c.loop-piece.piece-iterator.rest.items
-    c.loop-piece.invariant.0 none) (c.loop-piece.invariant.1 given h)
+    c.loop-piece.invariant.all none) (c.loop-piece.invariant.cells given h)

@@ -10,7 +10,9 @@ use Rattle.oasis_library.proofs.resolve.resolve_cells.Given as goal
 
 -- the cells so far are those of the pieces so far
 abbrev pub invariant-loop-piece : goal.invariant-loop-piece
-invariant-loop-piece l =
-    (flat_map (λ (p : Vec (PlainDrawing Rings)). p.items) (l.yielded ++ l.piece-iterator.rest.items) ≡ l.fn.drawings)
-    × ((given : List CellName) → HoldsNames l.names given
-    → AreCells given (flat_map (λ (p : Vec (PlainDrawing Rings)). p.items) l.yielded) l.cells.items)
+invariant-loop-piece l = record {
+  all : flat_map (λ (p : Vec (PlainDrawing Rings)). p.items) (l.yielded ++ l.piece-iterator.rest.items)
+      ≡ l.fn.drawings;
+  cells : (given : List CellName) → HoldsNames l.names given
+      → AreCells given (flat_map (λ (p : Vec (PlainDrawing Rings)). p.items) l.yielded) l.cells.items;
+}

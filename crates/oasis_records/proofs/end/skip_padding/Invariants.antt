@@ -5,6 +5,9 @@ use Rattle.oasis_records.proofs.end.skip_padding.Given as goal
 
 -- the bytes so far were read, for any last one
 abbrev pub invariant-loop-n : goal.invariant-loop-n
-invariant-loop-n g l =
-    (last : ℕ) × (said : List ℕ) × Going g.R.Read.remaining g.R.Read.read_errors g.R.Read.lent (λ _. IsByte) (λ x. x)
-    l.count 0 l.initial.input l.input (l.count - l.n) last said
+invariant-loop-n g l = record {
+  last : ℕ;
+  read : List ℕ;
+  going : Going g.R.Read.remaining g.R.Read.read_errors g.R.Read.lent (λ _. IsByte) (λ x. x)
+      l.count 0 l.initial.input l.input (l.count - l.n) last read;
+}

@@ -10,22 +10,25 @@ use Rattle.oasis_records.proofs.Whole.{magic_code}
 use Rattle.oasis_records.proofs.magic.read_magic.Goals as goal
 
 pub loop-n-init : goal.loop-n-init
-loop-n-init g c = (λ h. absurd (omega (arith, h)), λ new r p. p)
+loop-n-init g c = record {
+  live = λ h. absurd (omega (arith, h));
+  goes = λ new r p. p;
+}
 
 pub loop-n-preserved : goal.loop-n-preserved
 loop-n-preserved g c =
     let n = c.loop-n.n in
     let more : n + 1 ≡ suc n = omega arith in
-    let q = rw c.magic_byte.ensures at c.in_ok-_byte.ensures.reads in (
-      λ h. c.in_ok-_byte.ensures.reads.failed,
-      λ new r p.
+    let q = rw c.magic_byte.ensures at c.in_ok-_byte.ensures.reads in record {
+      live = λ h. c.in_ok-_byte.ensures.reads.failed;
+      goes = λ new r p.
           let rest = subst (λ k. Reads g.R.Read.remaining g.R.Read.read_errors g.R.Read.lent
           (AreMagicBytes (drop k magic)) c.read_magic_byte.new.input new r) more p in
-          c.loop-n.invariant.1 new r
+          c.loop-n.invariant.goes new r
           (subst (λ l. Reads g.R.Read.remaining g.R.Read.read_errors g.R.Read.lent (AreMagicBytes l)
           c.loop-n.input new r) (sym (drop_at n magic c.loop-n-test.true))
-          (reads_go (λ _. AreMagicBytes (drop (suc n) magic)) q rest)),
-    )
+          (reads_go (λ _. AreMagicBytes (drop (suc n) magic)) q rest));
+    }
 
 pub returns-in_err-_byte : goal.returns-in_err-_byte
 returns-in_err-_byte g c =
@@ -33,7 +36,7 @@ returns-in_err-_byte g c =
     let n = c.loop-n.n in
     let q = rw c.magic_byte.ensures at c.in_err-_byte.ensures.reads in
     let e = c.in_err-_byte.field-0.0 in
-    let all = c.loop-n.invariant.1 c.read_magic_byte.new.input (of_fault e)
+    let all = c.loop-n.invariant.goes c.read_magic_byte.new.input (of_fault e)
     (subst (λ l. Reads g.R.Read.remaining g.R.Read.read_errors g.R.Read.lent (AreMagicBytes l) c.loop-n.input
     c.read_magic_byte.new.input (of_fault e)) (sym (drop_at n magic c.loop-n-test.true))
     (reads_stop (λ _. AreMagicBytes (drop (suc n) magic)) e (λ _. magic_code (drop (suc n) magic)) q)) in
@@ -43,8 +46,8 @@ pub returns : goal.returns
 returns g c =
     let n = c.loop-n.n in
     let long : 13 ≤ n = omega (arith, c.loop-n-test.false) in
-    let all = c.loop-n.invariant.1 c.loop-n.input (Ok (Ok tt))
+    let all = c.loop-n.invariant.goes c.loop-n.input (Ok (Ok tt))
     (subst (λ l. Reads g.R.Read.remaining g.R.Read.read_errors g.R.Read.lent (AreMagicBytes l) c.loop-n.input
     c.loop-n.input (Ok (Ok tt))) (sym (drop_end n magic long))
-    (reads_nothing (Ok tt) (c.loop-n.invariant.0 (omega (arith, long))))) in
+    (reads_nothing (Ok tt) (c.loop-n.invariant.live (omega (arith, long))))) in
     record { reads = all; none = reads_denies (Ok (Ok tt)) (magic_code magic) all }

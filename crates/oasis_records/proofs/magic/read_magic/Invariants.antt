@@ -10,8 +10,9 @@ use Rattle.oasis_records.proofs.magic.read_magic.Given as goal
 
 -- whatever reads the rest reads the whole
 abbrev pub invariant-loop-n : goal.invariant-loop-n
-invariant-loop-n g l =
-    (0 < l.n → has_failed l.input ≡ false)
-    × ((new : Input g.row.R.Denot) (r : Result (Result (Unit {0}) RecordRule) (Cause ValueFault))
-    → Reads g.R.Read.remaining g.R.Read.read_errors g.R.Read.lent (AreMagicBytes (drop l.n magic)) l.input new r
-    → Reads g.R.Read.remaining g.R.Read.read_errors g.R.Read.lent (AreMagicBytes magic) l.initial.input new r)
+invariant-loop-n g l = record {
+  live : 0 < l.n → has_failed l.input ≡ false;
+  goes : (new : Input g.row.R.Denot) (r : Result (Result (Unit {0}) RecordRule) (Cause ValueFault))
+      → Reads g.R.Read.remaining g.R.Read.read_errors g.R.Read.lent (AreMagicBytes (drop l.n magic)) l.input new r
+      → Reads g.R.Read.remaining g.R.Read.read_errors g.R.Read.lent (AreMagicBytes magic) l.initial.input new r;
+}

@@ -7,16 +7,20 @@ use Rattle.oasis_values.proofs.Loops.{going_from, going_on, going_err, going_end
 use Rattle.oasis_records.proofs.start.skip_offsets.Goals as goal
 
 pub loop-n-init : goal.loop-n-init
-loop-n-init g c = (0, [], going_from (λ _. IsUnsigned) (λ x. x) 12 0 c.args.input.now (omega arith) c.requires)
+loop-n-init g c = record {
+  last = 0;
+  read = [];
+  going = going_from (λ _. IsUnsigned) (λ x. x) 12 0 c.args.input.now (omega arith) c.requires;
+}
 
 pub loop-n-preserved : goal.loop-n-preserved
 loop-n-preserved g c =
-    let left : 12 - c.loop-n.n ≡ suc (12 - (c.loop-n.n + 1)) = omega (arith, c.loop-n-test.true) in (
-      c.in_ok-_offset._offset,
-      _,
-      going_on (12 - (c.loop-n.n + 1)) c.loop-n.invariant.2 left
-          c.in_ok-_offset.ensures.reads,
-    )
+    let left : 12 - c.loop-n.n ≡ suc (12 - (c.loop-n.n + 1)) = omega (arith, c.loop-n-test.true) in record {
+      last = c.in_ok-_offset._offset;
+      read = _;
+      going = going_on (12 - (c.loop-n.n + 1)) c.loop-n.invariant.going left
+          c.in_ok-_offset.ensures.reads;
+    }
 
 pub returns-in_err-_offset : goal.returns-in_err-_offset
 returns-in_err-_offset g c =
@@ -24,10 +28,10 @@ returns-in_err-_offset g c =
     let left : 12 - c.loop-n.n ≡ suc (12 - (c.loop-n.n + 1)) = omega (arith, c.loop-n-test.true) in
     rw (p.1, p.2) (record {
       reads = reads_seen_err (λ _. true)
-          (going_err (12 - (c.loop-n.n + 1)) (λ _. unsigned_code) c.loop-n.invariant.2 left
+          (going_err (12 - (c.loop-n.n + 1)) (λ _. unsigned_code) c.loop-n.invariant.going left
           c.in_err-_offset.ensures.reads);
     })
 
 pub returns : goal.returns
 returns g c =
-    record { reads = reads_seen (λ _. true) (going_end c.loop-n.invariant.2 (omega (arith, c.loop-n-test.false))) }
+    record { reads = reads_seen (λ _. true) (going_end c.loop-n.invariant.going (omega (arith, c.loop-n-test.false))) }

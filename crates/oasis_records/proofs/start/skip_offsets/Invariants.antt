@@ -5,6 +5,9 @@ use Rattle.oasis_records.proofs.start.skip_offsets.Given as goal
 
 -- the integers so far were read, for any last one
 abbrev pub invariant-loop-n : goal.invariant-loop-n
-invariant-loop-n g l =
-    (last : ℕ) × (said : List ℕ) × Going g.R.Read.remaining g.R.Read.read_errors g.R.Read.lent (λ _. IsUnsigned)
-    (λ x. x) 12 0 l.initial.input l.input (12 - l.n) last said
+invariant-loop-n g l = record {
+  last : ℕ;
+  read : List ℕ;
+  going : Going g.R.Read.remaining g.R.Read.read_errors g.R.Read.lent (λ _. IsUnsigned) (λ x. x)
+      12 0 l.initial.input l.input (12 - l.n) last read;
+}

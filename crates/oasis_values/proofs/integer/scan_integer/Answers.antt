@@ -11,7 +11,7 @@ overflow_add-value c =
       | goal.else-at-eq-MOST_BYTES-via-else-at-eq-MOST_BYTES w ↦ absurd (omega arith)
     ] in
     let fits = next_fits c.args.bytes.now c.loop-at.at c.loop-at.value c.loop-at.unit c.from-digit.result
-    c.loop-at-test.true c.loop-at.invariant.0 tenth c.loop-at.invariant.2 c.loop-at.invariant.3
+    c.loop-at-test.true c.loop-at.invariant.few tenth c.loop-at.invariant.value c.loop-at.invariant.unit
     c.from-digit.ensures in
     omega (arith, fits)
 
@@ -23,12 +23,12 @@ returns-then-byte-lt-CONTINUES c =
       | goal.else-at-eq-MOST_BYTES-via-else-at-eq-MOST_BYTES w ↦ absurd (omega arith)
     ] in
     let fits = next_fits c.args.bytes.now c.loop-at.at c.loop-at.value c.loop-at.unit c.from-digit.result
-    c.loop-at-test.true c.loop-at.invariant.0 tenth c.loop-at.invariant.2 c.loop-at.invariant.3
+    c.loop-at-test.true c.loop-at.invariant.few tenth c.loop-at.invariant.value c.loop-at.invariant.unit
     c.from-digit.ensures in
     let is = more_groups c.args.bytes.now c.loop-at.at c.loop-at.value c.loop-at.unit c.from-digit.result
-    c.loop-at-test.true c.loop-at.invariant.2 c.loop-at.invariant.3 c.from-digit.ensures in
+    c.loop-at-test.true c.loop-at.invariant.value c.loop-at.invariant.unit c.from-digit.ensures in
     whole_front c.args.profile c.args.bytes.now c.loop-at.at _ c.loop-at-test.true
-    (omega (arith, c.loop-at.invariant.0, (few_bytes c.args.profile).0)) c.loop-at.invariant.1 is fits
+    (omega (arith, c.loop-at.invariant.few, (few_bytes c.args.profile).0)) c.loop-at.invariant.continues is fits
     c.if-byte-lt-CONTINUES.true
 
 pub loop-at-preserved : goal.loop-at-preserved
@@ -36,10 +36,11 @@ loop-at-preserved c =
     let low : c.loop-at.at ≤ 8 = elim c.else-at-eq-MOST_BYTES.branch [
       | goal.else-at-eq-MOST_BYTES-via-then-at-eq-MOST_BYTES+else-byte-gt1 w ↦ omega arith
       | goal.else-at-eq-MOST_BYTES-via-else-at-eq-MOST_BYTES w ↦ omega arith
-    ] in (
-      omega arith,
-      more_continues c.args.bytes.now c.loop-at.at c.loop-at-test.true c.loop-at.invariant.1 (omega arith),
-      more_groups c.args.bytes.now c.loop-at.at c.loop-at.value c.loop-at.unit c.from-digit.result
-          c.loop-at-test.true c.loop-at.invariant.2 c.loop-at.invariant.3 c.from-digit.ensures,
-      next_unit c.loop-at.at c.loop-at.unit c.from-unit.result c.loop-at.invariant.3 c.from-unit.ensures,
-    )
+    ] in record {
+      few = omega arith;
+      continues = more_continues c.args.bytes.now c.loop-at.at c.loop-at-test.true c.loop-at.invariant.continues
+          (omega arith);
+      value = more_groups c.args.bytes.now c.loop-at.at c.loop-at.value c.loop-at.unit c.from-digit.result
+          c.loop-at-test.true c.loop-at.invariant.value c.loop-at.invariant.unit c.from-digit.ensures;
+      unit = next_unit c.loop-at.at c.loop-at.unit c.from-unit.result c.loop-at.invariant.unit c.from-unit.ensures;
+    }

@@ -1,7 +1,7 @@
 use Rattle.std.proofs.Common.{◌≡◌, sym, subst, ap, ◌∙◌}
 use Rattle.lvl_grid.specs.Winding.{IsRing}
 use Rattle.lvl_cells.specs.declared.few_shapes.FewSpan.{FewSpan}
-use Rattle.lvl_cells.specs.inside.Few.{stretch_in}
+use Rattle.lvl_cells.specs.inside.Outlines.{outline, stretch_in}
 use Rattle.lvl_cells.proofs.FewSpans.{few_read}
 use Rattle.lvl_cells.proofs.Moving.{IsRing-moved}
 use Rattle.lvl_cells.proofs.few_shapes.FewShapes.ring.Goals as goal
@@ -12,8 +12,8 @@ returns-clause-ring c =
     few_read _ _ _ _ c.args.i c.index-span.result.now c.self.invariant c.self.view_is c.requires
     c.index-span.ensures in
     let s : FewSpan = c.index-span.result.now in
-    let points : c.stretch-points.result.now ≡ stretch_in c.self.inside.points.items s.begin s.end =
-    c.stretch-points.ensures ∙ ap (λ ps. stretch_in ps s.begin s.end) c.deref.ensures.value in
+    let points : c.stretch.result.now ≡ stretch_in c.self.inside.points.items s.begin s.end =
+    c.stretch.ensures ∙ ap (λ ps. stretch_in ps s.begin s.end) c.deref.ensures.value in
     subst IsRing (sym c.new.ensures)
-    (IsRing-moved c.index-span.result.now.by c.stretch-points.result.now
-    (subst IsRing (sym points) span.is.movable.ring))
+    (IsRing-moved s.by (outline c.stretch.result.now s.along_y)
+    (subst (λ ps. IsRing (outline ps s.along_y)) (sym points) span.is.movable.ring))

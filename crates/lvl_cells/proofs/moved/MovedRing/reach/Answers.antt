@@ -4,6 +4,7 @@ use Rattle.std.proofs.lemmas.List.Elements.{All-map}
 use Rattle.lvl_grid.specs.declared.point.Point.{Point}
 use Rattle.lvl_grid.specs.Turn.{shifted}
 use Rattle.lvl_names.specs.Shifts.{IsBetween}
+use Rattle.lvl_cells.specs.inside.Outlines.{ring_of}
 use Rattle.lvl_cells.proofs.moved.MovedRing.reach.Goals as goal
 
 between_moved : (by low high p : Point) → IsBetween low high p
@@ -20,7 +21,7 @@ returns c =
     let by : Point = c.self.inside.by in
     let low : Point = c.in_ok-low.low in
     let high : Point = c.in_ok-low.high in
-    let points : List Point = c.self.inside.points.now in
+    let points : List Point = ring_of c.self.inside.outline in
     let low_is : c.in_ok-moved.field-0 ≡ shifted by low = c.in_ok-moved.ensures.1 in
     let high_is : c.in_ok-moved-2.field-0 ≡ shifted by high = c.in_ok-moved-2.ensures.1 in
     let P : Point → Type 0 = IsBetween (shifted by low) (shifted by high) in

@@ -4,7 +4,7 @@ use Rattle.lvl_cells.specs.Cells.{Rings}
 use Rattle.std.proofs.lemmas.List.{append-nil, nil_from_length}
 use Rattle.lvl_flat.specs.Sheet.{PlainSheet}
 use Rattle.lvl_flat.specs.Sheets.{is_filled, IsInOrder}
-use Rattle.lvl_flat.proofs.Ending.{filled_in_order, filled_step}
+use Rattle.lvl_flat.proofs.Ending.{filled_in_order, filled_step, sheets_go}
 use Rattle.lvl_flat.proofs.flat.Flat.filled.Goals as goal
 
 untrue : IsTrue false → ⊥
@@ -18,29 +18,40 @@ empty_is (ring ∷ rings) true h = (let e : ring ∷ rings ≡ [] = h.0 refl in 
 empty_is (ring ∷ rings) false h = grind arith
 
 pub loop-sheet-init : goal.loop-sheet-init
-loop-sheet-init c = (c.new-filled.ensures.items, c.into_iter-sheet-iterator.ensures.into_iter_gives.0)
+loop-sheet-init c = record {
+  filled = c.new-filled.ensures.items;
+  all = c.into_iter-sheet-iterator.ensures.into_iter_gives.0;
+}
 
 pub loop-sheet-preserved-in-Continue-1 : goal.loop-sheet-preserved-in-Continue-1
 loop-sheet-preserved-in-Continue-1 c =
     let long : (length c.in-Some.sheet.rings == 0) ≡ not true =
     ap (λ (s : PlainSheet). length s.rings == 0) (sym c.sheet.view_is)
     ∙ (empty_is c.sheet.inside.rings c.is_empty.result c.is_empty.ensures ∙ c.if-not-is_empty.true) in
-    let so =
-    filled_step c.loop-sheet.yielded c.loop-sheet.filled.items c.args.sheets.items
-    c.loop-sheet.sheet-iterator.rest.items c.next.new.self.rest.items c.in-Some.sheet true long
-    c.loop-sheet.invariant c.in-Some.ensures.steps.0 in
-    (c.in_ok-push.ensures.items ∙ so.0, so.1)
+    record {
+      filled =
+          c.in_ok-push.ensures.items
+          ∙ filled_step c.loop-sheet.yielded c.loop-sheet.filled.items c.in-Some.sheet true long
+          c.loop-sheet.invariant.filled;
+      all =
+          sheets_go c.args.sheets.items c.loop-sheet.yielded c.loop-sheet.sheet-iterator.rest.items
+          c.next.new.self.rest.items c.in-Some.sheet c.loop-sheet.invariant.all c.in-Some.ensures.steps.0;
+    }
 
 pub loop-sheet-preserved : goal.loop-sheet-preserved
 loop-sheet-preserved c =
     let long : (length c.in-Some.sheet.rings == 0) ≡ not false =
     ap (λ (s : PlainSheet). length s.rings == 0) (sym c.sheet.view_is)
     ∙ (empty_is c.sheet.inside.rings c.is_empty.result c.is_empty.ensures ∙ c.if-not-is_empty.false) in
-    let so =
-    filled_step c.loop-sheet.yielded c.loop-sheet.filled.items c.args.sheets.items
-    c.loop-sheet.sheet-iterator.rest.items c.next.new.self.rest.items c.in-Some.sheet false long
-    c.loop-sheet.invariant c.in-Some.ensures.steps.0 in
-    (sym (append-nil c.loop-sheet.filled.items) ∙ so.0, so.1)
+    record {
+      filled =
+          sym (append-nil c.loop-sheet.filled.items)
+          ∙ filled_step c.loop-sheet.yielded c.loop-sheet.filled.items c.in-Some.sheet false long
+          c.loop-sheet.invariant.filled;
+      all =
+          sheets_go c.args.sheets.items c.loop-sheet.yielded c.loop-sheet.sheet-iterator.rest.items
+          c.next.new.self.rest.items c.in-Some.sheet c.loop-sheet.invariant.all c.in-Some.ensures.steps.0;
+    }
 
 pub invariant_of-result : goal.invariant_of-result
 invariant_of-result c =
@@ -49,8 +60,8 @@ invariant_of-result c =
     (sym c.loop-sheet.sheet-iterator.rest.ok.0 ∙ c.in-None.ensures.steps.0) in
     let all : c.loop-sheet.yielded ≡ c.args.sheets.items =
     sym (append-nil c.loop-sheet.yielded)
-    ∙ (ap (λ r. c.loop-sheet.yielded ++ r) (sym none) ∙ c.loop-sheet.invariant.1) in (
-      subst IsInOrder (sym (c.loop-sheet.invariant.0 ∙ ap (filter is_filled) all))
+    ∙ (ap (λ r. c.loop-sheet.yielded ++ r) (sym none) ∙ c.loop-sheet.invariant.all) in (
+      subst IsInOrder (sym (c.loop-sheet.invariant.filled ∙ ap (filter is_filled) all))
           (filled_in_order c.args.sheets.items c.requires),
       c.new.ensures,
     )
@@ -62,5 +73,5 @@ returns c =
     (sym c.loop-sheet.sheet-iterator.rest.ok.0 ∙ c.in-None.ensures.steps.0) in
     let all : c.loop-sheet.yielded ≡ c.args.sheets.items =
     sym (append-nil c.loop-sheet.yielded)
-    ∙ (ap (λ r. c.loop-sheet.yielded ++ r) (sym none) ∙ c.loop-sheet.invariant.1) in
-    c.loop-sheet.invariant.0 ∙ ap (filter is_filled) all
+    ∙ (ap (λ r. c.loop-sheet.yielded ++ r) (sym none) ∙ c.loop-sheet.invariant.all) in
+    c.loop-sheet.invariant.filled ∙ ap (filter is_filled) all

@@ -5,9 +5,11 @@ use Rattle.oasis_values.proofs.input.Input.characters.Given as goal
 
 -- the characters so far were read, for any last one
 abbrev pub invariant-characters : goal.invariant-characters
-invariant-characters g l =
-    (last : ℕ) × Going g.R.Read.remaining g.R.Read.read_errors g.R.Read.lent (λ _. IsCharacter l.kind) (λ c. c)
-    l.len 0 l.initial.self l.self l.left last l.text.items
+invariant-characters g l = record {
+  last : ℕ;
+  going : Going g.R.Read.remaining g.R.Read.read_errors g.R.Read.lent (λ _. IsCharacter l.kind) (λ c. c)
+      l.len 0 l.initial.self l.self l.left last l.text.items;
+}
 
 -- what is left becomes less
 abbrev pub decreases-characters : goal.decreases-characters

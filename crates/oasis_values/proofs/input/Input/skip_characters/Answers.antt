@@ -7,19 +7,20 @@ use Rattle.oasis_values.proofs.Values.{character_code}
 use Rattle.oasis_values.proofs.input.Input.skip_characters.Goals as goal
 
 pub loop-n-init : goal.loop-n-init
-loop-n-init g c = (
-  0,
-  [],
-  going_from (λ _. IsCharacter c.args.kind) (λ x. x) c.args.len 0 c.args.self.now (omega arith) c.requires,
-)
+loop-n-init g c = record {
+  last = 0;
+  read = [];
+  going = going_from (λ _. IsCharacter c.args.kind) (λ x. x) c.args.len 0 c.args.self.now (omega arith) c.requires;
+}
 
 pub loop-n-preserved : goal.loop-n-preserved
 loop-n-preserved g c =
-    let left : c.args.len - c.loop-n.n ≡ suc (c.args.len - (c.loop-n.n + 1)) = omega (arith, c.loop-n-test.true) in (
-      c.in_ok-_character._character,
-      _,
-      going_on (c.args.len - (c.loop-n.n + 1)) c.loop-n.invariant.2 left c.in_ok-_character.ensures.reads,
-    )
+    let left : c.args.len - c.loop-n.n ≡ suc (c.args.len - (c.loop-n.n + 1)) =
+    omega (arith, c.loop-n-test.true) in record {
+      last = c.in_ok-_character._character;
+      read = _;
+      going = going_on (c.args.len - (c.loop-n.n + 1)) c.loop-n.invariant.going left c.in_ok-_character.ensures.reads;
+    }
 
 pub returns-in_err-_character : goal.returns-in_err-_character
 returns-in_err-_character g c =
@@ -27,12 +28,12 @@ returns-in_err-_character g c =
     let left : c.args.len - c.loop-n.n ≡ suc (c.args.len - (c.loop-n.n + 1)) = omega (arith, c.loop-n-test.true) in
     rw (p.1, p.2) (record {
       reads = reads_seen_err (λ _. tt)
-          (going_err (c.args.len - (c.loop-n.n + 1)) (λ _. character_code c.args.kind) c.loop-n.invariant.2 left
+          (going_err (c.args.len - (c.loop-n.n + 1)) (λ _. character_code c.args.kind) c.loop-n.invariant.going left
           c.in_err-_character.ensures.reads);
     })
 
 pub returns : goal.returns
 returns g c =
     record {
-      reads = reads_seen (λ _. tt) (going_end c.loop-n.invariant.2 (omega (arith, c.loop-n-test.false)));
+      reads = reads_seen (λ _. tt) (going_end c.loop-n.invariant.going (omega (arith, c.loop-n-test.false)));
     }

@@ -5,6 +5,9 @@ use Rattle.oasis_values.proofs.input.Input.skip_characters.Given as goal
 
 -- the characters so far were read, for any last one
 abbrev pub invariant-loop-n : goal.invariant-loop-n
-invariant-loop-n g l =
-    (last : ℕ) × (said : List ℕ) × Going g.R.Read.remaining g.R.Read.read_errors g.R.Read.lent
-    (λ _. IsCharacter l.kind) (λ c. c) l.len 0 l.initial.self l.self (l.len - l.n) last said
+invariant-loop-n g l = record {
+  last : ℕ;
+  read : List ℕ;
+  going : Going g.R.Read.remaining g.R.Read.read_errors g.R.Read.lent (λ _. IsCharacter l.kind) (λ c. c)
+      l.len 0 l.initial.self l.self (l.len - l.n) last read;
+}

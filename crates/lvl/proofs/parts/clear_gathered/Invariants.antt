@@ -1,0 +1,12 @@
+use Rattle.std.proofs.Common.{◌≡◌, ◌<◌, ◌≤◌, ℕ, length, get_or}
+use Rattle.lvl_corners.specs.declared.digest.LayerHash.{LayerHash}
+use Rattle.lvl.specs.Hashes.{IsCleared}
+use Rattle.lvl.proofs.parts.clear_gathered.Given as goal
+
+-- the hashes so far are cleared, and the others are unchanged
+abbrev pub invariant-loop-hash : goal.invariant-loop-hash
+invariant-loop-hash l =
+    ((k : ℕ) (h : LayerHash) → k < l.hash-index → k < length l.hashes
+    → IsCleared (get_or l.fn.hashes k h) (get_or l.hashes k h))
+    × ((k : ℕ) (h : LayerHash) → l.hash-index ≤ k → k < length l.hashes
+    → get_or l.hashes k h ≡ get_or l.fn.hashes k h)

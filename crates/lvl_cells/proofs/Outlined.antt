@@ -1,0 +1,123 @@
+-- Kept rings: what a stretch of points means, and a list of rings after one more is kept.
+use Rattle.std.proofs.Common.{◌≡◌, ◌≤◌, ◌-◌, ◌+◌, ℕ, Bool, true, false, List, [], ◌∷◌, ◌++◌, take, drop, map}
+use Rattle.std.proofs.Common.{rules, length, get_or, All, refl, sym, ap, arith, subst, ◌∙◌}
+use Rattle.std.proofs.lemmas.List.{append_assoc, drop_at, length-append, map-append, take_all}
+use Rattle.std.proofs.lemmas.List.Elements.{All-cons, All-head, All-push, All-tail, All-weaker}
+use Rattle.lvl_grid.specs.declared.point.Point.{Point}
+use Rattle.lvl_grid.specs.Winding.{IsRing}
+use Rattle.lvl_cells.specs.declared.outlines.OutlineSpan.{OutlineSpan}
+use Rattle.lvl_cells.specs.Cells.{Rings}
+use Rattle.lvl_cells.specs.inside.Outlines.{on_x, on_y, outline, outline_in, rectangle_to}
+use Rattle.lvl_cells.specs.inside.Outlines.{stretch_in, IsOutline}
+use Rattle.lvl_cells.specs.inside.Spans.{origin, IsPrefixOf}
+use Rattle.lvl_names.specs.Shifts.{IsBetween}
+use Rattle.lvl_cells.proofs.Spanned.{grown, stretch_same, no_fewer, goes_on_more}
+
+-- a rectangle is a ring
+pub rectangle_ring : (d : Point) (along_y : Bool) → IsRing (rectangle_to d along_y)
+rectangle_ring d true = record { enough = omega arith; straight = search rules }
+rectangle_ring d false = record { enough = omega arith; straight = search rules }
+
+-- the points of a ring, which are more than one, mean the ring
+pub outline_points : (ring : List Point) (along_y : Bool) → IsRing ring → outline ring along_y ≡ ring
+outline_points [] along_y h = refl
+outline_points (p ∷ []) along_y h = absurd (omega (arith, h.enough))
+outline_points (p ∷ q ∷ ps) along_y h = refl
+
+-- the points that are appended are a stretch
+pub stretch_appended : (points more : List Point) (begin end : ℕ) → begin ≡ length points
+    → end ≡ length points + length more → stretch_in (points ++ more) begin end ≡ more
+stretch_appended points more begin end b e =
+    let all : length more ≤ end - begin = omega (arith, b, e) in
+    ap (take (end - begin)) (drop_at points more begin (sym b)) ∙ take_all (end - begin) more all
+
+-- a ring means the same after more points are kept
+pub outline_same : (points points' : List Point) (s : OutlineSpan) → IsPrefixOf points points' → IsOutline points s
+    → outline_in points' s ≡ outline_in points s
+outline_same points points' s on h =
+    ap (λ ps. outline ps s.along_y) (stretch_same points points' s.begin s.end on h.order h.inside)
+
+outline_still : (points points' : List Point) (s : OutlineSpan) → IsPrefixOf points points' → IsOutline points s
+    → IsOutline points' s
+outline_still points points' s on h = record {
+  order = h.order;
+  inside = omega (arith, h.inside, no_fewer points points' on);
+  ring = subst IsRing (sym (outline_same points points' s on h)) h.ring;
+}
+
+-- the spans stay valid after more points are kept
+pub still : (points points' : List Point) (spans : List OutlineSpan) → IsPrefixOf points points'
+    → All (IsOutline points) spans → All (IsOutline points') spans
+still points points' spans on h =
+    All-weaker {X = OutlineSpan} (IsOutline points) (IsOutline points') (λ s is. outline_still points points' s on is)
+    spans h
+
+-- the rings stay the same after more points are kept
+pub rings_same : (points points' : List Point) (spans : List OutlineSpan) → IsPrefixOf points points'
+    → All (IsOutline points) spans → map (outline_in points') spans ≡ map (outline_in points) spans
+rings_same points points' [] on h = refl
+rings_same points points' (s ∷ spans) on h =
+    rw (
+      outline_same points points' s on (All-head (IsOutline points) s spans h),
+      rings_same points points' spans on (All-tail (IsOutline points) s spans h),
+    ) refl
+
+-- one more ring, kept by more points
+pub record IsPushed (points more : List Point) (spans : List OutlineSpan) (s : OutlineSpan) (rings : Rings)
+    (ring : List Point) : Type 0 where
+  pub are : All (IsOutline (points ++ more)) (spans ++ s ∷ [])
+  pub is : map (outline_in (points ++ more)) (spans ++ s ∷ []) ≡ rings ++ ring ∷ []
+
+pub pushed : (points more : List Point) (spans : List OutlineSpan) (s : OutlineSpan) (rings : Rings) (ring : List Point)
+    → All (IsOutline points) spans → map (outline_in points) spans ≡ rings → s.begin ≡ length points
+    → s.end ≡ length points + length more → outline more s.along_y ≡ ring → IsRing ring
+    → IsPushed points more spans s rings ring
+pushed points more spans s rings ring h e b d is good =
+    let on : IsPrefixOf points (points ++ more) = goes_on_more points more in
+    let means : outline_in (points ++ more) s ≡ ring =
+    ap (λ ps. outline ps s.along_y) (stretch_appended points more s.begin s.end b d) ∙ is in
+    record {
+      are =
+          All-push (IsOutline (points ++ more)) spans s (still points (points ++ more) spans on h)
+          (record {
+            order = omega (arith, b, d);
+            inside = omega (arith, d, length-append points more);
+            ring = subst IsRing (sym means) good;
+          });
+      is =
+          map-append (outline_in (points ++ more)) spans (s ∷ [])
+          ∙ (ap (λ rs. rs ++ outline_in (points ++ more) s ∷ []) (rings_same points (points ++ more) spans on h ∙ e)
+          ∙ ap (λ r. rings ++ r ∷ []) means);
+    }
+
+-- what begins with a list and more begins with the list
+pub goes_on_twice : {X : Type 0} (xs more ys : List X) → IsPrefixOf (xs ++ more) ys → IsPrefixOf xs ys
+goes_on_twice xs more ys h =
+    let rest = drop (length (xs ++ more)) ys in
+    let all : ys ≡ xs ++ (more ++ rest) = grown (xs ++ more) ys h ∙ append_assoc xs more rest in
+    subst (IsPrefixOf xs) (sym all) (goes_on_more xs (more ++ rest))
+
+-- a predicate of four points
+all_of_four : (P : Point → Type 0) (p q r t : Point) → P p → P q → P r → P t → All P (p ∷ q ∷ r ∷ t ∷ [])
+all_of_four P p q r t a b c d =
+    All-cons P p (q ∷ r ∷ t ∷ []) a
+    (All-cons P q (r ∷ t ∷ []) b (All-cons P r (t ∷ []) c (All-cons P t [] d (λ k e none. absurd (omega (arith, none))))))
+
+-- what has the origin and a point between its corners has the rectangle from the one to the other
+pub between_corners : (low high d : Point) (along_y : Bool) → IsBetween low high origin → IsBetween low high d
+    → All (IsBetween low high) (rectangle_to d along_y)
+between_corners low high d true o p =
+    all_of_four (IsBetween low high) origin (on_y d) d (on_x d) o
+    (record { left = o.left; right = o.right; below = p.below; above = p.above }) p
+    (record { left = p.left; right = p.right; below = o.below; above = o.above })
+between_corners low high d false o p =
+    all_of_four (IsBetween low high) origin (on_x d) d (on_y d) o
+    (record { left = p.left; right = p.right; below = o.below; above = o.above }) p
+    (record { left = o.left; right = o.right; below = p.below; above = p.above })
+
+-- one point means a rectangle
+pub outline_one : (points : List Point) (along_y : Bool) (d : Point) → length points ≡ 1
+    → outline points along_y ≡ rectangle_to (get_or points 0 d) along_y
+outline_one [] along_y d h = absurd (omega (arith, h))
+outline_one (p ∷ []) along_y d h = refl
+outline_one (p ∷ q ∷ ps) along_y d h = absurd (omega (arith, h))

@@ -1,0 +1,61 @@
+-- Rings as they are kept: by their points or, if they are rectangles, by a diagonal.
+use Rattle.std.specs.Prelude.{ℕ, ◌-◌, ◌≤◌, Bool, true, false, List, [], ◌∷◌, map, take, drop, length, pos}
+use Rattle.lvl_grid.specs.declared.point.Point.{Point}
+use Rattle.lvl_grid.specs.Turn.{shifted}
+use Rattle.lvl_grid.specs.Winding.{IsRing}
+use Rattle.lvl_cells.specs.declared.form.Rectangle.{Rectangle}
+use Rattle.lvl_cells.specs.declared.outline.Kept.{Kept}
+use Rattle.lvl_cells.specs.declared.outline.Outline.{Outline}
+use Rattle.lvl_cells.specs.declared.outline.Kept.TheVariants.{Points, Corners}
+use Rattle.lvl_cells.specs.declared.outlines.OutlineSpan.{OutlineSpan}
+use Rattle.lvl_cells.specs.inside.Spans.{IsAgain, origin}
+
+-- the point on the axis x with the abscissa of another
+abbrev pub on_x : Point → Point
+on_x p = record { x = p.x; y = pos 0 }
+
+-- the point on the axis y with the ordinate of another
+abbrev pub on_y : Point → Point
+on_y p = record { x = pos 0; y = p.y }
+
+-- the rectangle from the origin to the opposite corner, whose first edge is along y or along x
+abbrev pub rectangle_to : Point → Bool → List Point
+rectangle_to d true = origin ∷ on_y d ∷ d ∷ on_x d ∷ []
+rectangle_to d false = origin ∷ on_x d ∷ d ∷ on_y d ∷ []
+
+-- the ring that is kept by these points: by one, the rectangle from the origin to it
+abbrev pub outline : List Point → Bool → List Point
+outline [] along_y = []
+outline (d ∷ []) along_y = rectangle_to d along_y
+outline (p ∷ q ∷ ps) along_y = p ∷ q ∷ ps
+
+-- the ring that an outline means
+abbrev pub ring_of : Outline → List Point
+ring_of o = outline o.points.now o.along_y
+
+-- the points with an index from `begin` up to `end`, which is excluded
+abbrev pub stretch_in : List Point → ℕ → ℕ → List Point
+stretch_in points begin end = take (end - begin) (drop begin points)
+
+-- the points of a ring that is kept, or the corners of a rectangle
+abbrev pub kept_points : Kept → List Point
+kept_points (Points p) = p.now
+kept_points (Corners c) = c
+
+-- the points of a rectangle
+abbrev pub rectangle_at : Rectangle → List Point
+rectangle_at r = map (shifted r.from) (rectangle_to r.diagonal r.along_y)
+
+-- the ring is the rectangle
+abbrev pub IsRectangle : Rectangle → List Point → Type 0
+IsRectangle r ring = IsAgain (rectangle_to r.diagonal r.along_y) r.from ring
+
+-- the ring that a span means, given the points that are kept
+abbrev pub outline_in : List Point → OutlineSpan → List Point
+outline_in points s = outline (stretch_in points s.begin s.end) s.along_y
+
+-- the indexes of the span are those of kept points, and what they mean is a ring
+pub record IsOutline (points : List Point) (s : OutlineSpan) : Type 0 where
+  pub order : s.begin ≤ s.end
+  pub inside : s.end ≤ length points
+  pub ring : IsRing (outline_in points s)
