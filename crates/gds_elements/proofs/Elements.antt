@@ -1,15 +1,16 @@
 -- Where elements begin and end in a list of records.
 use Rattle.std.proofs.Common.{◌≡◌, ◌==◌, ◌&&◌, ℕ, inl, inr, Bool, true, false, not, List, [], ◌∷◌, ◌++◌, refl, sym, ap}
-use Rattle.std.proofs.Common.{◌∙◌, subst, append_assoc}
+use Rattle.std.proofs.Common.{◌∙◌, subst, append_assoc, Option, Some, None}
 use Rattle.std.proofs.lemmas.Bool.{and_parts, or_left, or_right}
 use Rattle.gds_elements.specs.Types.{boundary, path, sref, aref, text, endel}
 use Rattle.lvl_grammar.specs.Order.{Order, nothing, one, next, either, many, IsWord, Begins, has}
 use Rattle.gds_elements.specs.Order.{opens, an_element}
 use Rattle.gds_elements.specs.Rec.{Rec, kinds}
-use Rattle.gds_elements.specs.inside.Reading.{HasRead, IsReading}
+use Rattle.gds_elements.specs.inside.Reading.{HasRead, IsAfter, IsReading}
+use Rattle.gds_elements.specs.declared.element.Drawn.{Drawn}
 use Rattle.gds_elements.specs.declared.element.Element.{Element}
 use Rattle.gds_elements.specs.declared.element.State.{State}
-use Rattle.gds_elements.specs.declared.element.State.TheVariants.{Boundary, Path, Sref, Aref, Text, Drawn as AtEnd}
+use Rattle.gds_elements.specs.declared.element.State.TheVariants.{Boundary, Path, Sref, Aref, Text}
 use Rattle.gds_elements.specs.declared.boundary.BoundaryStage.{BoundaryStage}
 use Rattle.gds_elements.specs.declared.boundary.BoundaryStage.TheVariants.{Layer}
 use Rattle.gds_elements.specs.declared.path.PathStage.{PathStage}
@@ -114,7 +115,6 @@ state_begins (Path p) piece h = leads_begins (kinds piece) (path_left p.stage) h
 state_begins (Sref s) piece h = leads_begins (kinds piece) (sref_left s.stage) h.leads
 state_begins (Aref a) piece h = leads_begins (kinds piece) (aref_left a.stage) h.leads
 state_begins (Text t) piece h = leads_begins (kinds piece) (text_left t.stage) h.leads
-state_begins (AtEnd d) piece h = leads_begins (kinds piece) (one endel) h.leads
 
 state_unfinished : (s : State) (piece : List Rec) → HasRead s piece → IsWord an_element (kinds piece) → ⊥
 state_unfinished (Boundary b) piece h =
@@ -127,15 +127,24 @@ state_unfinished (Aref a) piece h =
     leads_unwhole an_element (kinds piece) (aref_left a.stage) (aref_more a.stage) h.leads
 state_unfinished (Text t) piece h =
     leads_unwhole an_element (kinds piece) (text_left t.stage) (text_more t.stage) h.leads
-state_unfinished (AtEnd d) piece h = leads_unwhole an_element (kinds piece) (one endel) refl h.leads
+
+after_begins : (s : State) (o : Option Drawn) (piece : List Rec) → IsAfter HasRead s o piece
+    → Begins an_element (kinds piece)
+after_begins s None piece h = state_begins s piece h
+after_begins s (Some d) piece h = leads_begins (kinds piece) (one endel) h.leads
+
+after_unfinished : (s : State) (o : Option Drawn) (piece : List Rec) → IsAfter HasRead s o piece
+    → IsWord an_element (kinds piece) → ⊥
+after_unfinished s None piece h = state_unfinished s piece h
+after_unfinished s (Some d) piece h = leads_unwhole an_element (kinds piece) (one endel) refl h.leads
 
 -- the records that an element has read begin an element
 pub reading_begins : (e : Element) (piece : List Rec) → IsReading e piece → Begins an_element (kinds piece)
-reading_begins e piece h = state_begins e.state piece h
+reading_begins e piece h = after_begins e.state e.drawn piece h
 
 -- and aren't a complete one
 pub reading_unfinished : (e : Element) (piece : List Rec) → IsReading e piece → IsWord an_element (kinds piece) → ⊥
-reading_unfinished e piece h = state_unfinished e.state piece h
+reading_unfinished e piece h = after_unfinished e.state e.drawn piece h
 
 -- what comes after the first record, in an order that begins with one type or another
 abbrev pub after_first : Order → Order

@@ -8,7 +8,7 @@ use Rattle.gds_elements.specs.Rules.{InOrder}
 use Rattle.gds_elements.specs.inside.Reading.{HasRead, IsAtEnd}
 use Rattle.gds_elements.specs.declared.element.Drawn.{Drawn}
 use Rattle.gds_elements.specs.declared.element.State.{State}
-use Rattle.gds_elements.specs.declared.element.State.TheVariants.{Boundary, Path, Sref, Aref, Text, Drawn as AtEnd}
+use Rattle.gds_elements.specs.declared.element.State.TheVariants.{Boundary, Path, Sref, Aref, Text}
 use Rattle.gds_elements.specs.declared.boundary.BoundaryStage.{BoundaryStage}
 use Rattle.gds_elements.specs.declared.boundary.BoundaryStage.TheVariants.{Layer}
 use Rattle.gds_elements.specs.declared.path.PathStage.{PathStage}
@@ -60,11 +60,9 @@ nowhere piece a h t g =
     leads_nowhere an_element (kinds piece) a endel h t (subst (Begins an_element) (kinds-snoc piece an_end) g)
 
 -- if more is missing, it may not come
-pub ends_nowhere : (s : State) (piece : List Rec) → HasRead s piece → ((d : Drawn) → s ≡ AtEnd d → ⊥)
-    → InOrder piece an_end → ⊥
-ends_nowhere (Boundary b) piece h n = nowhere piece (boundary_left b.stage) h.leads (boundary_none b.stage)
-ends_nowhere (Path p) piece h n = nowhere piece (path_left p.stage) h.leads (path_none p.stage)
-ends_nowhere (Sref s) piece h n = nowhere piece (sref_left s.stage) h.leads (sref_none s.stage)
-ends_nowhere (Aref a) piece h n = nowhere piece (aref_left a.stage) h.leads (aref_none a.stage)
-ends_nowhere (Text t) piece h n = nowhere piece (text_left t.stage) h.leads (text_none t.stage)
-ends_nowhere (AtEnd d) piece h n = absurd (n d refl)
+pub ends_nowhere : (s : State) (piece : List Rec) → HasRead s piece → InOrder piece an_end → ⊥
+ends_nowhere (Boundary b) piece h = nowhere piece (boundary_left b.stage) h.leads (boundary_none b.stage)
+ends_nowhere (Path p) piece h = nowhere piece (path_left p.stage) h.leads (path_none p.stage)
+ends_nowhere (Sref s) piece h = nowhere piece (sref_left s.stage) h.leads (sref_none s.stage)
+ends_nowhere (Aref a) piece h = nowhere piece (aref_left a.stage) h.leads (aref_none a.stage)
+ends_nowhere (Text t) piece h = nowhere piece (text_left t.stage) h.leads (text_none t.stage)

@@ -1,6 +1,6 @@
 -- What the result of a record says.
 use Rattle.std.proofs.Common.{◌≡◌, ◌==◌, ℕ, false, List, [], ◌∷◌, ◌++◌, map, Some, refl, sym, ap, ◌∙◌, subst, Result}
-use Rattle.std.proofs.Common.{Ok, Err, IfOk, IfErr}
+use Rattle.std.proofs.Common.{Ok, Err, IfOk, IfErr, Option, None}
 use Rattle.std.specs.Prelude.{OnOk}
 use Rattle.std.specs.Result.{IsErr, IsErrAnd}
 use Rattle.std.proofs.lemmas.List.{append-nil}
@@ -13,26 +13,31 @@ use Rattle.gds_elements.specs.Rules.{InOrder, ValueBreaches, ElementBreaches, Br
 use Rattle.lvl_refusal.specs.Refused.{Says}
 use Rattle.gds_elements.specs.inside.Misplaced.{Broken, breach}
 use Rattle.gds_elements.specs.declared.fault.ElementFault.TheVariants.{Misplaced as MisplacedRecord, Rule}
-use Rattle.gds_elements.specs.inside.Reading.{Takes, Steps, IsStep, IsAtEnd, record_of}
+use Rattle.gds_elements.specs.inside.Reading.{Takes, Steps, IsStep, IsAfter, Draws, IsAtEnd, record_of}
 use Rattle.lvl_refusal.specs.declared.Cause.{Cause}
 use Rattle.gds_elements.specs.declared.fault.ElementFault.{ElementFault}
 use Rattle.gds_elements.specs.declared.fault.ElementRule.{ElementRule}
 use Rattle.gds_elements.specs.declared.element.Drawn.{Drawn}
-use Rattle.gds_elements.specs.declared.element.State.{State}
+use Rattle.gds_elements.specs.declared.element.Element.{Element}
 use Rattle.gds_elements.specs.declared.element.Step.{Step}
-use Rattle.gds_elements.specs.declared.element.Step.TheVariants.{Whole}
 use Rattle.gds_elements.proofs.Fields.{last_there, opener-snoc, kinds-snoc}
 use Rattle.gds_elements.proofs.Leads.{says_carried}
 use Rattle.gds_elements.proofs.OneRule.{one_rule}
 use Rattle.gds_elements.proofs.Allowed.{law_endel, allowed}
 use Rattle.lvl_profile.specs.declared.profile.Profile.{Profile}
 
+-- nothing is drawn yet
+pub none_drawn : {S : Type 0} (IsRead : S → List Rec → Type 0) (s : S) (o : Option Drawn) (piece : List Rec) → o ≡ None
+    → IsRead s piece → IsAfter IsRead s o piece
+none_drawn IsRead s o piece n h = subst (λ i. IsAfter IsRead s i piece) (sym n) h
+
 -- a refusal that is passed on
-pub takes_refused : (profile : Profile) (piece : List Rec) (r : Rec) (res : Result State (Cause ElementFault))
-    (e : Cause ElementFault)
-    → IsErr res × IsErrAnd res (λ x. x ≡ e) → Says e (ElementBreaches profile piece r) → Takes profile piece r res
-takes_refused profile piece r (Ok s) e h b = absurd h.1
-takes_refused profile piece r (Err x) e h b = subst (λ (i : Cause ElementFault). Says i
+pub takes_refused : {S T : Type 0} (IsRead : S → List Rec → Type 0) (s : S) (o : Option Drawn) (profile : Profile)
+    (piece : List Rec) (r : Rec) (res : Result T (Cause ElementFault)) (e : Cause ElementFault)
+    → IsErr res × IsErrAnd res (λ x. x ≡ e) → Says e (ElementBreaches profile piece r)
+    → Takes IsRead s o profile piece r res
+takes_refused IsRead s o profile piece r (Ok t) e h b = absurd h.1
+takes_refused IsRead s o profile piece r (Err x) e h b = subst (λ (i : Cause ElementFault). Says i
     (ElementBreaches profile piece r)) (sym h.1) b
 
 broken_breaches : (profile : Profile) (piece : List Rec) (r : Rec) (P : ElementRule → Type 0) → InOrder piece r
@@ -42,25 +47,24 @@ broken_breaches profile piece r P g h (MisplacedRecord m) x = absurd x
 broken_breaches profile piece r P g h (Rule k) x = (g, h k x)
 
 -- a refusal by a value that breaches a rule
-pub takes_broken : (profile : Profile) (piece : List Rec) (r : Rec) (res : Result State (Cause ElementFault))
-    (e : Cause ElementFault)
+pub takes_broken : {S T : Type 0} (IsRead : S → List Rec → Type 0) (s : S) (o : Option Drawn) (profile : Profile)
+    (piece : List Rec) (r : Rec) (res : Result T (Cause ElementFault)) (e : Cause ElementFault)
     (P : ElementRule → Type 0)
     → IsErr res × IsErrAnd res (λ x. x ≡ e) → InOrder piece r
-    → ((k : ElementRule) → P k → ValueBreaches profile piece r k) → Says e (Broken P) → Takes profile piece r res
-takes_broken profile piece r res e P h g f s =
-    takes_refused profile piece r res e h (says_carried e (Broken P) (ElementBreaches profile piece r)
+    → ((k : ElementRule) → P k → ValueBreaches profile piece r k) → Says e (Broken P)
+    → Takes IsRead s o profile piece r res
+takes_broken IsRead s o profile piece r res e P h g f b =
+    takes_refused IsRead s o profile piece r res e h (says_carried e (Broken P) (ElementBreaches profile piece r)
     (broken_breaches profile piece r P g f)
-    s)
+    b)
 
-pub takes_one : (profile : Profile) (piece : List Rec) (r : Rec) (res : Result State (Cause ElementFault))
-    (e : Cause ElementFault)
-    (k : ElementRule)
+pub takes_one : {S T : Type 0} (IsRead : S → List Rec → Type 0) (s : S) (o : Option Drawn) (profile : Profile)
+    (piece : List Rec) (r : Rec) (res : Result T (Cause ElementFault)) (e : Cause ElementFault) (k : ElementRule)
     → IsErr res × IsErrAnd res (λ x. x ≡ e) → InOrder piece r
-    → e ≡ breach k → ValueBreaches profile piece r k → Takes profile piece r res
-takes_one profile piece r res e k h g f b =
-    takes_refused profile piece r res e h (subst (λ (i : Cause ElementFault). Says i (ElementBreaches profile piece r))
-    (sym f)
-    (g, b))
+    → e ≡ breach k → ValueBreaches profile piece r k → Takes IsRead s o profile piece r res
+takes_one IsRead s o profile piece r res e k h g f b =
+    takes_refused IsRead s o profile piece r res e h (subst (λ (i : Cause ElementFault). Says i
+    (ElementBreaches profile piece r)) (sym f) (g, b))
 
 -- ENDEL changes nothing of what was drawn
 same_kinds : (piece : List Rec) (r : Rec) (j : ℕ) → r.kind ≡ endel → endel == j ≡ false
@@ -90,7 +94,7 @@ endel_references k piece r e =
     ) refl
 
 pub law_end : (profile : Profile) (piece : List Rec) (r : Rec) (d : Drawn) → IsAtEnd d piece → r.kind ≡ endel
-    → IsStep (Whole d) (piece ++ r ∷ []) × BreachesNone profile piece r
+    → Draws (Some d) (piece ++ r ∷ []) × BreachesNone profile piece r
 law_end profile piece r d h e =
     let new = piece ++ r ∷ [] in
     let k = h.opened.0 in
@@ -112,37 +116,46 @@ law_end profile piece r d h e =
       allowed profile piece r begun (law_endel profile piece r e),
     )
 
--- a step of a state is one of the element
-pub takes_steps : (profile : Profile) (piece : List Rec) (r : Rec) (k : ℕ) (p : List ℕ) (res : Result Step
-    (Cause ElementFault))
-    → r.kind ≡ k → r.payload ≡ p → ((d : ℕ) → Steps profile piece (record_of k d p) res) → Steps profile piece r res
-takes_steps profile piece r k p res e f h =
+-- a refusal that is passed on by a step
+pub steps_stop : (x : Element) (profile : Profile) (piece : List Rec) (r : Rec) (res : Result Step
+    (Cause ElementFault)) (e : Cause ElementFault)
+    → IsErr res × IsErrAnd res (λ i. i ≡ e) → Says e (ElementBreaches profile piece r) → Steps x profile piece r res
+steps_stop x profile piece r (Ok s) e h b = absurd h.1
+steps_stop x profile piece r (Err f) e h b =
+    subst (λ (i : Cause ElementFault). Says i (ElementBreaches profile piece r)) (sym h.1) b
+
+-- a step by a record of this type and payload is one by the record
+pub steps_record : (x : Element) (profile : Profile) (piece : List Rec) (r : Rec) (k : ℕ) (p : List ℕ)
+    (res : Result Step (Cause ElementFault))
+    → r.kind ≡ k → r.payload ≡ p → ((d : ℕ) → Steps x profile piece (record_of k d p) res)
+    → Steps x profile piece r res
+steps_record x profile piece r k p res e f h =
     let g : record_of k r.data_type p ≡ r = ap (λ i. record_of i r.data_type p) (sym e)
     ∙ ap (λ q. record_of r.kind r.data_type q) (sym f) in
-    subst (λ (i : Rec). Steps profile piece i res) g (h r.data_type)
+    subst (λ (i : Rec). Steps x profile piece i res) g (h r.data_type)
 
-pub steps_going : (profile : Profile) (piece : List Rec) (r : Rec) (res : Result Step (Cause ElementFault))
-    → Steps profile piece r res
-    → IfOk res (λ s. IsStep s (piece ++ r ∷ []))
-steps_going profile piece r (Ok s) h = h.0
-steps_going profile piece r (Err e) h = tt
+pub steps_going : (x : Element) (profile : Profile) (piece : List Rec) (r : Rec) (res : Result Step
+    (Cause ElementFault))
+    → Steps x profile piece r res → IfOk res (λ s. IsStep x s (piece ++ r ∷ []))
+steps_going x profile piece r (Ok s) h = h.0
+steps_going x profile piece r (Err e) h = tt
 
-pub steps_allowed : (profile : Profile) (piece : List Rec) (r : Rec) (res : Result Step (Cause ElementFault))
-    → Steps profile piece r res
-    → OnOk res (BreachesNone profile piece r)
-steps_allowed profile piece r (Ok s) h = h.1
-steps_allowed profile piece r (Err e) h = tt
+pub steps_allowed : (x : Element) (profile : Profile) (piece : List Rec) (r : Rec) (res : Result Step
+    (Cause ElementFault))
+    → Steps x profile piece r res → OnOk res (BreachesNone profile piece r)
+steps_allowed x profile piece r (Ok s) h = h.1
+steps_allowed x profile piece r (Err e) h = tt
 
-pub steps_refused : (profile : Profile) (piece : List Rec) (r : Rec) (res : Result Step (Cause ElementFault))
-    → Steps profile piece r res
-    → IfErr res (λ e. Says e (ElementBreaches profile piece r))
-steps_refused profile piece r (Ok s) h = tt
-steps_refused profile piece r (Err e) h = h
+pub steps_refused : (x : Element) (profile : Profile) (piece : List Rec) (r : Rec) (res : Result Step
+    (Cause ElementFault))
+    → Steps x profile piece r res → IfErr res (λ e. Says e (ElementBreaches profile piece r))
+steps_refused x profile piece r (Ok s) h = tt
+steps_refused x profile piece r (Err e) h = h
 
-pub steps_alone : (profile : Profile) (piece : List Rec) (r : Rec) (res : Result Step (Cause ElementFault))
-    → Steps profile piece r res
-    → IfErr res (λ e. Says e (BreachesOnly profile piece r))
-steps_alone profile piece r (Ok s) h = tt
-steps_alone profile piece r (Err e) h =
+pub steps_alone : (x : Element) (profile : Profile) (piece : List Rec) (r : Rec) (res : Result Step
+    (Cause ElementFault))
+    → Steps x profile piece r res → IfErr res (λ e. Says e (BreachesOnly profile piece r))
+steps_alone x profile piece r (Ok s) h = tt
+steps_alone x profile piece r (Err e) h =
     says_carried e (ElementBreaches profile piece r) (BreachesOnly profile piece r)
     (λ k x j y. one_rule profile piece r j k y x) h

@@ -18,7 +18,7 @@ ghost use Rattle.lvl_refusal.specs.Refused.{Says};
 ghost use Rattle.gds_elements.specs.inside.Misplaced.{Broken, breach};
 
 use crate::counts::{Counts, read_counts};
-use crate::element::{Drawn, State};
+use crate::element::Drawn;
 use crate::fault::{ElementFault, ElementRule, breach};
 use crate::order::{Next, only, out_of_order};
 use crate::placing::Placing;
@@ -30,6 +30,7 @@ use lvl_names::{Name, Offsets};
 use lvl_profile::Profile;
 use lvl_refusal::Cause;
 use std::alloc::Global;
+use std::mem;
 
 /// Which record comes next. If several may, the first of them gives the name.
 #[derive(Clone, Copy)]
@@ -92,36 +93,31 @@ impl Aref {
         }
     }
 
-    /// The state after the next record, unless the record breaches a rule.
+    /// Takes the next record, unless it breaches a rule. `drawn` becomes what is drawn, once only ENDEL is missing.
     pub(crate) fn take(
-        self,
+        &mut self,
         alloc: Global,
         profile: Profile,
         kind: u8,
         payload: &[u8],
-    ) -> Result<State, Cause<ElementFault>>
-        requires { IsFormed kind payload.now }
-        ensures { (piece : List Rec) (d : ℕ) → IsArefRead self piece
-            → Takes profile piece (record_of kind d payload.now) result }
+        drawn: &mut Option<Drawn>,
+    ) -> Result<(), Cause<ElementFault>>
+        requires formed { IsFormed kind payload.now }
+        requires none { drawn.old ≡ None }
+        ensures { (piece : List Rec) (d : ℕ) → IsArefRead self.old piece
+            → Takes IsArefRead self.new drawn.new profile piece (record_of kind d payload.now) result }
     {
-        let Aref {
-            stage,
-            placing,
-            counts,
-        } = self;
-        match stage.after(kind) {
+        match self.stage.after(kind) {
             Next::Goes(stage) => {
-                let placing = placing.read(alloc, kind, payload)?;
-                let counts = read_counts(counts, profile.limits, kind, payload)?;
-                Ok(State::Aref(Aref {
-                    stage,
-                    placing,
-                    counts,
-                }))
+                self.placing.read(alloc, kind, payload)?;
+                self.counts = read_counts(self.counts, profile.limits, kind, payload)?;
+                self.stage = stage;
+                Ok(())
             }
             Next::Ends => {
-                let reference = place_all(placing, counts, payload)?;
-                Ok(State::Drawn(Drawn::Reference(reference)))
+                let reference = place_all(alloc, &mut self.placing, self.counts, payload)?;
+                *drawn = Some(Drawn::Reference(reference));
+                Ok(())
             }
             Next::Nowhere => Err(out_of_order(kind)),
         }
@@ -130,14 +126,15 @@ impl Aref {
 
 /// The reference to the cell at all places of the array. `payload` has its three points.
 fn place_all(
-    placing: Placing,
+    alloc: Global,
+    placing: &mut Placing,
     counts: Counts,
     payload: &[u8],
 ) -> Result<Reference, Cause<ElementFault>>
     ensures value { IfOk result (λ r. r ≡ record {
-      cell = placing.name.items;
-      flip = placing.flip;
-      turn = placing.turn;
+      cell = placing.old.name.items;
+      flip = placing.old.flip;
+      turn = placing.old.turn;
       at = nth (points payload.now) 0;
       shifts = array_shifts (points payload.now) counts.columns counts.rows;
     }) }
@@ -153,9 +150,8 @@ fn place_all(
     let across = step(origin, point_at(payload, 1), counts.columns)?;
     let up = step(origin, point_at(payload, 2), counts.rows)?;
     let shifts = Offsets::lattice(across, counts.columns, up, counts.rows).unwrap();
-    let Placing { name, flip, turn } = placing;
-    let name = Name::new(name)?;
-    Ok(Reference::new(name, flip, turn, origin, shifts).unwrap())
+    let name = Name::new(mem::replace(&mut placing.name, Vec::new(alloc)))?;
+    Ok(Reference::new(name, placing.flip, placing.turn, origin, shifts).unwrap())
 }
 
 /// The step from one point to another, divided by `count`; refused if it isn't whole.

@@ -1,5 +1,5 @@
 //! BOUNDARY LAYER DATATYPE XY ENDEL: the ring of its points without the last.
-ghost use Rattle.std.specs.Prelude.{◌≡◌, ◌∷◌, [], ◌≤◌, List, ℕ, IfOk, IfErr, OnOk, length, All};
+ghost use Rattle.std.specs.Prelude.{◌≡◌, ◌∷◌, [], ◌≤◌, List, ℕ, None, IfOk, IfErr, OnOk, length, All};
 ghost use Rattle.lvl_grid.specs.Winding.{IsStraight};
 ghost use Rattle.gds_elements.specs.Types.{boundary, xy};
 ghost use Rattle.gds_elements.specs.Values.{points, but_last};
@@ -14,7 +14,7 @@ ghost use Rattle.gds_elements.specs.inside.Reading.{Takes, record_of};
 ghost use Rattle.lvl_refusal.specs.Refused.{Says};
 ghost use Rattle.gds_elements.specs.inside.Misplaced.{Broken};
 
-use crate::element::{Drawn, State};
+use crate::element::Drawn;
 use crate::fault::{ElementFault, ElementRule, breach};
 use crate::layer::read_layer;
 use crate::order::{Next, only, out_of_order};
@@ -79,25 +79,29 @@ impl Boundary {
         }
     }
 
-    /// The state after the next record, unless the record breaches a rule.
+    /// Takes the next record, unless it breaches a rule. `drawn` becomes what is drawn, once only ENDEL is missing.
     pub(crate) fn take(
-        self,
+        &mut self,
         alloc: Global,
         kind: u8,
         payload: &[u8],
-    ) -> Result<State, Cause<ElementFault>>
-        requires { IsFormed kind payload.now }
-        ensures { (profile : PlainProfile) (piece : List Rec) (d : ℕ) → IsBoundary self piece
-            → Takes profile piece (record_of kind d payload.now) result }
+        drawn: &mut Option<Drawn>,
+    ) -> Result<(), Cause<ElementFault>>
+        requires formed { IsFormed kind payload.now }
+        requires none { drawn.old ≡ None }
+        ensures { (profile : PlainProfile) (piece : List Rec) (d : ℕ) → IsBoundary self.old piece
+            → Takes IsBoundary self.new drawn.new profile piece (record_of kind d payload.now) result }
     {
         match self.stage.after(kind) {
             Next::Goes(stage) => {
-                let layer = read_layer(self.layer, kind, payload)?;
-                Ok(State::Boundary(Boundary { stage, layer }))
+                self.layer = read_layer(self.layer, kind, payload)?;
+                self.stage = stage;
+                Ok(())
             }
             Next::Ends => {
                 let ring = ring_of(alloc, payload)?;
-                Ok(State::Drawn(Drawn::Ring(self.layer, ring)))
+                *drawn = Some(Drawn::Ring(self.layer, ring));
+                Ok(())
             }
             Next::Nowhere => Err(out_of_order(kind)),
         }

@@ -1,12 +1,11 @@
 //! Reads one element, record by record.
-ghost use Rattle.std.specs.Prelude.{◌≡◌, ◌<◌, ◌∷◌, [], ◌++◌, ◌↔◌, ℕ, List, IsTrue, IfSome, IfNone, IfOk, IfErr, OnOk};
-ghost use Rattle.std.specs.Prelude.{false};
+ghost use Rattle.std.specs.Prelude.{◌≡◌, ◌∷◌, [], ◌++◌, ◌↔◌, ℕ, List, IsTrue, IfSome, IfNone, IfOk, IfErr, OnOk};
+ghost use Rattle.std.specs.Prelude.{false, None};
 ghost use Rattle.gds_elements.specs.Order.{opens};
 ghost use Rattle.gds_elements.specs.Rec.{Rec, an_end};
 ghost use Rattle.gds_elements.specs.Rules.{InOrder, ElementBreaches, BreachesOnly, BreachesNone};
-ghost use Rattle.lvl_profile.specs.declared.profile.Profile.{Profile as PlainProfile};
 ghost use Rattle.gds_elements.specs.inside.Formed.{IsFormed};
-ghost use Rattle.gds_elements.specs.inside.Reading.{IsReading, IsStep, HasRead, IsAtEnd, Takes, Steps, record_of};
+ghost use Rattle.gds_elements.specs.inside.Reading.{IsReading, IsStep, IsWhole, IsDrawn, HasRead, Takes, Steps, record_of};
 ghost use Rattle.lvl_refusal.specs.Refused.{Says};
 
 use crate::aref::Aref;
@@ -37,7 +36,7 @@ pub enum Drawn {
     Nothing,
 }
 
-/// Which element is read, and what was read of it.
+/// Which element is read, and what was read of it before the record that ENDEL follows.
 #[derive(Drop)]
 pub(crate) enum State {
     Boundary(Boundary),
@@ -45,23 +44,23 @@ pub(crate) enum State {
     Sref(Sref),
     Aref(Aref),
     Text(Text),
-    /// Only ENDEL is missing.
-    Drawn(Drawn),
 }
 
 /// An element that is being read.
 #[derive(Drop)]
 pub struct Element {
     state: State,
+    /// What it draws, once only ENDEL is missing.
+    drawn: Option<Drawn>,
 }
 
 /// The result of one more record.
-#[derive(Drop)]
+#[derive(Clone, Copy)]
 pub enum Step {
     /// The element isn't complete yet.
-    Open(Element),
-    /// The record was ENDEL, and this is what the element draws.
-    Whole(Drawn),
+    Open,
+    /// The record was ENDEL. [`Element::take_drawn`] returns what the element draws.
+    Whole,
 }
 
 impl Element {
@@ -70,33 +69,24 @@ impl Element {
         ensures opened { IfSome result (λ e. (r : Rec) → r.kind ≡ kind → IsReading e (r ∷ [])) }
         ensures none { IfNone result (opens kind ≡ false) }
     {
-        match kind {
-            record_type::BOUNDARY => Some(Element {
-                state: State::Boundary(Boundary::open()),
-            }),
-            record_type::PATH => Some(Element {
-                state: State::Path(Path::open()),
-            }),
-            record_type::SREF => Some(Element {
-                state: State::Sref(Sref::open(alloc)),
-            }),
-            record_type::AREF => Some(Element {
-                state: State::Aref(Aref::open(alloc)),
-            }),
-            record_type::TEXT => Some(Element {
-                state: State::Text(Text::open()),
-            }),
-            _ => None,
-        }
+        let state = match kind {
+            record_type::BOUNDARY => State::Boundary(Boundary::open()),
+            record_type::PATH => State::Path(Path::open()),
+            record_type::SREF => State::Sref(Sref::open(alloc)),
+            record_type::AREF => State::Aref(Aref::open(alloc)),
+            record_type::TEXT => State::Text(Text::open()),
+            _ => return None,
+        };
+        Some(Element { state, drawn: None })
     }
 
     /// Whether ENDEL may come next.
     pub fn may_end(&self) -> bool
         ensures { (piece : List Rec) → IsReading self.now piece → IsTrue result ↔ InOrder piece an_end }
     {
-        match &self.state {
-            State::Drawn(_) => true,
-            _ => false,
+        match self.drawn {
+            Some(_) => true,
+            None => false,
         }
     }
 
@@ -107,70 +97,85 @@ impl Element {
     /// that is out of order is refused before its payload is looked at. Then the rules of its type are
     /// tested in the order of that list, except that `Oblique` comes after `NotClosed` and `Width`
     /// before `Path`, and the first that it breaches is reported. An array may have at most
-    /// `profile.limits.array` places.
+    /// `profile.limits.array` places. An element that refuses a record or is whole is of no further use.
     pub fn take(
-        self,
+        &mut self,
         alloc: Global,
         profile: Profile,
         kind: u8,
         payload: &[u8],
     ) -> Result<Step, Cause<ElementFault>>
         requires formed { IsFormed kind payload.now }
-        ensures going { (piece : List Rec) (r : Rec) → IsReading self piece → r.kind ≡ kind → r.payload ≡ payload.now
-            → IfOk result (λ step. IsStep step (piece ++ r ∷ [])) }
-        ensures allowed { (piece : List Rec) (r : Rec) → IsReading self piece → r.kind ≡ kind → r.payload ≡ payload.now
-            → OnOk result (BreachesNone profile piece r) }
-        ensures refused { (piece : List Rec) (r : Rec) → IsReading self piece → r.kind ≡ kind → r.payload ≡ payload.now
-            → IfErr result (λ e. Says e (ElementBreaches profile piece r)) }
-        ensures alone { (piece : List Rec) (r : Rec) → IsReading self piece → r.kind ≡ kind → r.payload ≡ payload.now
-            → IfErr result (λ e. Says e (BreachesOnly profile piece r)) }
+        ensures going { (piece : List Rec) (r : Rec) → IsReading self.old piece → r.kind ≡ kind
+            → r.payload ≡ payload.now → IfOk result (λ step. IsStep self.new step (piece ++ r ∷ [])) }
+        ensures allowed { (piece : List Rec) (r : Rec) → IsReading self.old piece → r.kind ≡ kind
+            → r.payload ≡ payload.now → OnOk result (BreachesNone profile piece r) }
+        ensures refused { (piece : List Rec) (r : Rec) → IsReading self.old piece → r.kind ≡ kind
+            → r.payload ≡ payload.now → IfErr result (λ e. Says e (ElementBreaches profile piece r)) }
+        ensures alone { (piece : List Rec) (r : Rec) → IsReading self.old piece → r.kind ≡ kind
+            → r.payload ≡ payload.now → IfErr result (λ e. Says e (BreachesOnly profile piece r)) }
     {
-        self.state.take(alloc, profile, kind, payload)
+        self.step(alloc, profile, kind, payload)
     }
-}
 
-impl State {
-    fn take(
-        self,
+    // The same, for all clauses at once.
+    fn step(
+        &mut self,
         alloc: Global,
         profile: Profile,
         kind: u8,
         payload: &[u8],
     ) -> Result<Step, Cause<ElementFault>>
         requires { IsFormed kind payload.now }
-        ensures { (piece : List Rec) (d : ℕ) → HasRead self piece
-            → Steps profile piece (record_of kind d payload.now) result }
+        ensures { (piece : List Rec) (d : ℕ) → IsReading self.old piece
+            → Steps self.new profile piece (record_of kind d payload.now) result }
     {
-        match self {
-            State::Boundary(boundary) => going(boundary.take(alloc, kind, payload)),
-            State::Path(path) => going(path.take(alloc, profile, kind, payload)),
-            State::Sref(reference) => going(reference.take(alloc, kind, payload)),
-            State::Aref(array) => going(array.take(alloc, profile, kind, payload)),
-            State::Text(text) => going(text.take(kind, payload)),
-            State::Drawn(drawn) => end(drawn, kind),
+        match self.drawn {
+            Some(_) => {
+                if kind != record_type::ENDEL {
+                    return Err(out_of_order(kind));
+                }
+                Ok(Step::Whole)
+            }
+            None => {
+                self.state
+                    .take(alloc, profile, kind, payload, &mut self.drawn)?;
+                Ok(Step::Open)
+            }
+        }
+    }
+
+    /// What the element draws, after [`Element::take`] has returned `Step::Whole`.
+    pub fn take_drawn(&mut self) -> Drawn
+        ensures { (piece : List Rec) → IsWhole self.old piece → IsDrawn result piece }
+    {
+        match self.drawn.take() {
+            Some(drawn) => drawn,
+            None => Drawn::Nothing,
         }
     }
 }
 
-/// The result of a record that doesn't end the element.
-fn going(read: Result<State, Cause<ElementFault>>) -> Result<Step, Cause<ElementFault>>
-    ensures { (profile : PlainProfile) (piece : List Rec) (r : Rec) → Takes profile piece r read
-        → Steps profile piece r result }
-{
-    match read {
-        Ok(state) => Ok(Step::Open(Element { state })),
-        Err(refusal) => Err(refusal),
+impl State {
+    fn take(
+        &mut self,
+        alloc: Global,
+        profile: Profile,
+        kind: u8,
+        payload: &[u8],
+        drawn: &mut Option<Drawn>,
+    ) -> Result<(), Cause<ElementFault>>
+        requires formed { IsFormed kind payload.now }
+        requires none { drawn.old ≡ None }
+        ensures { (piece : List Rec) (d : ℕ) → HasRead self.old piece
+            → Takes HasRead self.new drawn.new profile piece (record_of kind d payload.now) result }
+    {
+        match self {
+            State::Boundary(boundary) => boundary.take(alloc, kind, payload, drawn),
+            State::Path(path) => path.take(alloc, profile, kind, payload, drawn),
+            State::Sref(reference) => reference.take(alloc, kind, payload, drawn),
+            State::Aref(array) => array.take(alloc, profile, kind, payload, drawn),
+            State::Text(text) => text.take(kind, payload, drawn),
+        }
     }
-}
-
-/// The result of ENDEL; any other record is out of order.
-fn end(drawn: Drawn, kind: u8) -> Result<Step, Cause<ElementFault>>
-    requires { kind < 60 }
-    ensures { (profile : PlainProfile) (piece : List Rec) (d : ℕ) (payload : List ℕ) → IsAtEnd drawn piece
-        → Steps profile piece (record_of kind d payload) result }
-{
-    if kind != record_type::ENDEL {
-        return Err(out_of_order(kind));
-    }
-    Ok(Step::Whole(drawn))
 }

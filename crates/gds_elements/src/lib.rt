@@ -2,8 +2,9 @@
 //!
 //! An element begins with BOUNDARY, PATH, SREF, AREF or TEXT, and ends with ENDEL (GDSII Stream
 //! Format Manual, Release 6). [`Element::open`] takes the first record, and [`Element::take`] each
-//! further one. At ENDEL the element becomes what it draws: a shape, a reference to a cell, or
-//! nothing. [`name`] and [`misplaced`] are also used for records outside of elements.
+//! further one. After ENDEL, [`Element::take_drawn`] returns what the element draws: a shape, a
+//! reference to a cell, or nothing. [`name`] and [`misplaced`] are also used for records outside of
+//! elements.
 //!
 //! To add an element, write a file beside `boundary.rt`, with the records that may come next in
 //! each of its states, the values that it keeps, and what it draws. In `element.rt`, open it and
@@ -15,9 +16,9 @@
 //! use gds_records::record_type;
 //! use lvl_profile::Profile;
 //!
-//! let element = Element::open(alloc, record_type::BOUNDARY).ok_or("no element")?;
+//! let mut element = Element::open(alloc, record_type::BOUNDARY).ok_or("no element")?;
 //! let step = element.take(alloc, Profile::STANDARD, record_type::LAYER, b"\x00\x01")?;
-//! assert!(rt; matches!(step, Step::Open(_)));
+//! assert!(rt; matches!(step, Step::Open));
 //! assert!(rt; Element::open(alloc, record_type::LAYER).is_none());
 //! ```
 #![tactic(auto)]

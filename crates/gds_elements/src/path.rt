@@ -17,7 +17,7 @@ ghost use Rattle.gds_elements.specs.inside.Reading.{Takes, record_of};
 ghost use Rattle.lvl_refusal.specs.Refused.{Says};
 ghost use Rattle.gds_elements.specs.inside.Misplaced.{Broken, breach};
 
-use crate::element::{Drawn, State};
+use crate::element::Drawn;
 use crate::fault::{ElementFault, ElementRule, breach};
 use crate::layer::read_layer;
 use crate::order::{Next, only, out_of_order};
@@ -97,34 +97,33 @@ impl Path {
         }
     }
 
-    /// The state after the next record, unless the record breaches a rule.
+    /// Takes the next record, unless it breaches a rule. `drawn` becomes what is drawn, once only ENDEL is missing.
     pub(crate) fn take(
-        self,
+        &mut self,
         alloc: Global,
         profile: Profile,
         kind: u8,
         payload: &[u8],
-    ) -> Result<State, Cause<ElementFault>>
-        requires { IsFormed kind payload.now }
-        ensures { (piece : List Rec) (d : ℕ) → IsPathRead self piece
-            → Takes profile piece (record_of kind d payload.now) result }
+        drawn: &mut Option<Drawn>,
+    ) -> Result<(), Cause<ElementFault>>
+        requires formed { IsFormed kind payload.now }
+        requires none { drawn.old ≡ None }
+        ensures { (piece : List Rec) (d : ℕ) → IsPathRead self.old piece
+            → Takes IsPathRead self.new drawn.new profile piece (record_of kind d payload.now) result }
     {
         match self.stage.after(kind) {
             Next::Goes(stage) => {
-                let layer = read_layer(self.layer, kind, payload)?;
-                let square = read_ends(self.square, kind, payload)?;
-                let half = read_half(self.half, kind, payload)?;
-                Ok(State::Path(Path {
-                    stage,
-                    layer,
-                    square,
-                    half,
-                }))
+                self.layer = read_layer(self.layer, kind, payload)?;
+                self.square = read_ends(self.square, kind, payload)?;
+                self.half = read_half(self.half, kind, payload)?;
+                self.stage = stage;
+                Ok(())
             }
             Next::Ends => {
                 let ignored = profile.ignore.points;
                 let rings = bands_of(alloc, ignored, self.half, self.square, payload)?;
-                Ok(State::Drawn(Drawn::Rings(self.layer, rings)))
+                *drawn = Some(Drawn::Rings(self.layer, rings));
+                Ok(())
             }
             Next::Nowhere => Err(out_of_order(kind)),
         }

@@ -50,43 +50,38 @@ impl Placing {
         }
     }
 
-    /// The placing after one more record, unless the record breaches a rule.
+    /// Reads one more record, unless it breaches a rule.
     pub(crate) fn read(
-        self,
+        &mut self,
         alloc: Global,
         kind: u8,
         payload: &[u8],
-    ) -> Result<Placing, Cause<ElementFault>>
+    ) -> Result<(), Cause<ElementFault>>
         requires { IsFormed kind payload.now }
-        ensures name { IfOk result (λ p. p.name.items ≡ (if kind == sname then name payload.now else self.name.items)) }
-        ensures flip { IfOk result (λ p. p.flip ≡ (if kind == strans then flips payload.now else self.flip)) }
-        ensures turn { IfOk result (λ p. p.turn ≡ (if kind == angle then turn payload.now else self.turn)) }
+        ensures name { OnOk result
+            (self.new.name.items ≡ (if kind == sname then name payload.now else self.old.name.items)) }
+        ensures flip { OnOk result (self.new.flip ≡ (if kind == strans then flips payload.now else self.old.flip)) }
+        ensures turn { OnOk result (self.new.turn ≡ (if kind == angle then turn payload.now else self.old.turn)) }
         ensures allowed { OnOk result (IsPlacingAllowed kind payload.now) }
         ensures refused { IfErr result (λ e. Says e (Broken (IsPlacingFault kind payload.now))) }
     {
-        let Placing { name, flip, turn } = self;
-        let flip = read_flip(flip, kind, payload)?;
+        self.flip = read_flip(self.flip, kind, payload)?;
         check_magnification(kind, payload)?;
-        let turn = read_turn(turn, kind, payload)?;
-        let name = read_name(alloc, name, kind, payload)?;
-        Ok(Placing { name, flip, turn })
+        self.turn = read_turn(self.turn, kind, payload)?;
+        if kind == record_type::SNAME {
+            self.name = cell_name(alloc, payload)?;
+        }
+        Ok(())
     }
 }
 
-fn read_name(
-    alloc: Global,
-    old: Vec<u8>,
-    kind: u8,
-    payload: &[u8],
-) -> Result<Vec<u8>, Cause<ElementFault>>
-    ensures value { IfOk result (λ v. v.items ≡ (if kind == sname then name payload.now else old.items)) }
-    ensures allowed { OnOk result (kind ≡ sname → IsName (name payload.now)) }
+/// The name in an SNAME.
+fn cell_name(alloc: Global, payload: &[u8]) -> Result<Vec<u8>, Cause<ElementFault>>
+    ensures value { IfOk result (λ v. v.items ≡ name payload.now) }
+    ensures allowed { OnOk result (IsName (name payload.now)) }
     ensures refused { IfErr result
-        (λ e. Says e (Broken (λ k. (k ≡ ElementRule.Name) × (kind ≡ sname) × ¬ IsName (name payload.now)))) }
+        (λ e. Says e (Broken (λ k. (k ≡ ElementRule.Name) × ¬ IsName (name payload.now)))) }
 {
-    if kind != record_type::SNAME {
-        return Ok(old);
-    }
     let name = name(payload);
     if !is_name(name) {
         return Err(breach(ElementRule::Name));

@@ -1,5 +1,5 @@
 //! SREF SNAME [STRANS [MAG] [ANGLE]] XY ENDEL: a reference to a cell at one place.
-ghost use Rattle.std.specs.Prelude.{◌≡◌, ◌∷◌, ◌≢◌, [], false, List, ℕ, IfOk, IfErr, OnOk, length};
+ghost use Rattle.std.specs.Prelude.{◌≡◌, ◌∷◌, ◌≢◌, [], false, List, ℕ, None, IfOk, IfErr, OnOk, length};
 ghost use Rattle.lvl_cells.specs.Cells.{PlainReference};
 ghost use Rattle.gds_elements.specs.Types.{sref, xy};
 ghost use Rattle.gds_elements.specs.Values.{points, nth};
@@ -14,7 +14,7 @@ ghost use Rattle.gds_elements.specs.inside.Reading.{Takes, record_of};
 ghost use Rattle.lvl_refusal.specs.Refused.{Says};
 ghost use Rattle.gds_elements.specs.inside.Misplaced.{Broken};
 
-use crate::element::{Drawn, State};
+use crate::element::Drawn;
 use crate::fault::{ElementFault, ElementRule, breach};
 use crate::order::{Next, only, out_of_order};
 use crate::placing::Placing;
@@ -24,6 +24,7 @@ use lvl_cells::Reference;
 use lvl_names::{Name, Offsets};
 use lvl_refusal::Cause;
 use std::alloc::Global;
+use std::mem;
 
 /// Which record comes next. If several may, the first of them gives the name.
 #[derive(Clone, Copy)]
@@ -79,26 +80,29 @@ impl Sref {
         }
     }
 
-    /// The state after the next record, unless the record breaches a rule.
+    /// Takes the next record, unless it breaches a rule. `drawn` becomes what is drawn, once only ENDEL is missing.
     pub(crate) fn take(
-        self,
+        &mut self,
         alloc: Global,
         kind: u8,
         payload: &[u8],
-    ) -> Result<State, Cause<ElementFault>>
-        requires { IsFormed kind payload.now }
-        ensures { (profile : PlainProfile) (piece : List Rec) (d : ℕ) → IsSrefRead self piece
-            → Takes profile piece (record_of kind d payload.now) result }
+        drawn: &mut Option<Drawn>,
+    ) -> Result<(), Cause<ElementFault>>
+        requires formed { IsFormed kind payload.now }
+        requires none { drawn.old ≡ None }
+        ensures { (profile : PlainProfile) (piece : List Rec) (d : ℕ) → IsSrefRead self.old piece
+            → Takes IsSrefRead self.new drawn.new profile piece (record_of kind d payload.now) result }
     {
-        let Sref { stage, placing } = self;
-        match stage.after(kind) {
+        match self.stage.after(kind) {
             Next::Goes(stage) => {
-                let placing = placing.read(alloc, kind, payload)?;
-                Ok(State::Sref(Sref { stage, placing }))
+                self.placing.read(alloc, kind, payload)?;
+                self.stage = stage;
+                Ok(())
             }
             Next::Ends => {
-                let reference = place_once(placing, payload)?;
-                Ok(State::Drawn(Drawn::Reference(reference)))
+                let reference = place_once(alloc, &mut self.placing, payload)?;
+                *drawn = Some(Drawn::Reference(reference));
+                Ok(())
             }
             Next::Nowhere => Err(out_of_order(kind)),
         }
@@ -106,11 +110,15 @@ impl Sref {
 }
 
 /// The reference to the cell at one point.
-fn place_once(placing: Placing, payload: &[u8]) -> Result<Reference, Cause<ElementFault>>
+fn place_once(
+    alloc: Global,
+    placing: &mut Placing,
+    payload: &[u8],
+) -> Result<Reference, Cause<ElementFault>>
     ensures value { IfOk result (λ r. r ≡ record {
-      cell = placing.name.items;
-      flip = placing.flip;
-      turn = placing.turn;
+      cell = placing.old.name.items;
+      flip = placing.old.flip;
+      turn = placing.old.turn;
       at = nth (points payload.now) 0;
       shifts = one_place;
     }) }
@@ -121,8 +129,7 @@ fn place_once(placing: Placing, payload: &[u8]) -> Result<Reference, Cause<Eleme
     if point_count(payload) != 1 {
         return Err(breach(ElementRule::Points));
     }
-    let Placing { name, flip, turn } = placing;
     let at = point_at(payload, 0);
-    let name = Name::new(name)?;
-    Ok(Reference::new(name, flip, turn, at, Offsets::single()).unwrap())
+    let name = Name::new(mem::replace(&mut placing.name, Vec::new(alloc)))?;
+    Ok(Reference::new(name, placing.flip, placing.turn, at, Offsets::single()).unwrap())
 }

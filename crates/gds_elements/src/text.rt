@@ -1,6 +1,6 @@
 //! TEXT LAYER TEXTTYPE [PRESENTATION] [PATHTYPE] [WIDTH] [STRANS [MAG] [ANGLE]] XY STRING ENDEL: it
 //! covers nothing. Its values aren't checked, except that it has one point.
-ghost use Rattle.std.specs.Prelude.{◌≡◌, [], ◌∷◌, ◌≢◌, List, ℕ, OnOk, IfErr, length};
+ghost use Rattle.std.specs.Prelude.{◌≡◌, [], ◌∷◌, ◌≢◌, List, ℕ, None, OnOk, IfErr, length};
 ghost use Rattle.gds_elements.specs.Types.{text, xy, string};
 ghost use Rattle.gds_elements.specs.Values.{points};
 ghost use Rattle.gds_elements.specs.Rec.{Rec};
@@ -12,7 +12,7 @@ ghost use Rattle.lvl_profile.specs.declared.profile.Profile.{Profile as PlainPro
 ghost use Rattle.gds_elements.specs.inside.Reading.{Takes, record_of};
 ghost use Rattle.gds_elements.specs.inside.Misplaced.{breach};
 
-use crate::element::{Drawn, State};
+use crate::element::Drawn;
 use crate::fault::{ElementFault, ElementRule, breach};
 use crate::order::{Next, only, out_of_order};
 use crate::values::point_count;
@@ -121,18 +121,28 @@ impl Text {
         }
     }
 
-    /// The state after the next record, unless the record breaches a rule.
-    pub(crate) fn take(self, kind: u8, payload: &[u8]) -> Result<State, Cause<ElementFault>>
-        requires { IsFormed kind payload.now }
-        ensures { (profile : PlainProfile) (piece : List Rec) (d : ℕ) → IsTextRead self piece
-            → Takes profile piece (record_of kind d payload.now) result }
+    /// Takes the next record, unless it breaches a rule. `drawn` becomes what is drawn, once only ENDEL is missing.
+    pub(crate) fn take(
+        &mut self,
+        kind: u8,
+        payload: &[u8],
+        drawn: &mut Option<Drawn>,
+    ) -> Result<(), Cause<ElementFault>>
+        requires formed { IsFormed kind payload.now }
+        requires none { drawn.old ≡ None }
+        ensures { (profile : PlainProfile) (piece : List Rec) (d : ℕ) → IsTextRead self.old piece
+            → Takes IsTextRead self.new drawn.new profile piece (record_of kind d payload.now) result }
     {
         match self.stage.after(kind) {
             Next::Goes(stage) => {
                 check_points(kind, payload)?;
-                Ok(State::Text(Text { stage }))
+                self.stage = stage;
+                Ok(())
             }
-            Next::Ends => Ok(State::Drawn(Drawn::Nothing)),
+            Next::Ends => {
+                *drawn = Some(Drawn::Nothing);
+                Ok(())
+            }
             Next::Nowhere => Err(out_of_order(kind)),
         }
     }

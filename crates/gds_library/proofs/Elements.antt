@@ -1,6 +1,6 @@
 -- Where an element begins and ends among the records of a structure.
 use Rattle.std.proofs.Common.{◌≡◌, ◌==◌, ◌||◌, ◌⊎◌, ℕ, Bool, true, false, List, [], ◌∷◌, ◌++◌, Some, refl, sym, ap, ◌∙◌}
-use Rattle.std.proofs.Common.{subst, append_assoc, inl, inr}
+use Rattle.std.proofs.Common.{subst, append_assoc, inl, inr, Option, None}
 use Rattle.std.proofs.lemmas.List.{append-nil}
 use Rattle.std.proofs.lemmas.Bool.{or_parts}
 use Rattle.std.specs.List.{flat_map}
@@ -8,10 +8,11 @@ use Rattle.gds_elements.specs.Types.{boundary, path, sref, aref, text, endstr}
 use Rattle.lvl_grammar.specs.Order.{IsWord, Begins}
 use Rattle.gds_elements.specs.Order.{an_element, opens}
 use Rattle.gds_elements.specs.Rec.{Rec, kinds, opener}
-use Rattle.gds_elements.specs.inside.Reading.{HasRead, IsReading}
+use Rattle.gds_elements.specs.inside.Reading.{HasRead, IsAfter, IsReading}
+use Rattle.gds_elements.specs.declared.element.Drawn.{Drawn}
 use Rattle.gds_elements.specs.declared.element.Element.{Element}
 use Rattle.gds_elements.specs.declared.element.State.{State}
-use Rattle.gds_elements.specs.declared.element.State.TheVariants.{Boundary, Path, Sref, Aref, Text, Drawn as AtEnd}
+use Rattle.gds_elements.specs.declared.element.State.TheVariants.{Boundary, Path, Sref, Aref, Text}
 use Rattle.lvl_grammar.specs.inside.After.{after_first, IsWordOfOne, LeadsTo}
 use Rattle.lvl_grammar.proofs.Orders.{first_taken, some_word, some_word-is, empty_word}
 use Rattle.gds_elements.proofs.Elements.{reading_begins, reading_unfinished, nothing_follows}
@@ -60,7 +61,11 @@ state_opened (Path p) piece h = (path, h.opened)
 state_opened (Sref s) piece h = (sref, h.opened)
 state_opened (Aref a) piece h = (aref, h.opened)
 state_opened (Text t) piece h = (text, h.opened)
-state_opened (AtEnd d) piece h = h.opened
+
+after_opened : (s : State) (o : Option Drawn) (piece : List Rec) → IsAfter HasRead s o piece
+    → (k : ℕ) × (opener piece ≡ Some k)
+after_opened s None piece h = state_opened s piece h
+after_opened s (Some d) piece h = h.opened
 
 open_by : (k : ℕ) (piece : List Rec) → opener piece ≡ Some k → Begins an_element (kinds piece)
     → (IsWord an_element (kinds piece) → ⊥) → IsOpen (kinds piece)
@@ -70,7 +75,7 @@ open_by k (r ∷ rs) e b n = record { first = r.kind; rest = kinds rs; parts = r
 -- an element that is being read is open
 pub reading_open : (e : Element) (piece : List Rec) → IsReading e piece → IsOpen (kinds piece)
 reading_open e piece h =
-    let o = state_opened e.state piece h in
+    let o = after_opened e.state e.drawn piece h in
     open_by o.0 piece o.1 (reading_begins e piece h) (reading_unfinished e piece h)
 
 -- if two lists begin the same list, one of them begins the other

@@ -4,8 +4,6 @@ use Rattle.std.proofs.Common.{None, map, refl, sym, ap, ◌∙◌, subst, arith,
 use Rattle.std.specs.List.{AllByRecursion}
 use Rattle.std.specs.Prelude.{Option, Result, Ok, Err, IsErr, IsErrAnd, IsTrue, ◌↔◌}
 use Rattle.std.proofs.lemmas.List.{append-nil}
-use Rattle.lvl_path.specs.Figure.{figure_rings}
-use Rattle.lvl_cells.specs.Cells.{kept}
 use Rattle.gds_elements.specs.Types.{header, bgnlib, libname, units, bgnstr, strname}
 use Rattle.lvl_grammar.specs.Order.{IsWord, Begins, has}
 use Rattle.gds_elements.specs.Order.{an_element, opens}
@@ -15,8 +13,8 @@ use Rattle.gds_elements.specs.Rules.{ElementBreaches, ValueBreaches as BreachesI
 use Rattle.lvl_names.specs.Names.{IsName}
 use Rattle.gds_elements.specs.Rules.{InOrder as InOrderInElement, BreachesNone as KeepsElement}
 use Rattle.gds_elements.specs.Rules.{BreachesOnly as OnlyInElement}
-use Rattle.gds_elements.specs.Meaning.{in_rings, shapes_of}
-use Rattle.gds_elements.specs.inside.Reading.{IsReading, IsDrawn, shapes_in, references_in}
+use Rattle.gds_elements.specs.Meaning.{in_rings, shapes_of, references_of}
+use Rattle.gds_elements.specs.inside.Reading.{IsReading, IsWhole, Draws}
 use Rattle.gds_elements.specs.declared.element.Element.{Element as OpenElement}
 use Rattle.gds_elements.specs.declared.element.Drawn.{Drawn}
 use Rattle.gds_elements.proofs.Fields.{field-snoc, kinds-snoc}
@@ -26,7 +24,7 @@ use Rattle.gds_library.specs.Order.{a_library}
 use Rattle.gds_library.specs.inside.Stage.{after, left, has_units}
 use Rattle.lvl_grammar.specs.inside.After.{LeadsTo}
 use Rattle.gds_library.specs.Rec.{pieces, last_piece}
-use Rattle.gds_library.specs.Values.{drawings, two_reals}
+use Rattle.gds_library.specs.Values.{two_reals}
 use Rattle.gds_library.specs.Rules.{InOrder, Breaches, BreachesOnly, MayFollow}
 use Rattle.gds_library.specs.inside.Faults.{IsAllowed, lifted, lifted_refusal}
 use Rattle.lvl_refusal.specs.Refused.{Says}
@@ -249,11 +247,11 @@ law_fill profile rs g =
     (λ e. absurd (omega (arith, e)))
 
 -- a builder after the records of one more complete element
-law_element : (b b' : Builder) (before piece : List Rec) (d : Drawn) → Holds b before → b.stage ≡ Elements
-    → IsWord an_element (kinds piece) → IsDrawn d piece → b'.stage ≡ b.stage → b'.version ≡ b.version
-    → b'.units ≡ b.units
-    → shown b' ≡ on_last (with_drawn (shapes_in d) (references_in d)) (shown b) → Holds b' (before ++ piece)
-law_element b b' before piece d h at w dr p v u s =
+law_element : (b b' : Builder) (before piece : List Rec) → Holds b before → b.stage ≡ Elements
+    → IsWord an_element (kinds piece) → b'.stage ≡ b.stage → b'.version ≡ b.version → b'.units ≡ b.units
+    → shown b' ≡ on_last (with_drawn (map in_rings (shapes_of piece)) (references_of piece)) (shown b)
+    → Holds b' (before ++ piece)
+law_element b b' before piece h at w p v u s =
     let pc = word_piece piece w in
     let to : LeadsTo a_library (kinds before ++ kinds piece) (left Elements) =
     leads_element (kinds before) (kinds piece) (subst (λ p. LeadsTo a_library (kinds before) (left p)) at h.leads)
@@ -261,10 +259,7 @@ law_element b b' before piece d h at w dr p v u s =
     record {
       leads = subst (λ l. LeadsTo a_library l (left b'.stage)) (sym (map-append before piece))
           (subst (λ q. LeadsTo a_library (kinds before ++ kinds piece) (left q)) (sym (p ∙ at)) to);
-      shown = s ∙ ap (on_last (with_drawn (shapes_in d) (references_in d))) h.shown
-          ∙ ap (λ l. on_last (with_drawn l (references_in d)) (kept figure_rings (drawings before))) dr.shapes
-          ∙ ap (λ l. on_last (with_drawn (map in_rings (shapes_of piece)) l) (kept figure_rings (drawings before)))
-          dr.references
+      shown = s ∙ ap (on_last (with_drawn (map in_rings (shapes_of piece)) (references_of piece))) h.shown
           ∙ sym (drawings_element before piece pc);
       version = v ∙ h.version ∙ sym (ap short (field_past header before piece (piece_lacks piece header pc refl refl)));
       units = λ z. u ∙ h.units (ap has_units at)
@@ -300,24 +295,32 @@ law_inside profile b e e' rs r i re n =
           (last_lacks i.piece r bgnstr pc refl refl),
     )
 
+draws_word : (o : Option Drawn) (piece : List Rec) → Draws o piece → IsWord an_element (kinds piece)
+draws_word None piece h = absurd h
+draws_word (Some d) piece h = h.0
+
+-- the records of a whole element are in the order of one
+pub whole_word : (e : OpenElement) (piece : List Rec) → IsWhole e piece → IsWord an_element (kinds piece)
+whole_word e piece h = draws_word e.drawn piece h
+
 -- the ENDEL of an open element
-pub law_whole : (profile : Profile) (b b' : Builder) (e : OpenElement) (rs : List Rec) (r : Rec) (d : Drawn)
-    (i : IsInside b e rs)
-    → IsWord an_element (kinds (i.piece ++ r ∷ [])) × IsDrawn d (i.piece ++ r ∷ []) → KeepsElement profile i.piece r
+pub law_whole : (profile : Profile) (b b' : Builder) (e : OpenElement) (rs : List Rec) (r : Rec) (i : IsInside b e rs)
+    → IsWord an_element (kinds (i.piece ++ r ∷ [])) → KeepsElement profile i.piece r
     → b'.stage ≡ b.stage → b'.version ≡ b.version → b'.units ≡ b.units
-    → shown b' ≡ on_last (with_drawn (shapes_in d) (references_in d)) (shown b)
+    → shown b' ≡ on_last (with_drawn (map in_rings (shapes_of (i.piece ++ r ∷ []))) (references_of (i.piece ++ r ∷ [])))
+    (shown b)
     → Holds b' (rs ++ r ∷ []) × MayFollow profile rs r
-law_whole profile b b' e rs r d i w n p v u s =
+law_whole profile b b' e rs r i w n p v u s =
     let parts : rs ++ r ∷ [] ≡ i.before ++ (i.piece ++ r ∷ []) = ap (λ l. l ++ r ∷ []) i.parts ∙ append_assoc i.before
     i.piece (r ∷ []) in
-    let next : Holds b' (rs ++ r ∷ []) = subst (Holds b') (sym parts) (law_element b b' i.before (i.piece ++ r ∷ []) d
-    i.holds i.at w.0 w.1 p v u s) in
-    let pc = word_piece (i.piece ++ r ∷ []) w.0 in
+    let next : Holds b' (rs ++ r ∷ []) = subst (Holds b') (sym parts) (law_element b b' i.before (i.piece ++ r ∷ [])
+    i.holds i.at w p v u s) in
+    let pc = word_piece (i.piece ++ r ∷ []) w in
     let last : last_piece is_opener rs ≡ i.piece = ap (last_piece is_opener) i.parts ∙ last_opened i.before i.piece
     (reading_piece e i.piece i.reading) in (
       next,
       may_follow_inside profile rs i.piece r last n
-          ([], subst (IsWord an_element) (sym (append-nil (kinds (i.piece ++ r ∷ [])))) w.0)
+          ([], subst (IsWord an_element) (sym (append-nil (kinds (i.piece ++ r ∷ [])))) w)
           (leads_begins (kinds (rs ++ r ∷ [])) b'.stage next.leads) (last_lacks i.piece r strname pc refl refl)
           (last_lacks i.piece r bgnstr pc refl refl),
     )

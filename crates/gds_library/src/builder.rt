@@ -1,10 +1,12 @@
 //! Builds the library from the records outside of elements and from what elements draw.
 ghost use Rattle.std.specs.Prelude.{◌≡◌, ◌==◌, if◌then◌else◌, ◌<◌, [], pos, Some, None, IsTrue, ◌↔◌, OnOk, IfOk, IfErr};
-ghost use Rattle.std.specs.Prelude.{length};
+ghost use Rattle.std.specs.Prelude.{length, List, map};
 ghost use Rattle.gds_elements.specs.Types.{header, units};
+ghost use Rattle.gds_elements.specs.Meaning.{in_rings, shapes_of, references_of};
+ghost use Rattle.gds_elements.specs.Rec.{Rec};
 ghost use Rattle.gds_elements.specs.Values.{short};
 ghost use Rattle.lvl_refusal.specs.Refused.{Says};
-ghost use Rattle.gds_elements.specs.inside.Reading.{shapes_in, references_in};
+ghost use Rattle.gds_elements.specs.inside.Reading.{IsWhole, shapes_in, references_in};
 ghost use Rattle.gds_library.specs.Values.{two_reals};
 ghost use Rattle.gds_library.specs.inside.Stage.{after};
 ghost use Rattle.gds_library.specs.inside.Faults.{IsFormed, IsFault, IsAllowed};
@@ -12,7 +14,7 @@ ghost use Rattle.gds_library.specs.inside.Faults.{IsFormed, IsFault, IsAllowed};
 use crate::fault::GdsKind;
 use crate::head::{GdsHead, two_reals};
 use crate::stage::LibraryStage;
-use gds_elements::{Drawn, misplaced, name};
+use gds_elements::{Drawn, Element, misplaced, name};
 use gds_records::record_type;
 use lvl_cells::{Builder as Cells, Library};
 use lvl_names::{Offsets, is_name};
@@ -117,8 +119,23 @@ impl Builder {
         Ok(())
     }
 
-    /// Adds what an element draws to the cell that is open. It fails only if it is out of memory.
-    pub(crate) fn add(&mut self, drawn: Drawn) -> Result<(), Cause<GdsKind>>
+    /// Adds what an element draws, whose last record was read, to the cell that is open. It fails only if it is out
+    /// of memory.
+    pub(crate) fn add_element(&mut self, element: &mut Element) -> Result<(), Cause<GdsKind>>
+        ensures refused { IfErr result (λ e. e ≡ Cause.OutOfMemory) }
+        ensures stage { OnOk result (self.new.stage ≡ self.old.stage) }
+        ensures version { OnOk result (self.new.version ≡ self.old.version) }
+        ensures units { OnOk result (self.new.units ≡ self.old.units) }
+        ensures shown { (piece : List Rec) → IsWhole element.old piece → OnOk result
+            (self.old.stage ≡ LibraryStage.Elements
+            → shown self.new ≡ on_last (with_drawn (map in_rings (shapes_of piece)) (references_of piece))
+            (shown self.old)) }
+    {
+        self.add(element.take_drawn())
+    }
+
+    // Adds what an element draws to the cell that is open.
+    fn add(&mut self, drawn: Drawn) -> Result<(), Cause<GdsKind>>
         ensures refused { IfErr result (λ e. e ≡ Cause.OutOfMemory) }
         ensures stage { OnOk result (self.new.stage ≡ self.old.stage) }
         ensures version { OnOk result (self.new.version ≡ self.old.version) }

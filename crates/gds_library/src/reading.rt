@@ -5,7 +5,7 @@ ghost use Rattle.gds_library.specs.Rules.{InOrder};
 ghost use Rattle.gds_elements.specs.inside.Reading.{record_of};
 ghost use Rattle.gds_elements.specs.inside.Formed.{IsFormed as IsFormedInElement};
 ghost use Rattle.gds_library.specs.inside.Faults.{IsFormed, lifted_refusal};
-ghost use Rattle.gds_library.specs.inside.Holds.{Holds, IsInside, HasRead, Takes};
+ghost use Rattle.gds_library.specs.inside.Holds.{Holds, HasRead, Takes};
 
 use crate::builder::Builder;
 use crate::fault::GdsKind;
@@ -75,36 +75,17 @@ impl Reading {
         ensures { (rs : List Rec) (d : ℕ) → HasRead self.old rs
             → Takes profile rs (record_of kind d payload.now) self.new result }
     {
-        match self.element.take() {
-            Some(element) => self.take_inside(element, alloc, profile, kind, payload),
+        match &mut self.element {
+            Some(element) => match element.take(alloc, profile, kind, payload) {
+                Ok(Step::Open) => Ok(()),
+                Ok(Step::Whole) => {
+                    self.builder.add_element(element)?;
+                    close(&mut self.element);
+                    Ok(())
+                }
+                Err(refusal) => Err(lifted(refusal)),
+            },
             None => self.take_outside(alloc, profile, kind, payload),
-        }
-    }
-
-    // Takes a record of the element that is open.
-    fn take_inside(
-        &mut self,
-        element: Element,
-        alloc: Global,
-        profile: Profile,
-        kind: u8,
-        payload: &[u8],
-    ) -> Result<(), Cause<GdsKind>>
-        requires open { self.old.element ≡ None }
-        requires in_element { IsFormedInElement kind payload.now }
-        ensures { (rs : List Rec) (d : ℕ) → IsInside self.old.builder element rs
-            → Takes profile rs (record_of kind d payload.now) self.new result }
-    {
-        match element.take(alloc, profile, kind, payload) {
-            Ok(Step::Open(element)) => {
-                self.element = Some(element);
-                Ok(())
-            }
-            Ok(Step::Whole(drawn)) => {
-                self.builder.add(drawn)?;
-                Ok(())
-            }
-            Err(refusal) => Err(lifted(refusal)),
         }
     }
 
@@ -130,6 +111,13 @@ impl Reading {
         self.builder.take(alloc, profile.limits, kind, payload)?;
         Ok(())
     }
+}
+
+// No element is open any more. In `take` itself, room for an element would be cleared for each record.
+fn close(element: &mut Option<Element>)
+    ensures { element.new ≡ None }
+{
+    *element = None;
 }
 
 // The refusal of a record of an element, as one of the library.

@@ -96,7 +96,7 @@ fn is_formed(kind: u8, payload: &[u8]) -> bool
 /// What an open element does with the next record.
 fn take(
     alloc: Global,
-    element: Element,
+    element: &mut Element,
     record: &str,
 ) -> Result<Result<Step, Cause<ElementFault>>, Fail> {
     let (name, words) = cut(record, " ");
@@ -116,9 +116,9 @@ fn read(alloc: Global, records: &str) -> Result<Answer, Fail> {
     let first = kind_of(cut(records, ";").0)?;
     let mut element = Element::open(alloc, first).ok_or("an element")?;
     for (n, record) in records.split(';').enumerate().skip(1) {
-        match take(alloc, element, record.trim())? {
-            Ok(Step::Open(next)) => element = next,
-            Ok(Step::Whole(drawn)) => return Ok(Ok(drawn)),
+        match take(alloc, &mut element, record.trim())? {
+            Ok(Step::Open) => {}
+            Ok(Step::Whole) => return Ok(Ok(element.take_drawn())),
             Err(cause) => return Ok(Err((n, cause))),
         }
     }

@@ -1,5 +1,5 @@
 -- The state of an element after the records that were read.
-use Rattle.std.specs.Prelude.{◌≡◌, ℕ, List, [], ◌∷◌, ◌++◌, map, Some, Result, Ok, Err}
+use Rattle.std.specs.Prelude.{◌≡◌, ℕ, List, [], ◌∷◌, ◌++◌, map, Option, Some, None, Result, Ok, Err}
 use Rattle.lvl_cells.specs.Cells.{PlainShape, PlainReference, Rings as PlainRings}
 use Rattle.gds_elements.specs.Types.{endel}
 use Rattle.lvl_grammar.specs.Order.{one, IsWord}
@@ -20,7 +20,7 @@ use Rattle.gds_elements.specs.declared.fault.ElementFault.{ElementFault}
 use Rattle.gds_elements.specs.declared.element.Drawn.{Drawn}
 use Rattle.gds_elements.specs.declared.element.Drawn.TheVariants.{Ring, Rings, Reference, Nothing}
 use Rattle.gds_elements.specs.declared.element.State.{State}
-use Rattle.gds_elements.specs.declared.element.State.TheVariants.{Boundary, Path, Sref, Aref, Text, Drawn as AtEnd}
+use Rattle.gds_elements.specs.declared.element.State.TheVariants.{Boundary, Path, Sref, Aref, Text}
 use Rattle.gds_elements.specs.declared.element.Element.{Element}
 use Rattle.gds_elements.specs.declared.element.Step.{Step}
 use Rattle.gds_elements.specs.declared.element.Step.TheVariants.{Open, Whole}
@@ -60,22 +60,36 @@ HasRead (Path p) piece = IsPathRead p piece
 HasRead (Sref s) piece = IsSrefRead s piece
 HasRead (Aref a) piece = IsArefRead a piece
 HasRead (Text t) piece = IsTextRead t piece
-HasRead (AtEnd d) piece = IsAtEnd d piece
 
--- the state of the element is that after these records, and no others
+-- only ENDEL is missing after the records, which draw this; or more is missing, and the state is that after them
+abbrev pub IsAfter : {S : Type 0} → (S → List Rec → Type 0) → S → Option Drawn → List Rec → Type 0
+IsAfter IsRead s None piece = IsRead s piece
+IsAfter IsRead s (Some d) piece = IsAtEnd d piece
+
+-- the element is that after these records, and no others
 abbrev pub IsReading : Element → List Rec → Type 0
-IsReading e piece = HasRead e.state piece
+IsReading e piece = IsAfter HasRead e.state e.drawn piece
+
+-- the records are a whole element, and this is what they mean
+abbrev pub Draws : Option Drawn → List Rec → Type 0
+Draws None piece = ⊥
+Draws (Some d) piece = IsWord an_element (kinds piece) × IsDrawn d piece
+
+-- the element has read these records, which are all, and draws what they mean
+abbrev pub IsWhole : Element → List Rec → Type 0
+IsWhole e piece = Draws e.drawn piece
 
 -- an open element has read the records; a whole one draws what they mean
-abbrev pub IsStep : Step → List Rec → Type 0
-IsStep (Open e) piece = IsReading e piece
-IsStep (Whole d) piece = IsWord an_element (kinds piece) × IsDrawn d piece
+abbrev pub IsStep : Element → Step → List Rec → Type 0
+IsStep e Open piece = IsReading e piece
+IsStep e Whole piece = IsWhole e piece
 
 -- the record was read after the others and breaches no rule, or it is refused by a rule that it breaches
-abbrev pub Takes : Profile → List Rec → Rec → Result State (Cause ElementFault) → Type 0
-Takes profile piece r (Ok s) = HasRead s (piece ++ r ∷ []) × BreachesNone profile piece r
-Takes profile piece r (Err e) = Says e (ElementBreaches profile piece r)
+abbrev pub Takes : {S T : Type 0} → (S → List Rec → Type 0) → S → Option Drawn → Profile → List Rec → Rec
+    → Result T (Cause ElementFault) → Type 0
+Takes IsRead s o profile piece r (Ok _) = IsAfter IsRead s o (piece ++ r ∷ []) × BreachesNone profile piece r
+Takes IsRead s o profile piece r (Err e) = Says e (ElementBreaches profile piece r)
 
-abbrev pub Steps : Profile → List Rec → Rec → Result Step (Cause ElementFault) → Type 0
-Steps profile piece r (Ok s) = IsStep s (piece ++ r ∷ []) × BreachesNone profile piece r
-Steps profile piece r (Err e) = Says e (ElementBreaches profile piece r)
+abbrev pub Steps : Element → Profile → List Rec → Rec → Result Step (Cause ElementFault) → Type 0
+Steps x profile piece r (Ok s) = IsStep x s (piece ++ r ∷ []) × BreachesNone profile piece r
+Steps x profile piece r (Err e) = Says e (ElementBreaches profile piece r)

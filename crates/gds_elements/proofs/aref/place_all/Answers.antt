@@ -38,4 +38,4 @@ unwrap-requires c =
     let is : c.unwrap-shifts.result ≡ lattice (step o p m) m (step o q n) n =
     same ∙ ap (λ (i : Point). lattice i m c.in_ok-up.up n) a.0 ∙ ap (λ (i : Point). lattice (step o p m) m i n)
     b.0 in
-    c.new-2.ensures.some.1 (subst (λ (s : List Point). All (λ e. FitsPoint (shifted o e)) s) (sym is) all)
+    c.new-3.ensures.some.1 (subst (λ (s : List Point). All (λ e. FitsPoint (shifted o e)) s) (sym is) all)

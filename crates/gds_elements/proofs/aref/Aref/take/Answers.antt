@@ -4,9 +4,9 @@ use Rattle.lvl_grammar.specs.Order.{one}
 use Rattle.gds_elements.specs.Values.{points}
 use Rattle.gds_elements.specs.inside.Left.{left_after, EndsBy}
 use Rattle.gds_elements.specs.inside.Reading.{record_of}
-use Rattle.gds_elements.specs.inside.Aref.{left, IsArrayFault}
+use Rattle.gds_elements.specs.inside.Aref.{left, IsArrayFault, IsArefRead}
 use Rattle.gds_elements.specs.declared.aref.Aref.{Aref}
-use Rattle.gds_elements.proofs.Taking.{takes_broken}
+use Rattle.gds_elements.proofs.Taking.{none_drawn, takes_broken}
 use Rattle.gds_elements.specs.inside.Placing.{IsPlacingFault}
 use Rattle.gds_elements.specs.inside.Counts.{IsCountFault}
 use Rattle.gds_elements.proofs.Leads.{law_misplaced, leads_begins, in_order}
@@ -14,21 +14,21 @@ use Rattle.gds_elements.proofs.Allowed.{allowed, placing_fault, count_fault, law
 use Rattle.gds_elements.proofs.Arefs.{aref_goes, aref_ends, steps_of, array_fault}
 use Rattle.gds_elements.proofs.aref.Aref.take.Goals as goal
 
-pub returns-in_ok-counts-in-Goes : goal.returns-in_ok-counts-in-Goes
-returns-in_ok-counts-in-Goes c = λ piece d h.
+pub returns-in_ok-self-in-Goes : goal.returns-in_ok-self-in-Goes
+returns-in_ok-self-in-Goes c = λ piece d h.
     let r = record_of c.args.kind d c.args.payload.now in
     let t = c.after.ensures.order ∙ ap (left_after left) c.in-Goes.is in
-    let e = c.in_ok-placing-in-Goes.ensures in
+    let e = c.in_ok-read-in-Goes.ensures in
     let s' : Aref = record {
       stage = c.in-Goes.stage;
-      placing = c.in_ok-placing-in-Goes.placing;
-      counts = c.in_ok-counts-in-Goes.counts;
+      placing = c.read.new.self;
+      counts = c.in_ok-self-in-Goes.field-0;
     } in
-    let b = aref_goes c.args.self s' piece r h t e.name e.flip e.turn c.in_ok-counts-in-Goes.ensures.columns
-    c.in_ok-counts-in-Goes.ensures.rows in (
-      b,
+    let b = aref_goes c.args.self.now s' piece r h t e.name e.flip e.turn c.in_ok-self-in-Goes.ensures.columns
+    c.in_ok-self-in-Goes.ensures.rows in (
+      none_drawn IsArefRead _ _ _ c.requires.none b,
       allowed c.args.profile piece r (leads_begins _ (left c.in-Goes.stage) b.leads)
-          (law_aref c.args.profile piece r h.opened e.allowed c.in_ok-counts-in-Goes.ensures.allowed
+          (law_aref c.args.profile piece r h.opened e.allowed c.in_ok-self-in-Goes.ensures.allowed
           (λ x. absurd (subst (EndsBy xy c.args.kind) c.in-Goes.is c.after.ensures.last x))),
     )
 
@@ -38,48 +38,48 @@ returns-in_ok-reference-in-Ends c = λ piece d h.
     let t = c.after.ensures.order ∙ ap (left_after left) c.in-Ends.is in
     let x : c.args.kind ≡ xy = subst (EndsBy xy c.args.kind) c.in-Ends.is c.after.ensures.last in
     let e = c.in_ok-reference-in-Ends.ensures in
-    let b = aref_ends c.args.self piece r c.in_ok-reference-in-Ends.reference h t x e.value in (
+    let b = aref_ends c.args.self.now piece r c.in_ok-reference-in-Ends.reference h t x e.value in (
       b,
       allowed c.args.profile piece r (leads_begins _ (one endel) b.leads)
           (law_aref c.args.profile piece r h.opened (placing_at_points c.args.kind c.args.payload.now x)
           (λ y. absurd (omega (arith, x, y)))
-          (λ _. steps_of c.args.self piece (points c.args.payload.now) h e.allowed)),
+          (λ _. steps_of c.args.self.now piece (points c.args.payload.now) h e.allowed)),
     )
 
 pub returns-in-Nowhere : goal.returns-in-Nowhere
 returns-in-Nowhere c = λ piece d h.
     let r = record_of c.args.kind d c.args.payload.now in
-    law_misplaced c.args.profile piece r (left c.args.self.stage) c.out_of_order.result h.leads
-    (c.after.ensures.order ∙ ap (left_after left) c.in-Nowhere.is) c.requires.known c.out_of_order.ensures
+    law_misplaced c.args.profile piece r (left c.args.self.now.stage) c.out_of_order.result h.leads
+    (c.after.ensures.order ∙ ap (left_after left) c.in-Nowhere.is) c.requires.formed.known c.out_of_order.ensures
 
-pub returns-in_err-placing-in-Goes : goal.returns-in_err-placing-in-Goes
-returns-in_err-placing-in-Goes c = λ piece d h.
+pub returns-in_err-read-in-Goes : goal.returns-in_err-read-in-Goes
+returns-in_err-read-in-Goes c = λ piece d h.
     let r = record_of c.args.kind d c.args.payload.now in
     let t = c.after.ensures.order ∙ ap (left_after left) c.in-Goes.is in
-    let g = in_order piece r (left c.args.self.stage) (left c.in-Goes.stage) h.leads t in
-    takes_broken c.args.profile piece r c.from_residual.result c.in_err-placing-in-Goes.field-0.0
+    let g = in_order piece r (left c.args.self.now.stage) (left c.in-Goes.stage) h.leads t in
+    takes_broken IsArefRead _ _ c.args.profile piece r c.from_residual.result c.in_err-read-in-Goes.field-0.0
     (IsPlacingFault c.args.kind c.args.payload.now) c.from_residual.ensures g
-    (placing_fault c.args.profile piece r (inr h.opened)) c.in_err-placing-in-Goes.ensures.refused
+    (placing_fault c.args.profile piece r (inr h.opened)) c.in_err-read-in-Goes.ensures.refused
 
-pub returns-in_err-counts-in-Goes : goal.returns-in_err-counts-in-Goes
-returns-in_err-counts-in-Goes c = λ piece d h.
+pub returns-in_err-self-in-Goes : goal.returns-in_err-self-in-Goes
+returns-in_err-self-in-Goes c = λ piece d h.
     let r = record_of c.args.kind d c.args.payload.now in
     let t = c.after.ensures.order ∙ ap (left_after left) c.in-Goes.is in
-    let g = in_order piece r (left c.args.self.stage) (left c.in-Goes.stage) h.leads t in
-    takes_broken c.args.profile piece r c.from_residual-in_err-counts-in-Goes.result c.in_err-counts-in-Goes.field-0.0
+    let g = in_order piece r (left c.args.self.now.stage) (left c.in-Goes.stage) h.leads t in
+    takes_broken IsArefRead _ _ c.args.profile piece r c.from_residual-in_err-self-in-Goes.result c.in_err-self-in-Goes.field-0.0
     (λ k. (c.args.kind ≡ colrow) × IsCountFault c.args.profile.limits c.args.payload.now k)
-    c.from_residual-in_err-counts-in-Goes.ensures
+    c.from_residual-in_err-self-in-Goes.ensures
     g
-    (count_fault c.args.profile piece r h.opened) c.in_err-counts-in-Goes.ensures.refused
+    (count_fault c.args.profile piece r h.opened) c.in_err-self-in-Goes.ensures.refused
 
 pub returns-in_err-reference-in-Ends : goal.returns-in_err-reference-in-Ends
 returns-in_err-reference-in-Ends c = λ piece d h.
     let r = record_of c.args.kind d c.args.payload.now in
     let t = c.after.ensures.order ∙ ap (left_after left) c.in-Ends.is in
     let last = subst (EndsBy xy c.args.kind) c.in-Ends.is c.after.ensures.last in
-    let g = in_order piece r (left c.args.self.stage) (one endel) h.leads t in
-    takes_broken c.args.profile piece r c.from_residual-in_err-reference-in-Ends.result
+    let g = in_order piece r (left c.args.self.now.stage) (one endel) h.leads t in
+    takes_broken IsArefRead _ _ c.args.profile piece r c.from_residual-in_err-reference-in-Ends.result
     c.in_err-reference-in-Ends.field-0.0
-    (IsArrayFault (points c.args.payload.now) c.args.self.counts.columns c.args.self.counts.rows)
+    (IsArrayFault (points c.args.payload.now) c.args.self.now.counts.columns c.args.self.now.counts.rows)
     c.from_residual-in_err-reference-in-Ends.ensures g
-    (array_fault c.args.profile c.args.self piece r h last) c.in_err-reference-in-Ends.ensures.refused
+    (array_fault c.args.profile c.args.self.now piece r h last) c.in_err-reference-in-Ends.ensures.refused

@@ -8,34 +8,34 @@ use Rattle.gds_elements.specs.Meaning.{end_of}
 use Rattle.gds_elements.specs.inside.Left.{left_after, EndsBy}
 use Rattle.gds_elements.specs.inside.Reading.{record_of}
 use Rattle.gds_elements.specs.declared.path.Path.{Path}
-use Rattle.gds_elements.specs.inside.Path.{left, IsBandsFault}
+use Rattle.gds_elements.specs.inside.Path.{left, IsBandsFault, IsPathRead}
 use Rattle.gds_elements.specs.declared.fault.ElementRule.TheVariants.{Layer as LayerKind, PathType, Width}
 use Rattle.gds_elements.proofs.Leads.{law_misplaced, leads_begins, in_order}
 use Rattle.gds_elements.proofs.Allowed.{allowed, law_path}
-use Rattle.gds_elements.proofs.Taking.{takes_broken, takes_one}
+use Rattle.gds_elements.proofs.Taking.{none_drawn, takes_broken, takes_one}
 use Rattle.gds_elements.proofs.Paths.{path_goes, path_ends, some_of, width_read, half_is}
 use Rattle.gds_elements.proofs.Paths.{reach_is, bands_fault}
 use Rattle.gds_elements.proofs.path.Path.take.Goals as goal
 
-pub returns-in_ok-half-in-Goes : goal.returns-in_ok-half-in-Goes
-returns-in_ok-half-in-Goes c = λ piece d h.
+pub returns-in_ok-self-in-Goes-3 : goal.returns-in_ok-self-in-Goes-3
+returns-in_ok-self-in-Goes-3 c = λ piece d h.
     let profile = c.args.profile in
     let r = record_of c.args.kind d c.args.payload.now in
     let t = c.after.ensures.order ∙ ap (left_after left) c.in-Goes.is in
     let p' : Path = record {
       stage = c.in-Goes.stage;
-      layer = c.in_ok-layer-in-Goes.layer;
-      square = c.in_ok-square-in-Goes.square;
-      half = c.in_ok-half-in-Goes.half;
+      layer = c.in_ok-self-in-Goes.field-0;
+      square = c.in_ok-self-in-Goes-2.field-0;
+      half = c.in_ok-self-in-Goes-3.field-0;
     } in
-    let b = path_goes c.args.self p' piece r h t c.in_ok-layer-in-Goes.ensures.layer
-    c.in_ok-layer-in-Goes.ensures.datatype c.in_ok-square-in-Goes.ensures.value c.in_ok-half-in-Goes.ensures.value
+    let b = path_goes c.args.self.now p' piece r h t c.in_ok-self-in-Goes.ensures.layer
+    c.in_ok-self-in-Goes.ensures.datatype c.in_ok-self-in-Goes-2.ensures.value c.in_ok-self-in-Goes-3.ensures.value
     in (
-      b,
+      none_drawn IsPathRead _ _ _ c.requires.none b,
       allowed profile piece r (leads_begins _ (left c.in-Goes.stage) b.leads)
-          (law_path profile piece r h.opened c.in_ok-layer-in-Goes.ensures.allowed
-          c.in_ok-square-in-Goes.ensures.allowed
-          c.in_ok-half-in-Goes.ensures.allowed
+          (law_path profile piece r h.opened c.in_ok-self-in-Goes.ensures.allowed
+          c.in_ok-self-in-Goes-2.ensures.allowed
+          c.in_ok-self-in-Goes-3.ensures.allowed
           (λ x. absurd (subst (EndsBy xy c.args.kind) c.in-Goes.is c.after.ensures.last x))),
     )
 
@@ -46,11 +46,11 @@ returns-in_err-rings-in-Ends c = λ piece d h.
     let t = c.after.ensures.order ∙ ap (left_after left) c.in-Ends.is in
     let last = subst (EndsBy xy c.args.kind) c.in-Ends.is c.after.ensures.last in
     let e = c.in_err-rings-in-Ends.field-0.0 in
-    takes_broken profile piece r c.from_residual-in_err-rings-in-Ends.result e
-    (IsBandsFault profile.ignore.points (points c.args.payload.now) c.args.self.half c.args.self.square)
+    takes_broken IsPathRead _ _ profile piece r c.from_residual-in_err-rings-in-Ends.result e
+    (IsBandsFault profile.ignore.points (points c.args.payload.now) c.args.self.now.half c.args.self.now.square)
     c.from_residual-in_err-rings-in-Ends.ensures
-    (in_order piece r (left c.args.self.stage) (one endel) h.leads t)
-    (bands_fault profile c.args.self piece r h last) c.in_err-rings-in-Ends.ensures.refused
+    (in_order piece r (left c.args.self.now.stage) (one endel) h.leads t)
+    (bands_fault profile c.args.self.now piece r h last) c.in_err-rings-in-Ends.ensures.refused
 
 pub returns-in_ok-rings-in-Ends : goal.returns-in_ok-rings-in-Ends
 returns-in_ok-rings-in-Ends c = λ piece d h.
@@ -60,55 +60,55 @@ returns-in_ok-rings-in-Ends c = λ piece d h.
     let t = c.after.ensures.order ∙ ap (left_after left) c.in-Ends.is in
     let x : c.args.kind ≡ xy = subst (EndsBy xy c.args.kind) c.in-Ends.is c.after.ensures.last in
     let e = c.in_ok-rings-in-Ends.ensures in
-    let known = some_of c.args.self.half e.width in
-    let b = path_ends c.args.self piece r known.0 c.in_ok-rings-in-Ends.rings h t x known.1 (e.value known.0 known.1) in
+    let known = some_of c.args.self.now.half e.width in
+    let b = path_ends c.args.self.now piece r known.0 c.in_ok-rings-in-Ends.rings h t x known.1 (e.value known.0 known.1) in
     let ok = e.allowed known.0 known.1 in
     let ok' = subst (λ (n : ℕ). IsPath qs (record { half = known.0; start = n; end = n }))
-    (reach_is c.args.self piece known.0 h known.1) ok in
+    (reach_is c.args.self.now piece known.0 h known.1) ok in
     let ok'' = subst (λ (n : ℕ). IsPath qs (record { half = n; start = end_of piece; end = end_of piece }))
-    (half_is c.args.self piece known.0 h known.1) ok' in (
+    (half_is c.args.self.now piece known.0 h known.1) ok' in (
       b,
       allowed profile piece r (leads_begins _ (one endel) b.leads)
           (law_path profile piece r h.opened (λ l. absurd
           (elim l [ inl y ↦ omega (arith, y, x) | inr y ↦ omega (arith, y, x) ]))
           (λ y. absurd (omega (arith, x, y))) (λ y. absurd (omega (arith, x, y)))
-          (λ _. (e.enough, width_read c.args.self piece h e.width, ok''))),
+          (λ _. (e.enough, width_read c.args.self.now piece h e.width, ok''))),
     )
 
 pub returns-in-Nowhere : goal.returns-in-Nowhere
 returns-in-Nowhere c = λ piece d h.
     let profile = c.args.profile in
     let r = record_of c.args.kind d c.args.payload.now in
-    law_misplaced profile piece r (left c.args.self.stage) c.out_of_order.result h.leads
-    (c.after.ensures.order ∙ ap (left_after left) c.in-Nowhere.is) c.requires.known c.out_of_order.ensures
+    law_misplaced profile piece r (left c.args.self.now.stage) c.out_of_order.result h.leads
+    (c.after.ensures.order ∙ ap (left_after left) c.in-Nowhere.is) c.requires.formed.known c.out_of_order.ensures
 
-pub returns-in_err-layer-in-Goes : goal.returns-in_err-layer-in-Goes
-returns-in_err-layer-in-Goes c = λ piece d h.
+pub returns-in_err-self-in-Goes : goal.returns-in_err-self-in-Goes
+returns-in_err-self-in-Goes c = λ piece d h.
     let profile = c.args.profile in
     let r = record_of c.args.kind d c.args.payload.now in
     let t = c.after.ensures.order ∙ ap (left_after left) c.in-Goes.is in
-    let g = in_order piece r (left c.args.self.stage) (left c.in-Goes.stage) h.leads t in
-    let e = c.in_err-layer-in-Goes.ensures.refused in
-    takes_one profile piece r c.from_residual.result c.in_err-layer-in-Goes.field-0.0 LayerKind c.from_residual.ensures
+    let g = in_order piece r (left c.args.self.now.stage) (left c.in-Goes.stage) h.leads t in
+    let e = c.in_err-self-in-Goes.ensures.refused in
+    takes_one IsPathRead _ _ profile piece r c.from_residual.result c.in_err-self-in-Goes.field-0.0 LayerKind c.from_residual.ensures
     g e.0
     (e.1, inr h.opened, e.2)
 
-pub returns-in_err-square-in-Goes : goal.returns-in_err-square-in-Goes
-returns-in_err-square-in-Goes c = λ piece d h.
+pub returns-in_err-self-in-Goes-2 : goal.returns-in_err-self-in-Goes-2
+returns-in_err-self-in-Goes-2 c = λ piece d h.
     let profile = c.args.profile in
     let r = record_of c.args.kind d c.args.payload.now in
     let t = c.after.ensures.order ∙ ap (left_after left) c.in-Goes.is in
-    let g = in_order piece r (left c.args.self.stage) (left c.in-Goes.stage) h.leads t in
-    let e = c.in_err-square-in-Goes.ensures.refused in
-    takes_one profile piece r c.from_residual-in_err-square-in-Goes.result c.in_err-square-in-Goes.field-0.0 PathType
-    c.from_residual-in_err-square-in-Goes.ensures g e.0 (e.1, h.opened, e.2, e.3)
+    let g = in_order piece r (left c.args.self.now.stage) (left c.in-Goes.stage) h.leads t in
+    let e = c.in_err-self-in-Goes-2.ensures.refused in
+    takes_one IsPathRead _ _ profile piece r c.from_residual-in_err-self-in-Goes-2.result c.in_err-self-in-Goes-2.field-0.0 PathType
+    c.from_residual-in_err-self-in-Goes-2.ensures g e.0 (e.1, h.opened, e.2, e.3)
 
-pub returns-in_err-half-in-Goes : goal.returns-in_err-half-in-Goes
-returns-in_err-half-in-Goes c = λ piece d h.
+pub returns-in_err-self-in-Goes-3 : goal.returns-in_err-self-in-Goes-3
+returns-in_err-self-in-Goes-3 c = λ piece d h.
     let profile = c.args.profile in
     let r = record_of c.args.kind d c.args.payload.now in
     let t = c.after.ensures.order ∙ ap (left_after left) c.in-Goes.is in
-    let g = in_order piece r (left c.args.self.stage) (left c.in-Goes.stage) h.leads t in
-    let e = c.in_err-half-in-Goes.ensures.refused in
-    takes_one profile piece r c.from_residual-in_err-half-in-Goes.result c.in_err-half-in-Goes.field-0.0 Width
-    c.from_residual-in_err-half-in-Goes.ensures g e.0 (h.opened, inl (e.1, e.2))
+    let g = in_order piece r (left c.args.self.now.stage) (left c.in-Goes.stage) h.leads t in
+    let e = c.in_err-self-in-Goes-3.ensures.refused in
+    takes_one IsPathRead _ _ profile piece r c.from_residual-in_err-self-in-Goes-3.result c.in_err-self-in-Goes-3.field-0.0 Width
+    c.from_residual-in_err-self-in-Goes-3.ensures g e.0 (h.opened, inl (e.1, e.2))

@@ -3,26 +3,26 @@ use Rattle.gds_elements.specs.Types.{xy, endel}
 use Rattle.lvl_grammar.specs.Order.{one}
 use Rattle.gds_elements.specs.inside.Left.{left_after, EndsBy}
 use Rattle.gds_elements.specs.inside.Reading.{record_of}
-use Rattle.gds_elements.specs.inside.Sref.{left}
+use Rattle.gds_elements.specs.inside.Sref.{left, IsSrefRead}
 use Rattle.gds_elements.specs.declared.sref.Sref.{Sref}
 use Rattle.gds_elements.specs.declared.fault.ElementRule.TheVariants.{Points}
 use Rattle.gds_elements.specs.Rules.{ValueBreaches}
 use Rattle.gds_elements.specs.Values.{points}
-use Rattle.gds_elements.proofs.Taking.{takes_broken}
+use Rattle.gds_elements.proofs.Taking.{none_drawn, takes_broken}
 use Rattle.gds_elements.specs.inside.Placing.{IsPlacingFault}
 use Rattle.gds_elements.proofs.Leads.{law_misplaced, leads_begins, in_order}
 use Rattle.gds_elements.proofs.Allowed.{allowed, placing_fault, law_sref, placing_at_points}
 use Rattle.gds_elements.proofs.Srefs.{sref_goes, sref_ends}
 use Rattle.gds_elements.proofs.sref.Sref.take.Goals as goal
 
-pub returns-in_ok-placing-in-Goes : goal.returns-in_ok-placing-in-Goes
-returns-in_ok-placing-in-Goes c = λ profile piece d h.
+pub returns-in_ok-read-in-Goes : goal.returns-in_ok-read-in-Goes
+returns-in_ok-read-in-Goes c = λ profile piece d h.
     let r = record_of c.args.kind d c.args.payload.now in
     let t = c.after.ensures.order ∙ ap (left_after left) c.in-Goes.is in
-    let e = c.in_ok-placing-in-Goes.ensures in
-    let s' : Sref = record { stage = c.in-Goes.stage; placing = c.in_ok-placing-in-Goes.placing } in
-    let b = sref_goes c.args.self s' piece r h t e.name e.flip e.turn in (
-      b,
+    let e = c.in_ok-read-in-Goes.ensures in
+    let s' : Sref = record { stage = c.in-Goes.stage; placing = c.read.new.self } in
+    let b = sref_goes c.args.self.now s' piece r h t e.name e.flip e.turn in (
+      none_drawn IsSrefRead _ _ _ c.requires.none b,
       allowed profile piece r (leads_begins _ (left c.in-Goes.stage) b.leads)
           (law_sref profile piece r h.opened e.allowed
           (λ x. absurd (subst (EndsBy xy c.args.kind) c.in-Goes.is c.after.ensures.last x))),
@@ -34,7 +34,7 @@ returns-in_ok-reference-in-Ends c = λ profile piece d h.
     let t = c.after.ensures.order ∙ ap (left_after left) c.in-Ends.is in
     let x : c.args.kind ≡ xy = subst (EndsBy xy c.args.kind) c.in-Ends.is c.after.ensures.last in
     let e = c.in_ok-reference-in-Ends.ensures in
-    let b = sref_ends c.args.self piece r c.in_ok-reference-in-Ends.reference h t x e.value in (
+    let b = sref_ends c.args.self.now piece r c.in_ok-reference-in-Ends.reference h t x e.value in (
       b,
       allowed profile piece r (leads_begins _ (one endel) b.leads)
           (law_sref profile piece r h.opened (placing_at_points c.args.kind c.args.payload.now x) (λ _. e.allowed)),
@@ -43,25 +43,25 @@ returns-in_ok-reference-in-Ends c = λ profile piece d h.
 pub returns-in-Nowhere : goal.returns-in-Nowhere
 returns-in-Nowhere c = λ profile piece d h.
     let r = record_of c.args.kind d c.args.payload.now in
-    law_misplaced profile piece r (left c.args.self.stage) c.out_of_order.result h.leads
-    (c.after.ensures.order ∙ ap (left_after left) c.in-Nowhere.is) c.requires.known c.out_of_order.ensures
+    law_misplaced profile piece r (left c.args.self.now.stage) c.out_of_order.result h.leads
+    (c.after.ensures.order ∙ ap (left_after left) c.in-Nowhere.is) c.requires.formed.known c.out_of_order.ensures
 
-pub returns-in_err-placing-in-Goes : goal.returns-in_err-placing-in-Goes
-returns-in_err-placing-in-Goes c = λ profile piece d h.
+pub returns-in_err-read-in-Goes : goal.returns-in_err-read-in-Goes
+returns-in_err-read-in-Goes c = λ profile piece d h.
     let r = record_of c.args.kind d c.args.payload.now in
     let t = c.after.ensures.order ∙ ap (left_after left) c.in-Goes.is in
-    let g = in_order piece r (left c.args.self.stage) (left c.in-Goes.stage) h.leads t in
-    takes_broken profile piece r c.from_residual.result c.in_err-placing-in-Goes.field-0.0
+    let g = in_order piece r (left c.args.self.now.stage) (left c.in-Goes.stage) h.leads t in
+    takes_broken IsSrefRead _ _ profile piece r c.from_residual.result c.in_err-read-in-Goes.field-0.0
     (IsPlacingFault c.args.kind c.args.payload.now) c.from_residual.ensures g
-    (placing_fault profile piece r (inl h.opened)) c.in_err-placing-in-Goes.ensures.refused
+    (placing_fault profile piece r (inl h.opened)) c.in_err-read-in-Goes.ensures.refused
 
 pub returns-in_err-reference-in-Ends : goal.returns-in_err-reference-in-Ends
 returns-in_err-reference-in-Ends c = λ profile piece d h.
     let r = record_of c.args.kind d c.args.payload.now in
     let t = c.after.ensures.order ∙ ap (left_after left) c.in-Ends.is in
     let last = subst (EndsBy xy c.args.kind) c.in-Ends.is c.after.ensures.last in
-    let g = in_order piece r (left c.args.self.stage) (one endel) h.leads t in
-    takes_broken profile piece r c.from_residual-in_err-reference-in-Ends.result c.in_err-reference-in-Ends.field-0.0
+    let g = in_order piece r (left c.args.self.now.stage) (one endel) h.leads t in
+    takes_broken IsSrefRead _ _ profile piece r c.from_residual-in_err-reference-in-Ends.result c.in_err-reference-in-Ends.field-0.0
     (λ k. (k ≡ Points) × (length (points c.args.payload.now) ≢ 1)) c.from_residual-in_err-reference-in-Ends.ensures
     g
     (λ k b. subst (ValueBreaches profile piece r) (sym b.0) (last, inr (inr (inr (inl h.opened, b.1)))))
