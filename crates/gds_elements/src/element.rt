@@ -5,7 +5,7 @@ ghost use Rattle.gds_elements.specs.Order.{opens};
 ghost use Rattle.gds_elements.specs.Rec.{Rec, an_end};
 ghost use Rattle.gds_elements.specs.Rules.{InOrder, ElementBreaches, BreachesOnly, BreachesNone};
 ghost use Rattle.gds_elements.specs.inside.Formed.{IsFormed};
-ghost use Rattle.gds_elements.specs.inside.Reading.{IsReading, IsStep, IsWhole, IsDrawn, HasRead, Takes, Steps, record_of};
+ghost use Rattle.gds_elements.specs.inside.Reading.{IsReading, IsStep, IsWhole, Draws, HasRead, Takes, Steps, record_of};
 ghost use Rattle.lvl_refusal.specs.Refused.{Says};
 
 use crate::aref::Aref;
@@ -84,10 +84,7 @@ impl Element {
     pub fn may_end(&self) -> bool
         ensures { (piece : List Rec) → IsReading self.now piece → IsTrue result ↔ InOrder piece an_end }
     {
-        match self.drawn {
-            Some(_) => true,
-            None => false,
-        }
+        self.drawn.is_some()
     }
 
     /// Takes the next record, unless it breaches a rule.
@@ -146,13 +143,10 @@ impl Element {
     }
 
     /// What the element draws, after [`Element::take`] has returned `Step::Whole`.
-    pub fn take_drawn(&mut self) -> Drawn
-        ensures { (piece : List Rec) → IsWhole self.old piece → IsDrawn result piece }
+    pub fn take_drawn(&mut self) -> Option<Drawn>
+        ensures { (piece : List Rec) → IsWhole self.old piece → Draws result piece }
     {
-        match self.drawn.take() {
-            Some(drawn) => drawn,
-            None => Drawn::Nothing,
-        }
+        self.drawn.take()
     }
 }
 

@@ -131,7 +131,10 @@ impl Builder {
             → shown self.new ≡ on_last (with_drawn (map in_rings (shapes_of piece)) (references_of piece))
             (shown self.old)) }
     {
-        self.add(element.take_drawn())
+        match element.take_drawn() {
+            Some(drawn) => self.add(drawn),
+            None => Ok(()),
+        }
     }
 
     // Adds what an element draws to the cell that is open.

@@ -118,7 +118,10 @@ fn read(alloc: Global, records: &str) -> Result<Answer, Fail> {
     for (n, record) in records.split(';').enumerate().skip(1) {
         match take(alloc, &mut element, record.trim())? {
             Ok(Step::Open) => {}
-            Ok(Step::Whole) => return Ok(Ok(element.take_drawn())),
+            Ok(Step::Whole) => {
+                let drawn = element.take_drawn().ok_or("what is drawn")?;
+                return Ok(Ok(drawn));
+            }
             Err(cause) => return Ok(Err((n, cause))),
         }
     }
