@@ -4,7 +4,9 @@ ghost use Rattle.std.specs.Prelude.{◌≡◌, ◌∷◌, ◌≢◌, [], false, 
 ghost use Rattle.std.specs.Prelude.{IfErr, IfSome, IfNone, OnOk, length, FitsSigned};
 ghost use Rattle.std.specs.Int.{w32};
 ghost use Rattle.std.specs.Int.RustNames.{int_div, int_rem};
-ghost use Rattle.gds_elements.specs.Types.{aref, colrow, xy};
+ghost use Rattle.gds_elements.specs.Types.{aref, colrow, xy, endel};
+ghost use Rattle.lvl_grammar.specs.Order.{one};
+ghost use Rattle.lvl_profile.specs.declared.profile.Profile.{Profile as PlainProfile};
 ghost use Rattle.gds_elements.specs.Values.{points, nth, IsNarrow};
 ghost use Rattle.gds_elements.specs.Rec.{Rec};
 ghost use Rattle.gds_elements.specs.Meaning.{array_shifts, step};
@@ -114,13 +116,25 @@ impl Aref {
                 self.stage = stage;
                 Ok(())
             }
-            Next::Ends => {
-                let reference = place_all(alloc, &mut self.placing, self.counts, payload)?;
-                *drawn = Some(Drawn::Reference(reference));
-                Ok(())
-            }
+            Next::Ends => self.draw(alloc, payload, drawn),
             Next::Nowhere => Err(out_of_order(kind)),
         }
+    }
+
+    // Takes the XY, which may come next.
+    fn draw(
+        &mut self,
+        alloc: Global,
+        payload: &[u8],
+        drawn: &mut Option<Drawn>,
+    ) -> Result<(), Cause<ElementFault>>
+        ensures { (profile : PlainProfile) (piece : List Rec) (kind d : ℕ) → IsArefRead self.old piece → kind ≡ xy
+            → after_first (left self.old.stage) kind ≡ one endel ∷ []
+            → Takes IsArefRead self.new drawn.new profile piece (record_of kind d payload.now) result }
+    {
+        let reference = place_all(alloc, &mut self.placing, self.counts, payload)?;
+        *drawn = Some(Drawn::Reference(reference));
+        Ok(())
     }
 }
 

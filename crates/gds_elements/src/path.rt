@@ -4,7 +4,8 @@ ghost use Rattle.std.specs.Prelude.{OnOk, length, if◌then◌else◌};
 ghost use Rattle.std.specs.Ordering.{int_eq};
 ghost use Rattle.lvl_path.specs.Repeats.{asked, without_repeats};
 ghost use Rattle.lvl_path.specs.Runs.{path_rings, IsPath};
-ghost use Rattle.gds_elements.specs.Types.{path, width, pathtype, xy};
+ghost use Rattle.gds_elements.specs.Types.{path, width, pathtype, xy, endel};
+ghost use Rattle.lvl_grammar.specs.Order.{one};
 ghost use Rattle.gds_elements.specs.Values.{short, long, points};
 ghost use Rattle.gds_elements.specs.Rec.{Rec};
 ghost use Rattle.gds_elements.specs.Meaning.{half};
@@ -119,14 +120,27 @@ impl Path {
                 self.stage = stage;
                 Ok(())
             }
-            Next::Ends => {
-                let ignored = profile.ignore.points;
-                let rings = bands_of(alloc, ignored, self.half, self.square, payload)?;
-                *drawn = Some(Drawn::Rings(self.layer, rings));
-                Ok(())
-            }
+            Next::Ends => self.draw(alloc, profile, payload, drawn),
             Next::Nowhere => Err(out_of_order(kind)),
         }
+    }
+
+    // Takes the XY, which may come next.
+    fn draw(
+        &self,
+        alloc: Global,
+        profile: Profile,
+        payload: &[u8],
+        drawn: &mut Option<Drawn>,
+    ) -> Result<(), Cause<ElementFault>>
+        ensures { (piece : List Rec) (kind d : ℕ) → IsPathRead self.now piece → kind ≡ xy
+            → after_first (left self.now.stage) kind ≡ one endel ∷ []
+            → Takes IsPathRead self.now drawn.new profile piece (record_of kind d payload.now) result }
+    {
+        let ignored = profile.ignore.points;
+        let rings = bands_of(alloc, ignored, self.half, self.square, payload)?;
+        *drawn = Some(Drawn::Rings(self.layer, rings));
+        Ok(())
     }
 }
 

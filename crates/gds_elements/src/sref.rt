@@ -1,7 +1,8 @@
 //! SREF SNAME [STRANS [MAG] [ANGLE]] XY ENDEL: a reference to a cell at one place.
 ghost use Rattle.std.specs.Prelude.{◌≡◌, ◌∷◌, ◌≢◌, [], false, List, ℕ, None, IfOk, IfErr, OnOk, length};
 ghost use Rattle.lvl_cells.specs.Cells.{PlainReference};
-ghost use Rattle.gds_elements.specs.Types.{sref, xy};
+ghost use Rattle.gds_elements.specs.Types.{sref, xy, endel};
+ghost use Rattle.lvl_grammar.specs.Order.{one};
 ghost use Rattle.gds_elements.specs.Values.{points, nth};
 ghost use Rattle.gds_elements.specs.Rec.{Rec};
 ghost use Rattle.lvl_names.specs.Shifts.{one_place};
@@ -99,13 +100,25 @@ impl Sref {
                 self.stage = stage;
                 Ok(())
             }
-            Next::Ends => {
-                let reference = place_once(alloc, &mut self.placing, payload)?;
-                *drawn = Some(Drawn::Reference(reference));
-                Ok(())
-            }
+            Next::Ends => self.draw(alloc, payload, drawn),
             Next::Nowhere => Err(out_of_order(kind)),
         }
+    }
+
+    // Takes the XY, which may come next.
+    fn draw(
+        &mut self,
+        alloc: Global,
+        payload: &[u8],
+        drawn: &mut Option<Drawn>,
+    ) -> Result<(), Cause<ElementFault>>
+        ensures { (profile : PlainProfile) (piece : List Rec) (kind d : ℕ) → IsSrefRead self.old piece → kind ≡ xy
+            → after_first (left self.old.stage) kind ≡ one endel ∷ []
+            → Takes IsSrefRead self.new drawn.new profile piece (record_of kind d payload.now) result }
+    {
+        let reference = place_once(alloc, &mut self.placing, payload)?;
+        *drawn = Some(Drawn::Reference(reference));
+        Ok(())
     }
 }
 

@@ -1,17 +1,15 @@
-use Rattle.std.proofs.Common.{◌≡◌, ◌∙◌, ap, inr, arith, subst}
-use Rattle.gds_elements.specs.Types.{xy, colrow, endel}
-use Rattle.lvl_grammar.specs.Order.{one}
-use Rattle.gds_elements.specs.Values.{points}
+use Rattle.std.proofs.Common.{◌≡◌, ◌∙◌, ap, inr, subst}
+use Rattle.gds_elements.specs.Types.{xy, colrow}
 use Rattle.gds_elements.specs.inside.Left.{left_after, EndsBy}
 use Rattle.gds_elements.specs.inside.Reading.{record_of}
-use Rattle.gds_elements.specs.inside.Aref.{left, IsArrayFault, IsArefRead}
+use Rattle.gds_elements.specs.inside.Aref.{left, IsArefRead}
 use Rattle.gds_elements.specs.declared.aref.Aref.{Aref}
 use Rattle.gds_elements.proofs.Taking.{none_drawn, takes_broken}
 use Rattle.gds_elements.specs.inside.Placing.{IsPlacingFault}
 use Rattle.gds_elements.specs.inside.Counts.{IsCountFault}
 use Rattle.gds_elements.proofs.Leads.{law_misplaced, leads_begins, in_order}
-use Rattle.gds_elements.proofs.Allowed.{allowed, placing_fault, count_fault, law_aref, placing_at_points}
-use Rattle.gds_elements.proofs.Arefs.{aref_goes, aref_ends, steps_of, array_fault}
+use Rattle.gds_elements.proofs.Allowed.{allowed, placing_fault, count_fault, law_aref}
+use Rattle.gds_elements.proofs.Arefs.{aref_goes}
 use Rattle.gds_elements.proofs.aref.Aref.take.Goals as goal
 
 pub returns-in_ok-self-in-Goes : goal.returns-in_ok-self-in-Goes
@@ -30,20 +28,6 @@ returns-in_ok-self-in-Goes c = λ piece d h.
       allowed c.args.profile piece r (leads_begins _ (left c.in-Goes.stage) b.leads)
           (law_aref c.args.profile piece r h.opened e.allowed c.in_ok-self-in-Goes.ensures.allowed
           (λ x. absurd (subst (EndsBy xy c.args.kind) c.in-Goes.is c.after.ensures.last x))),
-    )
-
-pub returns-in_ok-reference-in-Ends : goal.returns-in_ok-reference-in-Ends
-returns-in_ok-reference-in-Ends c = λ piece d h.
-    let r = record_of c.args.kind d c.args.payload.now in
-    let t = c.after.ensures.order ∙ ap (left_after left) c.in-Ends.is in
-    let x : c.args.kind ≡ xy = subst (EndsBy xy c.args.kind) c.in-Ends.is c.after.ensures.last in
-    let e = c.in_ok-reference-in-Ends.ensures in
-    let b = aref_ends c.args.self.now piece r c.in_ok-reference-in-Ends.reference h t x e.value in (
-      b,
-      allowed c.args.profile piece r (leads_begins _ (one endel) b.leads)
-          (law_aref c.args.profile piece r h.opened (placing_at_points c.args.kind c.args.payload.now x)
-          (λ y. absurd (omega (arith, x, y)))
-          (λ _. steps_of c.args.self.now piece (points c.args.payload.now) h e.allowed)),
     )
 
 pub returns-in-Nowhere : goal.returns-in-Nowhere
@@ -72,14 +56,7 @@ returns-in_err-self-in-Goes c = λ piece d h.
     g
     (count_fault c.args.profile piece r h.opened) c.in_err-self-in-Goes.ensures.refused
 
-pub returns-in_err-reference-in-Ends : goal.returns-in_err-reference-in-Ends
-returns-in_err-reference-in-Ends c = λ piece d h.
-    let r = record_of c.args.kind d c.args.payload.now in
-    let t = c.after.ensures.order ∙ ap (left_after left) c.in-Ends.is in
-    let last = subst (EndsBy xy c.args.kind) c.in-Ends.is c.after.ensures.last in
-    let g = in_order piece r (left c.args.self.now.stage) (one endel) h.leads t in
-    takes_broken IsArefRead _ _ c.args.profile piece r c.from_residual-in_err-reference-in-Ends.result
-    c.in_err-reference-in-Ends.field-0.0
-    (IsArrayFault (points c.args.payload.now) c.args.self.now.counts.columns c.args.self.now.counts.rows)
-    c.from_residual-in_err-reference-in-Ends.ensures g
-    (array_fault c.args.profile c.args.self.now piece r h last) c.in_err-reference-in-Ends.ensures.refused
+pub returns-in-Ends : goal.returns-in-Ends
+returns-in-Ends c = λ piece d h.
+    c.draw.ensures c.args.profile piece c.args.kind d h (subst (EndsBy xy c.args.kind) c.in-Ends.is c.after.ensures.last)
+    (c.after.ensures.order ∙ ap (left_after left) c.in-Ends.is)

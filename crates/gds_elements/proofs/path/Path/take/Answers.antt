@@ -1,20 +1,14 @@
-use Rattle.std.proofs.Common.{◌≡◌, ◌∙◌, ℕ, ap, subst, inl, inr, arith}
-use Rattle.lvl_path.specs.Repeats.{asked}
-use Rattle.lvl_path.specs.Runs.{IsPath}
-use Rattle.gds_elements.specs.Types.{xy, endel}
-use Rattle.lvl_grammar.specs.Order.{one}
-use Rattle.gds_elements.specs.Values.{points}
-use Rattle.gds_elements.specs.Meaning.{end_of}
+use Rattle.std.proofs.Common.{◌∙◌, ap, subst, inl, inr}
+use Rattle.gds_elements.specs.Types.{xy}
 use Rattle.gds_elements.specs.inside.Left.{left_after, EndsBy}
 use Rattle.gds_elements.specs.inside.Reading.{record_of}
 use Rattle.gds_elements.specs.declared.path.Path.{Path}
-use Rattle.gds_elements.specs.inside.Path.{left, IsBandsFault, IsPathRead}
+use Rattle.gds_elements.specs.inside.Path.{left, IsPathRead}
 use Rattle.gds_elements.specs.declared.fault.ElementRule.TheVariants.{Layer as LayerKind, PathType, Width}
 use Rattle.gds_elements.proofs.Leads.{law_misplaced, leads_begins, in_order}
 use Rattle.gds_elements.proofs.Allowed.{allowed, law_path}
-use Rattle.gds_elements.proofs.Taking.{none_drawn, takes_broken, takes_one}
-use Rattle.gds_elements.proofs.Paths.{path_goes, path_ends, some_of, width_read, half_is}
-use Rattle.gds_elements.proofs.Paths.{reach_is, bands_fault}
+use Rattle.gds_elements.proofs.Taking.{none_drawn, takes_one}
+use Rattle.gds_elements.proofs.Paths.{path_goes}
 use Rattle.gds_elements.proofs.path.Path.take.Goals as goal
 
 pub returns-in_ok-self-in-Goes-3 : goal.returns-in_ok-self-in-Goes-3
@@ -37,42 +31,6 @@ returns-in_ok-self-in-Goes-3 c = λ piece d h.
           c.in_ok-self-in-Goes-2.ensures.allowed
           c.in_ok-self-in-Goes-3.ensures.allowed
           (λ x. absurd (subst (EndsBy xy c.args.kind) c.in-Goes.is c.after.ensures.last x))),
-    )
-
-pub returns-in_err-rings-in-Ends : goal.returns-in_err-rings-in-Ends
-returns-in_err-rings-in-Ends c = λ piece d h.
-    let profile = c.args.profile in
-    let r = record_of c.args.kind d c.args.payload.now in
-    let t = c.after.ensures.order ∙ ap (left_after left) c.in-Ends.is in
-    let last = subst (EndsBy xy c.args.kind) c.in-Ends.is c.after.ensures.last in
-    let e = c.in_err-rings-in-Ends.field-0.0 in
-    takes_broken IsPathRead _ _ profile piece r c.from_residual-in_err-rings-in-Ends.result e
-    (IsBandsFault profile.ignore.points (points c.args.payload.now) c.args.self.now.half c.args.self.now.square)
-    c.from_residual-in_err-rings-in-Ends.ensures
-    (in_order piece r (left c.args.self.now.stage) (one endel) h.leads t)
-    (bands_fault profile c.args.self.now piece r h last) c.in_err-rings-in-Ends.ensures.refused
-
-pub returns-in_ok-rings-in-Ends : goal.returns-in_ok-rings-in-Ends
-returns-in_ok-rings-in-Ends c = λ piece d h.
-    let profile = c.args.profile in
-    let r = record_of c.args.kind d c.args.payload.now in
-    let qs = asked profile.ignore.points (points c.args.payload.now) in
-    let t = c.after.ensures.order ∙ ap (left_after left) c.in-Ends.is in
-    let x : c.args.kind ≡ xy = subst (EndsBy xy c.args.kind) c.in-Ends.is c.after.ensures.last in
-    let e = c.in_ok-rings-in-Ends.ensures in
-    let known = some_of c.args.self.now.half e.width in
-    let b = path_ends c.args.self.now piece r known.0 c.in_ok-rings-in-Ends.rings h t x known.1 (e.value known.0 known.1) in
-    let ok = e.allowed known.0 known.1 in
-    let ok' = subst (λ (n : ℕ). IsPath qs (record { half = known.0; start = n; end = n }))
-    (reach_is c.args.self.now piece known.0 h known.1) ok in
-    let ok'' = subst (λ (n : ℕ). IsPath qs (record { half = n; start = end_of piece; end = end_of piece }))
-    (half_is c.args.self.now piece known.0 h known.1) ok' in (
-      b,
-      allowed profile piece r (leads_begins _ (one endel) b.leads)
-          (law_path profile piece r h.opened (λ l. absurd
-          (elim l [ inl y ↦ omega (arith, y, x) | inr y ↦ omega (arith, y, x) ]))
-          (λ y. absurd (omega (arith, x, y))) (λ y. absurd (omega (arith, x, y)))
-          (λ _. (e.enough, width_read c.args.self.now piece h e.width, ok''))),
     )
 
 pub returns-in-Nowhere : goal.returns-in-Nowhere
@@ -112,3 +70,8 @@ returns-in_err-self-in-Goes-3 c = λ piece d h.
     let e = c.in_err-self-in-Goes-3.ensures.refused in
     takes_one IsPathRead _ _ profile piece r c.from_residual-in_err-self-in-Goes-3.result c.in_err-self-in-Goes-3.field-0.0 Width
     c.from_residual-in_err-self-in-Goes-3.ensures g e.0 (h.opened, inl (e.1, e.2))
+
+pub returns-in-Ends : goal.returns-in-Ends
+returns-in-Ends c = λ piece d h.
+    c.draw.ensures piece c.args.kind d h (subst (EndsBy xy c.args.kind) c.in-Ends.is c.after.ensures.last)
+    (c.after.ensures.order ∙ ap (left_after left) c.in-Ends.is)

@@ -1,18 +1,14 @@
-use Rattle.std.proofs.Common.{◌≡◌, ◌≢◌, ◌∙◌, length, sym, ap, subst, inl, inr}
-use Rattle.gds_elements.specs.Types.{xy, endel}
-use Rattle.lvl_grammar.specs.Order.{one}
+use Rattle.std.proofs.Common.{◌∙◌, ap, subst, inl}
+use Rattle.gds_elements.specs.Types.{xy}
 use Rattle.gds_elements.specs.inside.Left.{left_after, EndsBy}
 use Rattle.gds_elements.specs.inside.Reading.{record_of}
 use Rattle.gds_elements.specs.inside.Sref.{left, IsSrefRead}
 use Rattle.gds_elements.specs.declared.sref.Sref.{Sref}
-use Rattle.gds_elements.specs.declared.fault.ElementRule.TheVariants.{Points}
-use Rattle.gds_elements.specs.Rules.{ValueBreaches}
-use Rattle.gds_elements.specs.Values.{points}
 use Rattle.gds_elements.proofs.Taking.{none_drawn, takes_broken}
 use Rattle.gds_elements.specs.inside.Placing.{IsPlacingFault}
 use Rattle.gds_elements.proofs.Leads.{law_misplaced, leads_begins, in_order}
-use Rattle.gds_elements.proofs.Allowed.{allowed, placing_fault, law_sref, placing_at_points}
-use Rattle.gds_elements.proofs.Srefs.{sref_goes, sref_ends}
+use Rattle.gds_elements.proofs.Allowed.{allowed, placing_fault, law_sref}
+use Rattle.gds_elements.proofs.Srefs.{sref_goes}
 use Rattle.gds_elements.proofs.sref.Sref.take.Goals as goal
 
 pub returns-in_ok-read-in-Goes : goal.returns-in_ok-read-in-Goes
@@ -26,18 +22,6 @@ returns-in_ok-read-in-Goes c = λ profile piece d h.
       allowed profile piece r (leads_begins _ (left c.in-Goes.stage) b.leads)
           (law_sref profile piece r h.opened e.allowed
           (λ x. absurd (subst (EndsBy xy c.args.kind) c.in-Goes.is c.after.ensures.last x))),
-    )
-
-pub returns-in_ok-reference-in-Ends : goal.returns-in_ok-reference-in-Ends
-returns-in_ok-reference-in-Ends c = λ profile piece d h.
-    let r = record_of c.args.kind d c.args.payload.now in
-    let t = c.after.ensures.order ∙ ap (left_after left) c.in-Ends.is in
-    let x : c.args.kind ≡ xy = subst (EndsBy xy c.args.kind) c.in-Ends.is c.after.ensures.last in
-    let e = c.in_ok-reference-in-Ends.ensures in
-    let b = sref_ends c.args.self.now piece r c.in_ok-reference-in-Ends.reference h t x e.value in (
-      b,
-      allowed profile piece r (leads_begins _ (one endel) b.leads)
-          (law_sref profile piece r h.opened (placing_at_points c.args.kind c.args.payload.now x) (λ _. e.allowed)),
     )
 
 pub returns-in-Nowhere : goal.returns-in-Nowhere
@@ -55,14 +39,7 @@ returns-in_err-read-in-Goes c = λ profile piece d h.
     (IsPlacingFault c.args.kind c.args.payload.now) c.from_residual.ensures g
     (placing_fault profile piece r (inl h.opened)) c.in_err-read-in-Goes.ensures.refused
 
-pub returns-in_err-reference-in-Ends : goal.returns-in_err-reference-in-Ends
-returns-in_err-reference-in-Ends c = λ profile piece d h.
-    let r = record_of c.args.kind d c.args.payload.now in
-    let t = c.after.ensures.order ∙ ap (left_after left) c.in-Ends.is in
-    let last = subst (EndsBy xy c.args.kind) c.in-Ends.is c.after.ensures.last in
-    let g = in_order piece r (left c.args.self.now.stage) (one endel) h.leads t in
-    takes_broken IsSrefRead _ _ profile piece r c.from_residual-in_err-reference-in-Ends.result c.in_err-reference-in-Ends.field-0.0
-    (λ k. (k ≡ Points) × (length (points c.args.payload.now) ≢ 1)) c.from_residual-in_err-reference-in-Ends.ensures
-    g
-    (λ k b. subst (ValueBreaches profile piece r) (sym b.0) (last, inr (inr (inr (inl h.opened, b.1)))))
-    c.in_err-reference-in-Ends.ensures.refused
+pub returns-in-Ends : goal.returns-in-Ends
+returns-in-Ends c = λ profile piece d h.
+    c.draw.ensures profile piece c.args.kind d h (subst (EndsBy xy c.args.kind) c.in-Ends.is c.after.ensures.last)
+    (c.after.ensures.order ∙ ap (left_after left) c.in-Ends.is)
