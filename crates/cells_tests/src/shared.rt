@@ -237,6 +237,33 @@ fn memory_of_moved_rings(rt: HostRuntime) -> Result<(), Fail> {
     Ok(())
 }
 
+/// The rectangles of a path of a thousand bands.
+fn bands(alloc: Global) -> Result<Vec<Ring>, Fail> {
+    let mut rings = Vec::new(alloc);
+    for y in 0..1000 {
+        let (low, high) = (Point { x: y, y }, Point { x: 2000, y: y.saturating_add(1) });
+        rings.push(Ring::rectangle(alloc, low, high)?)?;
+    }
+    Ok(rings)
+}
+
+/// A hundred paths of these bands.
+fn repeated(alloc: Global, rings: &[Ring]) -> Result<Shapes, AllocError> {
+    let mut shapes = Shapes::new(alloc);
+    for _ in 0..100 {
+        add_rings(&mut shapes, rings)?;
+    }
+    Ok(shapes)
+}
+
+#[test]
+fn memory_of_repeated_paths(rt: HostRuntime) -> Result<(), Fail> {
+    let rings = bands(rt.alloc())?;
+    let shapes = repeated(rt.alloc(), &rings)?;
+    assert!(rt; has_rings(&shapes, 99, 1000));
+    Ok(())
+}
+
 /// The corners of the rectangle of this number: its place is another than that of any other, and its size is
 /// one of a hundred.
 fn numbered(number: i64) -> (Point, Point) {

@@ -6,7 +6,7 @@ use lvl_io::{Counted, Read};
 use lvl_profile::{Ignore, Profile};
 use lvl_units::GridStep;
 use oasis_blocks::{Unpacker, read_packed};
-use oasis_figures::{Drawn, Modal};
+use oasis_figures::{DrawnRecord, Modal};
 use oasis_library::read_oasis;
 use oasis_records::{Record, RecordType, read_fields, read_id};
 use oasis_stream::{Order, read_first, read_next};
@@ -63,7 +63,7 @@ fn figures(rt: HostRuntime) -> Result<(), Fail> {
     let record = rectangle(alloc)?;
     let mut modal = Modal::new();
     let drawn = modal.take(alloc, Ignore::NOTHING, record)?;
-    assert!(rt; matches!(drawn, Some(Drawn::Ring(_, _))));
+    assert!(rt; matches!(drawn, Some(DrawnRecord::Ring(_, _))));
     Ok(())
 }
 

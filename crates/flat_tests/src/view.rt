@@ -1,7 +1,7 @@
 //! Layers mapped and windows shown: flat layouts compared as a view says.
 use crate::rows::{cut, rows_give};
 use lvl_cells::{Cell, References, Shapes};
-use lvl_compare::{difference_with, first_difference_in};
+use lvl_compare::{difference_with, first_difference_within};
 use lvl_flat::{Flat, flatten_shapes};
 use lvl_grid::{Point, Ring, Square, Window};
 use lvl_names::{Layer, Name, Offsets};
@@ -127,7 +127,7 @@ pub fn found_between(
     second: &Flat,
     window: Option<&Window>,
 ) -> Result<Found, Fail> {
-    Ok(numbered(first_difference_in(alloc, first, second, window)?))
+    Ok(numbered(first_difference_within(alloc, first, second, window)?))
 }
 
 /// What differs first in the window of the layouts of these boxes.
@@ -313,7 +313,7 @@ fn found_beside(
     view: &View,
 ) -> Result<Option<(Layer, Square, Side)>, Fail> {
     let first = flat_of(alloc, &[placed(4, 0, 0, 1, 1), placed(3, 2, 2, 3, 3)])?;
-    first_difference_in(alloc, &first, second, view.window()).map_err(Fail::from)
+    first_difference_within(alloc, &first, second, view.window()).map_err(Fail::from)
 }
 
 /// Two rings are on the Layer to which two others are mapped, and one of them differs first.

@@ -2,7 +2,7 @@
 use crate::holds::{finds, rows_hold};
 use crate::outlines::{Found, Sides, at, push_outline, push_rectangle, rectangles};
 use crate::pairs::row_differs_at;
-use lvl_columns::{Comparison, compare_by_columns};
+use lvl_columns::{ColumnComparison, compare_by_columns};
 use lvl_grid::Rings;
 use lvl_region::Side;
 use std::alloc::{AllocError, Global};
@@ -111,7 +111,7 @@ fn stair_in_two(alloc: Global, has_square: bool) -> Result<Rings, AllocError> {
 }
 
 /// What comparing the bars in one piece each with those in two gives.
-fn stairs_compared(alloc: Global, has_square: bool) -> Result<Comparison, AllocError> {
+fn stairs_compared(alloc: Global, has_square: bool) -> Result<ColumnComparison, AllocError> {
     let first = stair(alloc, 2000, 1)?;
     compare_by_columns(alloc, &first, &stair_in_two(alloc, has_square)?)
 }
@@ -148,7 +148,7 @@ fn ladder_downwards(alloc: Global, has_more: bool) -> Result<Rings, AllocError> 
 }
 
 /// What comparing them upwards and downwards gives, where the latter may have one more above.
-fn ladders_compared(alloc: Global, has_more: bool) -> Result<Comparison, AllocError> {
+fn ladders_compared(alloc: Global, has_more: bool) -> Result<ColumnComparison, AllocError> {
     let first = ladder(alloc, 3000, true)?;
     compare_by_columns(alloc, &first, &ladder_downwards(alloc, has_more)?)
 }

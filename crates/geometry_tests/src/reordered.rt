@@ -1,7 +1,7 @@
 //! Lists that have the same rings in another order, and some more.
 use crate::holds::finds;
 use crate::outlines::{Found, at, push_rectangle, rectangle, ring};
-use lvl_columns::{Comparison, compare_by_columns};
+use lvl_columns::{ColumnComparison, compare_by_columns};
 use lvl_grid::{Ring, Rings};
 use lvl_region::Side;
 use std::alloc::Global;
@@ -56,7 +56,7 @@ fn listed_and_square(alloc: Global, is_reversed: bool, x: i64) -> Result<Rings, 
 
 /// What comparing the rings in order with those in reverse gives, where both lists have one more
 /// square: the first has it at (-9, 5), and the second at this abscissa.
-fn compared(alloc: Global, x: i64) -> Result<Comparison, Fail> {
+fn compared(alloc: Global, x: i64) -> Result<ColumnComparison, Fail> {
     let first = listed_and_square(alloc, false, -9)?;
     let second = listed_and_square(alloc, true, x)?;
     Ok(compare_by_columns(alloc, &first, &second)?)

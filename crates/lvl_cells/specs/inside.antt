@@ -1,5 +1,4 @@
 pub mod Spans
-pub mod Rows
 pub mod Targets
 pub mod Steps
 pub mod Settling

@@ -94,7 +94,7 @@ impl<'a> MovedRing<'a> {
     pub fn len(&self) -> usize
         ensures { result ≡ length self.now }
     {
-        self.outline.kept().as_slice().len()
+        self.outline.len()
     }
 
     /// The point at this index, moved, or None if there is none.

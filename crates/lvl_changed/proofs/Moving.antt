@@ -25,7 +25,7 @@ moved_more pairs a b s q more l m = record {
   covers = more m.source m.covers;
 }
 
--- the same of what the Layer is mapped to
+-- what covers a part of all sources of a Layer does so on the Layer
 pub moved_on : (pairs : List LayerPair) (a b : Draws) (s q : Square) (l : Layer)
     → ((k : Layer) → target_of pairs k ≡ l → a k s → b k q) → IsMoved pairs a l s → IsMoved pairs b l q
 moved_on pairs a b s q l more m = record {

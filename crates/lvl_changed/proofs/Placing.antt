@@ -101,7 +101,7 @@ placement_none pairs ours theirs k f m all none found has l s out u =
     subst (λ o. PartnerCovers pairs theirs o l u.0) none
     ((found l u.0 (inner_out m f.area all l s u.0 has u.1 out)).0 u.2)
 
--- the same at all places of a reference
+-- partners cover the same outside of the area at all places of a reference
 places_alike : (pairs : List LayerPair) (ours theirs : List (PlainCell Rings)) (k n : ℕ) (f : Found)
     (r : PlainReference) (all : Area) → f.partner ≡ Some n → IsFound pairs ours theirs k f
     → ((e : Point) → Contains r.shifts e → HasImages (map_at r e) f.area all)

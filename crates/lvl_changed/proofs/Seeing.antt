@@ -123,7 +123,7 @@ seen_apart a b v ws (Some at) out differ = record {
       (λ any has. differ.least_square s (seen, has) before);
 }
 
--- and the same on the listed Layers
+-- what is found on the listed Layers of the windows is what is found among all squares that are compared
 pub listed_same : (a b : Draws) (v : Option Window) (layers : List Layer) (ws : List Window)
     (found : Option Difference) → SameBut (Contains layers) ws a b
     → IfNone found (DrawSameOn layers (IsSeenIn v ws) a b) → IfNone found (DrawSame (IsShown v) a b)

@@ -146,7 +146,7 @@ sums_lines m outer inner a p b c q d some more one is = record {
       );
 }
 
--- the same sums with the steps in the other order
+-- the steps of a lattice may be exchanged
 pub sums_swapped : (m : Map) (outer inner : List Point) (a : Point) (p : ℕ) (c : Point) (q : ℕ) → 0 < p → 0 < q
     → AreSums m outer inner (lattice a p c q) → AreSums m outer inner (lattice c q a p)
 sums_swapped m outer inner a p c q some more s = record {

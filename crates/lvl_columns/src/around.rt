@@ -6,7 +6,7 @@ ghost use Rattle.lvl_grid.specs.Winding.{SomeCovers};
 ghost use Rattle.lvl_columns.specs.Columns.{IsFirst};
 ghost use Rattle.lvl_columns.specs.Left.{AgreeOutside, AreWithin};
 
-use crate::columns::{Comparison, least_difference};
+use crate::columns::{ColumnComparison, least_difference};
 use crate::left::left_over;
 use lvl_grid::{Part, Point, Rings, Window};
 use std::alloc::{AllocError, Global};
@@ -80,7 +80,7 @@ pub(crate) fn window_around(
 pub struct Left {
     /// The least difference of what is left. If there is none, the lists cover the same squares, else it
     /// says nothing of them: a common ring may cover what differs.
-    pub compared: Comparison,
+    pub compared: ColumnComparison,
     /// A window outside of which the lists cover the same squares, if a small one is known.
     pub around: Option<Window>,
 }
@@ -114,7 +114,7 @@ pub(crate) fn difference_around(
     second: &Rings,
     window: Option<Window>,
     most: u64,
-) -> Result<Comparison, AllocError>
+) -> Result<ColumnComparison, AllocError>
     requires { IfSome window (AgreeOutside first.now second.now) }
     ensures found { IfOk result (λ it. IsFirst (first.now, second.now) it.found) }
     ensures columns { IfOk result (λ it. it.columns ≤ most) }

@@ -42,7 +42,7 @@ pub struct Progress {
 
 /// What a comparison by columns found, and how many columns it made.
 #[derive(Clone, Copy, Debug)]
-pub struct Comparison {
+pub struct ColumnComparison {
     /// The least square, by `y` and then `x`, that the rings of only one list cover, with its side,
     /// or None if both lists cover the same squares.
     pub found: Option<(Square, Side)>,
@@ -235,7 +235,7 @@ fn in_parts(
     second: &Rings,
     at: i64,
     most: u64,
-) -> Result<Comparison, AllocError>
+) -> Result<ColumnComparison, AllocError>
     requires { 2 ≤ most }
     ensures found { IfOk result (λ it. IsFirst (first.now, second.now) it.found) }
     ensures columns { IfOk result (λ it. it.columns ≤ most) }
@@ -248,7 +248,7 @@ fn in_parts(
     };
     progress.part(alloc, first, second, &Part::Left(at))?;
     progress.part(alloc, first, second, &Part::Right(at))?;
-    Ok(Comparison {
+    Ok(ColumnComparison {
         found: progress.best,
         columns: progress.columns,
     })
@@ -269,7 +269,7 @@ pub(crate) fn least_difference(
     first: &Rings,
     second: &Rings,
     most: u64,
-) -> Result<Comparison, AllocError>
+) -> Result<ColumnComparison, AllocError>
     ensures found { IfOk result (λ it. IsFirst (first.now, second.now) it.found) }
     ensures columns { IfOk result (λ it. it.columns ≤ most) }
 {
@@ -279,7 +279,7 @@ pub(crate) fn least_difference(
         }
     }
     let found = uncut(alloc, first, second)?;
-    Ok(Comparison { found, columns: 0 })
+    Ok(ColumnComparison { found, columns: 0 })
 }
 
 /// The least square, by `y` and then `x`, that the rings of only one list cover, with its side, or
@@ -292,7 +292,7 @@ pub fn compare_by_columns(
     alloc: Global,
     first: &Rings,
     second: &Rings,
-) -> Result<Comparison, AllocError>
+) -> Result<ColumnComparison, AllocError>
     ensures same { IfOk result
         (λ it. IfNone it.found ((s : GridSquare) → SomeCovers first.now s ↔ SomeCovers second.now s)) }
     ensures differ { IfOk result
@@ -303,7 +303,7 @@ pub fn compare_by_columns(
     ensures columns { IfOk result (λ it. it.columns ≤ 2 * length (corners_of first.now second.now)) }
 {
     if first.is_same(second) {
-        return Ok(Comparison {
+        return Ok(ColumnComparison {
             found: None,
             columns: 0,
         });
@@ -318,7 +318,7 @@ pub fn compare_by_columns(
     }
     let rest = most - compared.columns;
     let whole = difference_around(alloc, first, second, left.around, rest)?;
-    Ok(Comparison {
+    Ok(ColumnComparison {
         found: whole.found,
         columns: compared.columns + whole.columns,
     })

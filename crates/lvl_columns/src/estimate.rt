@@ -56,12 +56,12 @@ impl Load {
     /// The load after the spanning pieces are joined and what is within them is dropped.
     fn joined(self, height: u128, columns: u128) -> Load {
         let room = height.saturating_mul(columns);
-        let layers = Layers::of(self.spanned, room);
-        let left = layers.joined(self.spanning).saturating_mul(2);
+        let overlap = Overlap::of(self.spanned, room);
+        let left = overlap.joined(self.spanning).saturating_mul(2);
         let heights = self.spanned.min(room).saturating_mul(2);
         Load {
-            edges: layers.uncovered(self.edges).saturating_add(left),
-            heights: layers.uncovered(self.heights).saturating_add(heights),
+            edges: overlap.uncovered(self.edges).saturating_add(left),
+            heights: overlap.uncovered(self.heights).saturating_add(heights),
             ..self
         }
     }
@@ -70,16 +70,16 @@ impl Load {
 /// How many spanning pieces overlap each other in a row, on average, in sixteenths. If they begin
 /// at random, about `e` to the power of that number are joined to one.
 #[derive(Clone, Copy)]
-struct Layers(u128);
+struct Overlap(u128);
 
-impl Layers {
+impl Overlap {
     const MOST: u128 = 1 << 20;
 
     /// The overlap of pieces with the sum of heights `spanned` in columns with the sum of heights
     /// `room`.
-    fn of(spanned: u128, room: u128) -> Layers {
-        let layers = spanned.saturating_mul(16).checked_div(room).unwrap_or(0);
-        Layers(layers.min(Layers::MOST))
+    fn of(spanned: u128, room: u128) -> Overlap {
+        let overlap = spanned.saturating_mul(16).checked_div(room).unwrap_or(0);
+        Overlap(overlap.min(Overlap::MOST))
     }
 
     /// The square, the third and the fourth power, in units of 256, of 4,096 and of 65,536.

@@ -20,7 +20,7 @@
 //! ```
 #![tactic(auto)]
 
-pub use columns::{Comparison, compare_by_columns, difference_by_columns};
+pub use columns::{ColumnComparison, compare_by_columns, difference_by_columns};
 pub use cut::cut_at;
 pub use window::{difference_in, first_difference_in};
 

@@ -128,7 +128,7 @@ span_found a b Seen xs from end span (Some at) rising some within is has up_to b
   least_square = λ q seen less. h.least at.0 q (h.shown.0, seen) (inr (refl, less));
 }
 
--- the same of a list whose Layers the other one has
+-- nothing is found on Layers that another list has, if nothing is found on those of that list
 pub listed_same : (a b : Draws) (Seen : Square → Type 0) (xs ys : List Layer) (found : Option Difference)
     → All (Contains ys) xs → IsFoundOn ys Seen a b found → IfNone found (DrawSameOn xs Seen a b)
 listed_same a b Seen xs ys None has h = λ l q there seen. h l q (All-contains (Contains ys) xs l has there) seen

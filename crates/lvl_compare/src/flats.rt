@@ -24,13 +24,13 @@ pub fn first_difference(
     ensures differ { IfOk result
         (λ found. IfSome found (λ at. IsFirstApart first.now second.now at.0 at.1 at.2)) }
 {
-    first_difference_in(alloc, first, second, None)
+    first_difference_within(alloc, first, second, None)
 }
 
 /// The first difference in a window: the first Layer, and on it the first square of the window,
 /// that only one of the two covers, with its side. None if both cover the same squares of the
 /// window on every Layer. Without a window, all squares are compared. Fails only if out of memory.
-pub fn first_difference_in(
+pub fn first_difference_within(
     alloc: Global,
     first: &Flat,
     second: &Flat,

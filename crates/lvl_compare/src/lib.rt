@@ -1,7 +1,7 @@
 //! Comparison of two layouts: of flat ones Layer by Layer, and of libraries strip by strip.
 //!
 //! [`first_difference`] finds the first square that only one of two flat layouts covers, and
-//! [`first_difference_in`] the first in a window. [`difference_by_strips`] finds the first that
+//! [`first_difference_within`] the first in a window. [`difference_by_strips`] finds the first that
 //! only one of two libraries draws, without flattening them as a whole,
 //! [`difference_in_windows`] the first in some windows, and [`difference_on_layers`] the first
 //! there on some Layers.
@@ -22,7 +22,7 @@
 //! ```
 #![tactic(auto)]
 
-pub use flats::{first_difference, first_difference_in, lesser, past};
+pub use flats::{first_difference, first_difference_within, lesser, past};
 pub use listed::difference_on_layers;
 pub use pair::Pair;
 pub use regions::difference_with;

@@ -27,7 +27,7 @@ pub(crate) type Difference = (Layer, Square, Side);
 /// How far a search is: the first difference that is known, the pace of what is still to be searched,
 /// and how many windows were looked at.
 #[derive(Clone, Copy)]
-pub(crate) struct Progress {
+pub(crate) struct Search {
     pub found: Option<Difference>,
     pub pace: Pace,
     pub windows: u64,
@@ -68,7 +68,7 @@ pub(crate) fn shared(first: Window, second: Option<&Window>) -> Window
 
 /// The first difference of two layouts on the Layers of a group within a window. If one of them has
 /// more than `most` points there, that is reported as out of memory.
-fn difference_of(
+fn drawn_difference(
     alloc: Global,
     pair: &Pair<'_>,
     group: &Group,
@@ -148,11 +148,11 @@ fn difference_after(
         (on group.now.span (IsInWindow window.now)) found) }
 {
     let Some(known) = found else {
-        return difference_of(alloc, pair, group, lists, window, most);
+        return drawn_difference(alloc, pair, group, lists, window, most);
     };
     let lesser = group.part(alloc, pair, group.span.up_to(known.0))?;
     let rows = rows_before(alloc, pair.view, &lesser, window, &known);
-    let next = difference_of(alloc, pair, &lesser, lists, &rows, most)?;
+    let next = drawn_difference(alloc, pair, &lesser, lists, &rows, most)?;
     Ok(least(found, next))
 }
 
@@ -234,9 +234,9 @@ fn whole(
     group: &Group,
     lists: &Lists,
     window: &Window,
-    before: Progress,
+    before: Search,
     most: usize,
-) -> Result<Progress, AllocError>
+) -> Result<Search, AllocError>
     requires listed { AreListed pair.now group.now }
     requires lists { AreBoth pair.now window.now lists.now }
     ensures found { IfOk result (λ after. IsImproved (ours pair.now) (theirs pair.now)
@@ -246,7 +246,7 @@ fn whole(
 {
     let known = before.found;
     let found = difference_after(alloc, pair, group, lists, window, known, most)?;
-    Ok(Progress {
+    Ok(Search {
         found,
         pace: before.pace,
         windows: before.windows.saturating_add(1),
@@ -261,8 +261,8 @@ fn uncut(
     group: &Group,
     lists: &Lists,
     window: &Window,
-    before: Progress,
-) -> Result<Progress, AllocError>
+    before: Search,
+) -> Result<Search, AllocError>
     requires listed { AreListed pair.now group.now }
     requires lists { AreBoth pair.now window.now lists.now }
     ensures found { IfOk result (λ after. IsImproved (ours pair.now) (theirs pair.now)
@@ -293,8 +293,8 @@ pub(crate) fn difference_within(
     wider: &Lists,
     window: &Window,
     expected: u64,
-    before: Progress,
-) -> Result<Progress, AllocError>
+    before: Search,
+) -> Result<Search, AllocError>
     requires listed { AreListed pair.now group.now }
     requires lists { AreBoth pair.now window.now wider.now }
     ensures found { IfOk result (λ after. IsImproved (ours pair.now) (theirs pair.now)
@@ -321,7 +321,7 @@ pub(crate) fn difference_within(
     let (Some(pace), Some((low, high))) = (before.pace.next(), halves(window, across)) else {
         return uncut(alloc, pair, group, lists, window, before);
     };
-    let begun = Progress {
+    let begun = Search {
         found: before.found,
         pace,
         windows: before.windows.saturating_add(1),

@@ -13,7 +13,7 @@ use crate::groups::{Group, Span};
 use crate::lists::Lists;
 use crate::pace::Pace;
 use crate::pair::Pair;
-use crate::strips::{Difference, Progress, difference_within, shared};
+use crate::strips::{Difference, Search, difference_within, shared};
 use lvl_flat::Fitted;
 use lvl_grid::{Square, Window};
 use lvl_names::Layer;
@@ -38,7 +38,7 @@ pub(crate) fn difference_in_group(
     let mut found = None;
     for window in windows {
         let part = shared(*window, pair.view.window());
-        let start = Progress {
+        let start = Search {
             found,
             pace: Pace::new(most),
             windows: 0,

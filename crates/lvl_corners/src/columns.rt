@@ -20,18 +20,18 @@ use std::alloc::{AllocError, Global};
 
 /// The number of columns that were made, and the greatest number that may be.
 #[derive(Clone, Copy)]
-pub struct Budget {
+pub struct ColumnBudget {
     pub made: u64,
     pub most: u64,
 }
 
-impl Budget {
+impl ColumnBudget {
     /// A budget of two columns for each point of the rings.
-    fn of(rings: &Rings) -> Budget
+    fn of(rings: &Rings) -> ColumnBudget
         ensures none { result.made ≡ 0 }
         ensures most { result.most ≤ 2 * length (flat_map (λ ring. ring) rings.now) }
     {
-        Budget {
+        ColumnBudget {
             made: 0,
             most: (rings.points().len() as u64).saturating_mul(2),
         }
@@ -56,7 +56,7 @@ fn cut_of(
     rings: &Rings,
     span: &Span,
     depth: u32,
-    budget: &mut Budget,
+    budget: &mut ColumnBudget,
 ) -> Result<Option<i64>, AllocError>
     requires { budget.old.made ≤ budget.old.most }
     ensures within { IfOk result (λ cut. IfSome cut (λ at. spanned span.now at ≡ true)) }
@@ -114,7 +114,7 @@ fn send_column<S: CornerSink>(
     rings: Rings,
     span: Span,
     depth: u32,
-    budget: &mut Budget,
+    budget: &mut ColumnBudget,
     sink: &mut S,
 ) -> Result<(), AllocError>
     requires { budget.old.made ≤ budget.old.most }
@@ -143,7 +143,7 @@ fn send_part<S: CornerSink>(
     rings: &Rings,
     part: &Part,
     span: Span,
-    budget: &mut Budget,
+    budget: &mut ColumnBudget,
     sink: &mut S,
 ) -> Result<(), AllocError>
     requires { budget.old.made ≤ budget.old.most }
@@ -173,7 +173,7 @@ fn send_within<S: CornerSink>(
     alloc: Global,
     rings: &Rings,
     span: Span,
-    budget: &mut Budget,
+    budget: &mut ColumnBudget,
     sink: &mut S,
 ) -> Result<(), AllocError>
     requires { budget.old.made ≤ budget.old.most }
@@ -214,7 +214,7 @@ pub fn send_corners_in<S: CornerSink>(
         × AreCornersIn (SomeCovers rings.now) span corners) }
     ensures columns { IfOk result (λ columns. columns ≤ 2 * length (flat_map (λ ring. ring) rings.now)) }
 {
-    let mut budget = Budget::of(rings);
+    let mut budget = ColumnBudget::of(rings);
     send_within(alloc, rings, span, &mut budget, sink)?;
     Ok(budget.made)
 }

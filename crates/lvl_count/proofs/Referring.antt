@@ -77,7 +77,7 @@ any_more p xs i x b u there so_far is =
     ∙ ap (λ y. list_any p (take i xs) || p y) (sym (get_or_from_slice_get xs i x x there))
     ∙ sym (list_any_more p xs i x (slice_get_within xs i x there))
 
--- the same beside what was there before
+-- one more item, beside what was known before the list
 pub or_any_more : {X : Type 0} (p : X → Bool) (xs : List X) (i : ℕ) (x : X) (a b u : Bool) → slice_get xs i ≡ Some x
     → b ≡ (a || list_any p (take i xs)) → u ≡ (b || p x) → u ≡ (a || list_any p (take (i + 1) xs))
 or_any_more p xs i x a b u there so_far is =
@@ -89,7 +89,7 @@ or_twice true d = refl
 or_twice false true = refl
 or_twice false false = refl
 
--- the same if the next item is like the one before it, of which something is already known
+-- one more item that is like the one before it changes nothing
 pub or_any_repeated : {X : Type 0} (p : X → Bool) (xs : List X) (i k : ℕ) (x y : X) (a b : Bool) → k + 1 ≡ i
     → slice_get xs k ≡ Some x → slice_get xs i ≡ Some y → p y ≡ p x → b ≡ (a || list_any p (take i xs))
     → b ≡ (a || list_any p (take (i + 1) xs))

@@ -8,3 +8,4 @@ pub mod Entering
 pub mod Passing
 pub mod Listed
 pub mod Parts
+pub mod Kept

@@ -37,14 +37,13 @@ pub struct Fitted {
 
 impl Model for Fitted {
     ghost use Rattle.lvl_cells.specs.Checks.{Settled};
-    ghost use Rattle.lvl_flat.specs.Boxes.{AreBoxes};
-    ghost use Rattle.lvl_flat.specs.Flattened.{IsTopInRange};
+    ghost use Rattle.lvl_flat.specs.inside.Kept.{IsFitted};
 
     ghost Value = { Settled };
 
     ghost view = { λ f. f.checked };
 
-    ghost invariant = { λ f. AreBoxes f.checked.cells f.boxes × IsTopInRange f.checked };
+    ghost invariant = { λ f. IsFitted f.checked f.boxes };
 }
 
 impl Fitted {

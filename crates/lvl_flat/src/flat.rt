@@ -34,14 +34,13 @@ pub struct Flat {
 impl Model for Flat {
     ghost use Rattle.std.specs.Prelude.{List};
     ghost use Rattle.lvl_flat.specs.Sheet.{PlainSheet};
-    ghost use Rattle.lvl_flat.specs.Sheets.{IsInOrder};
-    ghost use Rattle.std.specs.Prelude.{◌≡◌, []};
+    ghost use Rattle.lvl_flat.specs.inside.Kept.{IsFlat};
 
     ghost Value = { List PlainSheet };
 
     ghost view = { λ f. f.sheets.items };
 
-    ghost invariant = { λ f. IsInOrder f.sheets.items × (f.none ≡ []) };
+    ghost invariant = { λ f. IsFlat f.sheets.items f.none };
 }
 
 impl Flat {

@@ -43,7 +43,7 @@ pub said_from_start : (text : List ℕ) (old : Option (List ℕ)) (before : ℕ)
     → IsSaid text old b.contents before b.errors
 said_from_start text old before b says = all_said text old before b (says [] old before (silent_so_far old before))
 
--- the same text in another form
+-- a text that is equal is said as well
 pub says_same : (text more : List ℕ) (a b : Speaking) → text ≡ more → Says more a b → Says text a b
 says_same text more a b is says = subst (λ l. Says l a b) (sym is) says
 

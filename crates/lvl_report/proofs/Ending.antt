@@ -36,7 +36,7 @@ refused_end profile answer refusal hint line is hinted said =
       line_is = subst (λ a. IsLineOf a (option_map (λ text. text.items) line)) is said;
     })
 
--- the same of a run on one file
+-- how a run on one file ends, by its answer
 
 pub shown_end : {X : Type 0} (profile : Profile) (answer : Result X Refusal) (x : X) (line : Option (Vec ℕ Global))
     → answer ≡ Ok x → IsLineOfOne answer (option_map (λ text. text.items) line)

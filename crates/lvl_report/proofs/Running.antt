@@ -43,7 +43,7 @@ was_begun Allowed text old new answer (Err fault) allowed begun = record {
   begun = begun;
 }
 
--- the same for a text that is known in another form
+-- what a run wrote, if its text is known in another form
 pub other_was_written : {X T : Type 0} (Allowed : X → Type 0) (text : X → List ℕ) (Ends : X → T → Type 0)
     (old new : Option (List ℕ)) (answer : X) (r : Result T RunFault) (said : List ℕ) → said ≡ text answer
     → Allowed answer → OnOk r (Appends old new said) → IfOk r (Ends answer)

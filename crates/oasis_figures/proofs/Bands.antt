@@ -22,7 +22,7 @@ use Rattle.oasis_figures.specs.Figures.{IsDrawn}
 use Rattle.oasis_figures.specs.Keeping.{StandsFor}
 use Rattle.oasis_figures.specs.Modal.{modal, path_set, start_set, end_set, geometry}
 use Rattle.oasis_figures.specs.Rules.{Breaks, Breaches, BreachesNone, is_negative, order}
-use Rattle.oasis_figures.specs.declared.drawn.Drawn.TheVariants.{Rings}
+use Rattle.oasis_figures.specs.declared.drawn.DrawnRecord.TheVariants.{Rings}
 use Rattle.oasis_figures.specs.declared.extension.Extent.{Extent}
 use Rattle.oasis_figures.specs.declared.extension.Extent.TheVariants.{Beyond, Negative}
 use Rattle.oasis_figures.specs.declared.modal.Modal.{Modal}
@@ -42,7 +42,7 @@ pub record IsRead (earlier : List Record) (p : Path) (v : Resolved) (vertices : 
   pub values : IsResolved earlier p v
   pub points : vertices ≡ path_points (a_path p ∷ earlier)
 
--- the same after all records with which the variables agree
+-- the values are known after all records with which the variables agree
 abbrev pub IsReadAfter : Modal → Path → Resolved → List Point → Type 0
 IsReadAfter m p v vertices = (earlier : List Record) → StandsFor m earlier → IsRead earlier p v vertices
 

@@ -17,7 +17,7 @@ use Rattle.oasis_figures.specs.Figures.{polygon_ring, layer_of, shifts_of, IsDra
 use Rattle.oasis_figures.specs.Keeping.{StandsFor}
 use Rattle.oasis_figures.specs.Modal.{modal, polygon_set, geometry}
 use Rattle.oasis_figures.specs.Rules.{Breaks, Breaches, BreachesNone, order}
-use Rattle.oasis_figures.specs.declared.drawn.Drawn.TheVariants.{Ring}
+use Rattle.oasis_figures.specs.declared.drawn.DrawnRecord.TheVariants.{Ring}
 use Rattle.oasis_figures.specs.declared.modal.Modal.{Modal}
 use Rattle.oasis_figures.specs.declared.polygon.Resolved.{Resolved}
 use Rattle.oasis_figures.specs.declared.rule.FigureRule.{FigureRule}
@@ -33,7 +33,7 @@ pub record IsRead (earlier : List Record) (p : Polygon) (v : Resolved) (vertices
   pub values : IsResolved earlier p v
   pub points : vertices ≡ polygon_ring (a_polygon p ∷ earlier)
 
--- the same after all records with which the variables agree
+-- the values are known after all records with which the variables agree
 abbrev pub IsReadAfter : Modal → Polygon → Resolved → List Point → Type 0
 IsReadAfter m p v vertices = (earlier : List Record) → StandsFor m earlier → IsRead earlier p v vertices
 

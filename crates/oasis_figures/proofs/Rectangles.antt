@@ -55,7 +55,7 @@ height_after m earlier r w z s e q =
     (later r.width s.width e)
     ∙ later (if r.is_square then Some w else r.height) s.height q
 
--- so is the width
+-- the width that a rectangle has
 width_known : (m : Modal) (earlier : List Record) (r : Rectangle) (l d w : ℕ) (vs : List Variable)
     {o : Option Variable} → StandsFor m earlier
     → option_or r.on.layer m.layer ≡ Some l → option_or r.on.datatype m.datatype ≡ Some d

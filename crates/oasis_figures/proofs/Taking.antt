@@ -7,7 +7,7 @@ use Rattle.lvl_profile.specs.declared.ignore.Ignore.{Ignore}
 use Rattle.oasis_records.specs.declared.record.Record.{Record}
 use Rattle.oasis_figures.specs.Keeping.{StandsFor}
 use Rattle.oasis_figures.specs.Rules.{Breaches}
-use Rattle.oasis_figures.specs.declared.drawn.Drawn.{Drawn}
+use Rattle.oasis_figures.specs.declared.drawn.DrawnRecord.{DrawnRecord}
 use Rattle.oasis_figures.specs.declared.modal.Modal.{Modal}
 use Rattle.oasis_figures.specs.declared.rule.FigureRule.{FigureRule}
 use Rattle.oasis_figures.specs.inside.Taking.{Takes}
@@ -16,7 +16,7 @@ use Rattle.oasis_figures.specs.inside.Taking.{Takes}
 abbrev pub BreachesAfter : Ignore → Modal → Record → FigureRule → Type 0
 BreachesAfter ignore m r rule = (earlier : List Record) → StandsFor m earlier → Breaches ignore earlier r rule
 
-pub takes_refused : (ignore : Ignore) (m : Modal) (r : Record) (result : Result (Option Drawn) (Cause FigureRule))
+pub takes_refused : (ignore : Ignore) (m : Modal) (r : Record) (result : Result (Option DrawnRecord) (Cause FigureRule))
     (e : Cause FigureRule)
     → IsErr result × IsErrAnd result (λ x. x ≡ e) → Says e (BreachesAfter ignore m r) → Takes ignore m r result m
 takes_refused ignore m r (Ok d) e h s = absurd h.1

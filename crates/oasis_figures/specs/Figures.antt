@@ -24,8 +24,8 @@ use Rattle.oasis_records.specs.declared.record.Record.TheVariants.{Placement, Re
 use Rattle.oasis_figures.specs.Modal.{modal, layer_set, datatype_set, width_set, height_set, repetition_set}
 use Rattle.oasis_figures.specs.Modal.{repetition_of, geometry}
 use Rattle.oasis_figures.specs.Modal.{cell_set, polygon_set, half_width_set, path_set, start_set, end_set, placement}
-use Rattle.oasis_figures.specs.declared.drawn.Drawn.{Drawn}
-use Rattle.oasis_figures.specs.declared.drawn.Drawn.TheVariants.{Ring, Rings, Placement as Placing}
+use Rattle.oasis_figures.specs.declared.drawn.DrawnRecord.{DrawnRecord}
+use Rattle.oasis_figures.specs.declared.drawn.DrawnRecord.TheVariants.{Ring, Rings, Placement as Placing}
 
 -- the value of a variable; 0 if it is undefined
 abbrev pub number : Option ℕ → ℕ
@@ -157,14 +157,14 @@ abbrev pub in_rings : PlainShape Figure → PlainShape PlainRings
 in_rings s = record { layer = s.layer; figure = figure_rings s.figure; shifts = s.shifts }
 
 -- the shapes in what `take` returns, at these shifts
-abbrev pub shapes_in : List Point → Option Drawn → List (PlainShape PlainRings)
+abbrev pub shapes_in : List Point → Option DrawnRecord → List (PlainShape PlainRings)
 shapes_in shifts None = []
 shapes_in shifts (Some (Ring layer ring)) = record { layer = layer; figure = ring ∷ []; shifts = shifts } ∷ []
 shapes_in shifts (Some (Rings layer rs)) = record { layer = layer; figure = rs.items; shifts = shifts } ∷ []
 shapes_in shifts (Some (Placing by)) = []
 
 -- the placement in what `take` returns, of this cell at these shifts
-abbrev pub placements_in : CellRef → List Point → Option Drawn → List Placed
+abbrev pub placements_in : CellRef → List Point → Option DrawnRecord → List Placed
 placements_in cell shifts None = []
 placements_in cell shifts (Some (Ring layer ring)) = []
 placements_in cell shifts (Some (Rings layer rs)) = []
@@ -172,12 +172,12 @@ placements_in cell shifts (Some (Placing by)) =
     record { cell = cell; flip = by.flip; turn = by.turn; at = by.at; shifts = shifts } ∷ []
 
 -- what `take` returns is what the record draws, with each figure as rings, and what it places
-pub record IsDrawn (earlier : List Record) (r : Record) (d : Option Drawn) : Type 0 where
+pub record IsDrawn (earlier : List Record) (r : Record) (d : Option DrawnRecord) : Type 0 where
   pub shapes : shapes_in (shifts_of earlier r) d ≡ map in_rings (shapes_of earlier r)
   pub placements : placements_in (cell_of (r ∷ earlier)) (shifts_of earlier r) d ≡ placements_of earlier r
 
 -- if a cell is placed, its place at each of these shifts fits in 64 signed bits
-abbrev pub PlacesFit : List Point → Option Drawn → Type 0
+abbrev pub PlacesFit : List Point → Option DrawnRecord → Type 0
 PlacesFit shifts None = Unit {0}
 PlacesFit shifts (Some (Ring layer ring)) = Unit {0}
 PlacesFit shifts (Some (Rings layer rs)) = Unit {0}

@@ -4,7 +4,7 @@ use lvl_names::Layer;
 
 /// What a record draws, at each of the shifts of its repetition ([`crate::Modal::shifts`]).
 #[derive(Debug, Drop)]
-pub enum Drawn {
+pub enum DrawnRecord {
     /// A RECTANGLE or a POLYGON: its ring on a Layer.
     Ring(Layer, Ring),
     /// A PATH: the rings of its bands on a Layer.

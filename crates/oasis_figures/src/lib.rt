@@ -8,15 +8,15 @@
 //!
 //! ```
 //! use lvl_profile::Ignore;
-//! use oasis_figures::{Drawn, Modal};
+//! use oasis_figures::{DrawnRecord, Modal};
 //!
 //! let mut modal = Modal::new();
 //! let drawn = modal.take(alloc, Ignore::NOTHING, record)?;
-//! assert!(rt; matches!(drawn, Some(Drawn::Ring(_, _))));
+//! assert!(rt; matches!(drawn, Some(DrawnRecord::Ring(_, _))));
 //! ```
 #![tactic(auto)]
 
-pub use drawn::Drawn;
+pub use drawn::DrawnRecord;
 pub use modal::Modal;
 pub use rule::FigureRule;
 pub use variable::Variable;

@@ -10,7 +10,7 @@ ghost use Rattle.oasis_figures.specs.Modal.{modal, cell_set};
 ghost use Rattle.oasis_figures.specs.Rules.{Breaches, BreachesNone};
 ghost use Rattle.oasis_figures.specs.inside.Taking.{mode, IsOther, Takes};
 
-use crate::drawn::Drawn;
+use crate::drawn::DrawnRecord;
 use crate::rule::FigureRule;
 use lvl_grid::Point;
 use lvl_names::Offsets;
@@ -81,7 +81,7 @@ impl Modal {
         alloc: Global,
         ignore: Ignore,
         next: Record,
-    ) -> Result<Option<Drawn>, Cause<FigureRule>>
+    ) -> Result<Option<DrawnRecord>, Cause<FigureRule>>
         ensures drawn { IfOk result (λ drawn. (earlier : List ARecord) → StandsFor self.old earlier
             → IsDrawn earlier next drawn) }
         ensures places { IfOk result (λ drawn. (earlier : List ARecord) → StandsFor self.old earlier
@@ -128,7 +128,7 @@ impl Modal {
 
     /// Takes an XYRELATIVE or an XYABSOLUTE: from now on a coordinate is added to the one before it, or
     /// replaces it.
-    fn take_mode(&mut self, is_relative: bool) -> Result<Option<Drawn>, Cause<FigureRule>>
+    fn take_mode(&mut self, is_relative: bool) -> Result<Option<DrawnRecord>, Cause<FigureRule>>
         ensures { (ignore : Ignored) → Takes ignore self.old (mode is_relative) result self.new }
     {
         self.is_relative = is_relative;
@@ -137,7 +137,7 @@ impl Modal {
     }
 
     /// Takes a record that sets no variable.
-    fn take_other(&mut self, next: Record) -> Result<Option<Drawn>, Cause<FigureRule>>
+    fn take_other(&mut self, next: Record) -> Result<Option<DrawnRecord>, Cause<FigureRule>>
         requires { IsOther next }
         ensures { (ignore : Ignored) → Takes ignore self.old next result self.new }
     {

@@ -10,7 +10,7 @@ ghost use Rattle.oasis_figures.specs.Rules.{Breaches};
 ghost use Rattle.oasis_figures.specs.inside.Paths.{a_path, IsStroke, IsResolved, BandsBreak};
 ghost use Rattle.oasis_figures.specs.inside.Taking.{Takes};
 
-use crate::drawn::Drawn;
+use crate::drawn::DrawnRecord;
 use crate::extension::{Extent, ends_of, reaches, resolve};
 use crate::layer::layer_of;
 use crate::modal::Modal;
@@ -132,7 +132,7 @@ impl Modal {
         alloc: Global,
         ignore: Ignore,
         path: Path,
-    ) -> Result<Option<Drawn>, Cause<FigureRule>>
+    ) -> Result<Option<DrawnRecord>, Cause<FigureRule>>
         ensures { Takes ignore self.old (a_path path) result self.new }
     {
         let Resolved { stroke, on, at } = self.resolve_path(&path)?;
@@ -152,6 +152,6 @@ impl Modal {
         self.path = points.or(self.path.take());
         self.is_repeated = repetition.is_some();
         self.repetition = after(repetition, self.repetition.take());
-        Ok(Some(Drawn::Rings(on, rings)))
+        Ok(Some(DrawnRecord::Rings(on, rings)))
     }
 }

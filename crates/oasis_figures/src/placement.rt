@@ -8,7 +8,7 @@ ghost use Rattle.oasis_figures.specs.Rules.{Breaches};
 ghost use Rattle.oasis_figures.specs.inside.Placements.{a_placement, IsResolved};
 ghost use Rattle.oasis_figures.specs.inside.Taking.{Takes};
 
-use crate::drawn::Drawn;
+use crate::drawn::DrawnRecord;
 use crate::modal::Modal;
 use crate::position::moved;
 use crate::repetition::{after, all_fit_at, is_known};
@@ -115,7 +115,7 @@ impl Modal {
     pub(crate) fn take_placement(
         &mut self,
         placement: Placement,
-    ) -> Result<Option<Drawn>, Cause<FigureRule>>
+    ) -> Result<Option<DrawnRecord>, Cause<FigureRule>>
         ensures { (ignore : Ignored) → Takes ignore self.old (a_placement placement) result self.new }
     {
         let by = self.resolve_placement(&placement)?;
@@ -124,6 +124,6 @@ impl Modal {
         self.cell = placement.cell.or(self.cell.take());
         self.is_repeated = repetition.is_some();
         self.repetition = after(repetition, self.repetition.take());
-        Ok(Some(Drawn::Placement(by)))
+        Ok(Some(DrawnRecord::Placement(by)))
     }
 }

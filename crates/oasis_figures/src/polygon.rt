@@ -10,7 +10,7 @@ ghost use Rattle.oasis_figures.specs.Rules.{Breaches};
 ghost use Rattle.oasis_figures.specs.inside.Polygons.{a_polygon, IsResolved, RingBreaks};
 ghost use Rattle.oasis_figures.specs.inside.Taking.{Takes};
 
-use crate::drawn::Drawn;
+use crate::drawn::DrawnRecord;
 use crate::layer::layer_of;
 use crate::modal::Modal;
 use crate::position::moved;
@@ -88,7 +88,7 @@ impl Modal {
         &mut self,
         alloc: Global,
         polygon: Polygon,
-    ) -> Result<Option<Drawn>, Cause<FigureRule>>
+    ) -> Result<Option<DrawnRecord>, Cause<FigureRule>>
         ensures { (ignore : Ignored) → Takes ignore self.old (a_polygon polygon) result self.new }
     {
         let values = self.resolve_polygon(&polygon)?;
@@ -101,6 +101,6 @@ impl Modal {
         self.polygon = points.or(self.polygon.take());
         self.is_repeated = repetition.is_some();
         self.repetition = after(repetition, self.repetition.take());
-        Ok(Some(Drawn::Ring(values.on, ring)))
+        Ok(Some(DrawnRecord::Ring(values.on, ring)))
     }
 }

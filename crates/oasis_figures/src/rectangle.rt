@@ -7,7 +7,7 @@ ghost use Rattle.oasis_figures.specs.Rules.{Breaches};
 ghost use Rattle.oasis_figures.specs.inside.Rectangles.{a_rectangle, IsResolved};
 ghost use Rattle.oasis_figures.specs.inside.Taking.{Takes};
 
-use crate::drawn::Drawn;
+use crate::drawn::DrawnRecord;
 use crate::layer::layer_of;
 use crate::modal::Modal;
 use crate::position::moved;
@@ -91,7 +91,7 @@ impl Modal {
         &mut self,
         alloc: Global,
         rectangle: Rectangle,
-    ) -> Result<Option<Drawn>, Cause<FigureRule>>
+    ) -> Result<Option<DrawnRecord>, Cause<FigureRule>>
         ensures { (ignore : Ignored) → Takes ignore self.old (a_rectangle rectangle) result self.new }
     {
         let values = self.resolve_rectangle(&rectangle)?;
@@ -104,6 +104,6 @@ impl Modal {
         self.height = Some(values.height);
         self.is_repeated = repetition.is_some();
         self.repetition = after(repetition, self.repetition.take());
-        Ok(Some(Drawn::Ring(values.on, ring)))
+        Ok(Some(DrawnRecord::Ring(values.on, ring)))
     }
 }

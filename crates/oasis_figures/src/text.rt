@@ -6,7 +6,7 @@ ghost use Rattle.oasis_figures.specs.Keeping.{StandsFor};
 ghost use Rattle.oasis_figures.specs.Rules.{Breaches, BreachesNone};
 ghost use Rattle.oasis_figures.specs.inside.Taking.{a_text, Takes};
 
-use crate::drawn::Drawn;
+use crate::drawn::DrawnRecord;
 use crate::modal::Modal;
 use crate::repetition::{after, is_known};
 use crate::rule::FigureRule;
@@ -32,7 +32,7 @@ impl Modal {
     pub(crate) fn take_text(
         &mut self,
         repetition: Option<Repetition>,
-    ) -> Result<Option<Drawn>, Cause<FigureRule>>
+    ) -> Result<Option<DrawnRecord>, Cause<FigureRule>>
         ensures { (ignore : Ignored) → Takes ignore self.old (a_text repetition) result self.new }
     {
         self.test_text(&repetition)?;

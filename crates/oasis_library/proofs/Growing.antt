@@ -167,7 +167,7 @@ drawings-cell (x ∷ rs) c = elim (cell_or x) [
       skip (rs ++ Cell c ∷ []) ∙ drawings-cell rs c ∙ ap (λ l. l ++ drawing [] c ∷ []) (sym (skip rs))
 ]
 
--- the same for the cells as they are kept
+-- a change of the last item commutes with what is made of each
 
 on_last-map : {A B : Type 0} (g : A → B) (f : A → A) (k : B → B) → ((x : A) → g (f x) ≡ k (g x)) → (xs : List A)
     → map g (on_last f xs) ≡ on_last k (map g xs)

@@ -11,7 +11,7 @@ use Rattle.oasis_records.specs.declared.cell.CellRef.{CellRef}
 use Rattle.oasis_records.specs.declared.record.Record.TheVariants.{Cell}
 use Rattle.oasis_figures.specs.Figures.{shifts_of, IsDrawn, PlacesFit}
 use Rattle.oasis_figures.specs.Rules.{BreachesNone}
-use Rattle.oasis_figures.specs.declared.drawn.Drawn.{Drawn}
+use Rattle.oasis_figures.specs.declared.drawn.DrawnRecord.{DrawnRecord}
 use Rattle.oasis_figures.specs.declared.modal.Modal.{Modal}
 use Rattle.oasis_figures.specs.declared.rule.FigureRule.{FigureRule}
 use Rattle.oasis_figures.specs.declared.rule.FigureRule.TheVariants.{Undefined, Path as PathRule}
@@ -69,7 +69,7 @@ records-snoc (item x ∷ is) r = ap (λ l. x ∷ l) (records-snoc is r)
 records-snoc (block p rs ∷ is) r =
     ap (λ l. rs ++ l) (records-snoc is r) ∙ sym (append_assoc rs (records is) (r ∷ []))
 
--- the same for a block
+-- a block adds the records in it
 pub records-block : (is : List Item) (p : Packed) (rs : List Record) → records (is ++ block p rs ∷ []) ≡ records is ++ rs
 records-block [] p rs = append-nil rs
 records-block (magic ∷ is) p rs = records-block is p rs
@@ -125,7 +125,7 @@ name_ok (Ok v) q u e f p = p
 name_ok (Err (Breach k)) q u e f p = (let z : Err (Breach (Name k)) ≡ Ok u = sym e ∙ f in cc)
 name_ok (Err OutOfMemory) q u e f p = (let z : Err OutOfMemory ≡ Ok u = sym e ∙ f in cc)
 
-pub record Takes (ignore : Ignore) (old new : Modal) (next : Record) (r : Result (Option Drawn)
+pub record Takes (ignore : Ignore) (old new : Modal) (next : Record) (r : Result (Option DrawnRecord)
     (Cause FigureRule)) : Type 0 where
   pub drawn : IfOk r (λ drawn. (earlier : List Record) → StandsFor old earlier → IsDrawn earlier next drawn)
   pub places : IfOk r (λ drawn. (earlier : List Record) → StandsFor old earlier → PlacesFit (shifts_of earlier next)
@@ -133,14 +133,14 @@ pub record Takes (ignore : Ignore) (old new : Modal) (next : Record) (r : Result
   pub kept : OnOk r ((earlier : List Record) → StandsFor old earlier → StandsFor new (next ∷ earlier))
   pub none : OnOk r ((earlier : List Record) → StandsFor old earlier → BreachesNone ignore earlier next)
 
-pub figure_ok : (ignore : Ignore) (old new : Modal) (next : Record) (r : Result (Option Drawn) (Cause FigureRule))
-    (q : Result (Option Drawn) (Cause OasisKind)) (d : Option Drawn)
+pub figure_ok : (ignore : Ignore) (old new : Modal) (next : Record) (r : Result (Option DrawnRecord) (Cause FigureRule))
+    (q : Result (Option DrawnRecord) (Cause OasisKind)) (d : Option DrawnRecord)
     → q ≡ of_figure r → q ≡ Ok d → Takes ignore old new next r → (earlier : List Record) → StandsFor old earlier
     → IsTaken earlier next d new × BreachesNone ignore earlier next
 figure_ok ignore old new next (Ok x) q d e f t earlier h =
     let z : Ok x ≡ Ok d = sym e ∙ f in
     let same : x ≡ d = cc in (
-      subst (λ (i : Option Drawn). IsTaken earlier next i new) same (record {
+      subst (λ (i : Option DrawnRecord). IsTaken earlier next i new) same (record {
         stands = t.kept earlier h;
         draws = t.drawn earlier h;
         fits = t.places earlier h;

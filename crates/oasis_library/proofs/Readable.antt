@@ -143,7 +143,7 @@ unread_of : (profile : Profile) (xs : List ℕ) (left : Option (List ℕ)) (f : 
 unread_of profile xs left (At at k) x = unread_at profile xs left at k x
 unread_of profile xs left (Unresolved n) x = tt
 
--- the same for a result
+-- what a refused result says
 refused : {A : Type 0} (profile : Profile) (xs : List ℕ) (left : Option (List ℕ)) (P : OasisFault → Type 0)
     → ((f : OasisFault) → Refuses profile xs left f → P f) → (r : Result A (Cause OasisFault))
     → IfErr r (λ e. Says e (Refuses profile xs left)) → IfErr r (λ e. Says e P)
@@ -175,7 +175,7 @@ refused_unread : {A : Type 0} (profile : Profile) (xs : List ℕ) (left : Option
     → IfErr r (λ e. Says e (Refuses profile xs left)) → IfErr r (λ e. Says e (ReportsUnread profile xs left))
 refused_unread profile xs left = refused profile xs left (ReportsUnread profile xs left) (unread_of profile xs left)
 
--- the same for the bytes that are left in the end
+-- what a refusal says of the bytes that are left in the end
 pub unread_left : {A : Type 0} (profile : Profile) (xs : List ℕ) (left left' : Option (List ℕ))
     (r : Result A (Cause OasisFault))
     → IfErr r (λ e. Says e (Refuses profile xs left)) → left ≡ left'

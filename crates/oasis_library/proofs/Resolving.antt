@@ -212,7 +212,7 @@ pub is_read_err : (A : Type 0) (e : Cause OasisFault) → is_read {A = A} (Err e
 is_read_err A (Breach f) = refl
 is_read_err A OutOfMemory = refl
 
--- the same, if the refusal is passed on
+-- whether a result that is passed on as a refusal is that the reader failed
 pub read_carried : (A : Type 0) (r : Result A (Cause OasisFault)) (e : Cause OasisFault)
     → IsErr r × IsErrAnd r (λ x. x ≡ e) → is_refusal_read e ≡ is_read r
 read_carried A (Ok x) e g = (let z : false ≡ true = g.0 in cc)

@@ -14,8 +14,8 @@ use Rattle.oasis_figures.specs.Figures.{Placed, shapes_of, placements_of, shifts
 use Rattle.oasis_figures.specs.Figures.{cell_of}
 use Rattle.oasis_figures.specs.Modal.{modal, cell_set}
 use Rattle.oasis_figures.specs.Rules.{BreachesNone, first_undefined, is_defined, of_repetition}
-use Rattle.oasis_figures.specs.declared.drawn.Drawn.{Drawn}
-use Rattle.oasis_figures.specs.declared.drawn.Drawn.TheVariants.{Placement as Placing}
+use Rattle.oasis_figures.specs.declared.drawn.DrawnRecord.{DrawnRecord}
+use Rattle.oasis_figures.specs.declared.drawn.DrawnRecord.TheVariants.{Placement as Placing}
 use Rattle.oasis_figures.specs.declared.modal.Modal.{Modal}
 use Rattle.oasis_figures.specs.declared.rule.FigureRule.TheVariants.{Undefined}
 use Rattle.oasis_figures.specs.declared.variable.Variable.TheVariants.{PlacementCell}
@@ -42,7 +42,7 @@ abbrev a_kept : CellRef → List (PlainShape Rings) → List Placed → PlainDra
 a_kept name shapes placements = record { name = name; shapes = shapes; placements = placements }
 
 -- what is drawn is added
-pub taken_grown : (earlier : List Record) (r : Record) (drawn : Option Drawn) (m : Modal) (d : PlainDrawing Rings)
+pub taken_grown : (earlier : List Record) (r : Record) (drawn : Option DrawnRecord) (m : Modal) (d : PlainDrawing Rings)
     → IsTaken earlier r drawn m
     → a_kept d.name (d.shapes ++ shapes_in (shifts_of earlier r) drawn)
     (d.placements ++ placements_in (cell_of (r ∷ earlier)) (shifts_of earlier r) drawn) ≡ grown earlier r d

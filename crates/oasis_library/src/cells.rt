@@ -7,7 +7,7 @@ ghost use Rattle.oasis_library.specs.inside.Taken.{IsTaken, grown};
 use crate::drawing::Drawing;
 use crate::drawings::Drawings;
 use crate::placement::Target;
-use oasis_figures::{Drawn, Modal};
+use oasis_figures::{DrawnRecord, Modal};
 use oasis_records::CellRef;
 use std::alloc::{AllocError, Global};
 use std::marker::Model;
@@ -59,7 +59,7 @@ impl Cells {
     pub(crate) fn add(
         &mut self,
         alloc: Global,
-        drawn: Option<Drawn>,
+        drawn: Option<DrawnRecord>,
         modal: &Modal,
     ) -> Result<(), AllocError>
         requires { (earlier : List Record) × (r : Record) × IsTaken earlier r drawn modal.now }

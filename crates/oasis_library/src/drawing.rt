@@ -2,7 +2,7 @@
 ghost use Rattle.std.specs.Prelude.{◌≡◌, ◌++◌, ◌∷◌, [], All, OnOk, List, Some};
 ghost use Rattle.lvl_grid.specs.Turn.{FitsPoint, shifted};
 ghost use Rattle.oasis_records.specs.declared.record.Record.{Record};
-ghost use Rattle.oasis_figures.specs.declared.drawn.Drawn.TheVariants.{Placement as APlacement};
+ghost use Rattle.oasis_figures.specs.declared.drawn.DrawnRecord.TheVariants.{Placement as APlacement};
 ghost use Rattle.oasis_library.specs.inside.Kept.{begun, placed, target_ref};
 ghost use Rattle.oasis_library.specs.inside.Taken.{IsTaken, grown};
 
@@ -10,7 +10,7 @@ use crate::placement::{PlacedCells, Target};
 use lvl_cells::Shapes;
 use lvl_grid::Map;
 use lvl_names::Offsets;
-use oasis_figures::{Drawn, Modal};
+use oasis_figures::{DrawnRecord, Modal};
 use oasis_records::CellRef;
 use std::alloc::{AllocError, Global};
 use std::marker::Model;
@@ -54,7 +54,7 @@ impl Drawing {
     pub(crate) fn add(
         &mut self,
         alloc: Global,
-        drawn: Option<Drawn>,
+        drawn: Option<DrawnRecord>,
         modal: &Modal,
     ) -> Result<(), AllocError>
         requires { (earlier : List Record) × (r : Record) × IsTaken earlier r drawn modal.now }
@@ -62,15 +62,15 @@ impl Drawing {
             → self.new ≡ grown earlier r self.old) }
     {
         match drawn {
-            Some(Drawn::Ring(layer, ring)) => {
+            Some(DrawnRecord::Ring(layer, ring)) => {
                 self.shapes.push_ring(layer, ring.points(), modal.shifts())?;
                 Ok(())
             }
-            Some(Drawn::Rings(layer, rings)) => {
+            Some(DrawnRecord::Rings(layer, rings)) => {
                 self.shapes.push_rings(layer, &rings, modal.shifts())?;
                 Ok(())
             }
-            Some(Drawn::Placement(by)) => self.place(alloc, by, modal),
+            Some(DrawnRecord::Placement(by)) => self.place(alloc, by, modal),
             None => Ok(()),
         }
     }

@@ -18,7 +18,7 @@ use lvl_cells::Library;
 use lvl_profile::Profile;
 use lvl_refusal::Cause;
 use oasis_blocks::Unpacker;
-use oasis_figures::{Drawn, FigureRule, Modal};
+use oasis_figures::{DrawnRecord, FigureRule, Modal};
 use oasis_records::Record;
 use oasis_stream::{NameRule, OasisKind, Order};
 use std::alloc::Global;
@@ -49,8 +49,8 @@ fn of_name(answer: Result<(), Cause<NameRule>>) -> Result<(), Cause<OasisKind>>
 
 // A result with a rule of figures, as one of the file.
 fn of_figure(
-    answer: Result<Option<Drawn>, Cause<FigureRule>>,
-) -> Result<Option<Drawn>, Cause<OasisKind>>
+    answer: Result<Option<DrawnRecord>, Cause<FigureRule>>,
+) -> Result<Option<DrawnRecord>, Cause<OasisKind>>
     ensures { result ≡ of_figure answer }
 {
     match answer {

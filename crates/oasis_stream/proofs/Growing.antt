@@ -117,7 +117,7 @@ all_grow less more within before (i ∷ is) bytes p = (
   p.4,
 )
 
--- the same for the records inside a block
+-- wider limits allow as many records inside a block
 inside_all_grow : (less more : Profile) → IsWider less more → (outer before rs : List Record) (count : ℕ)
     (bytes : List ℕ)
     → SpellsAll (inside less outer count) before bytes rs → SpellsAll (inside more outer count) before bytes rs

@@ -7,7 +7,7 @@ use lvl_io::fake::Pieces;
 use lvl_names::Layer;
 use lvl_profile::Profile;
 use lvl_refusal::Cause;
-use oasis_figures::{Drawn, FigureRule, Modal};
+use oasis_figures::{DrawnRecord, FigureRule, Modal};
 use oasis_records::{Record, RecordType, read_fields, read_id};
 use oasis_values::Input;
 use std::alloc::{AllocError, Global};
@@ -34,7 +34,7 @@ fn take_next<R: Read>(
     input: &mut Input<R>,
     modal: &mut Modal,
     alloc: Global,
-    drawn: &mut Option<Drawn>,
+    drawn: &mut Option<DrawnRecord>,
 ) -> Result<bool, Cause<FigureRule>> {
     let Some(record) = next(input, alloc)? else {
         return Ok(false);
@@ -49,7 +49,7 @@ fn take_all(
     alloc: Global,
     bytes: &[u8],
     profile: Profile,
-) -> Result<Option<Drawn>, Cause<FigureRule>> {
+) -> Result<Option<DrawnRecord>, Cause<FigureRule>> {
     let mut input = Input::new(Pieces::new(bytes, 1), profile);
     let mut drawn = None;
     for _ in 0..bytes.len() {
@@ -89,12 +89,12 @@ fn map_text(alloc: Global, map: &Map) -> Result<String, AllocError> {
 /// What was drawn: rings by their points, how a cell is placed, nothing, or the rule that was breached.
 fn drawn_text(
     alloc: Global,
-    got: &Result<Option<Drawn>, Cause<FigureRule>>,
+    got: &Result<Option<DrawnRecord>, Cause<FigureRule>>,
 ) -> Result<String, AllocError> {
     match got {
-        Ok(Some(Drawn::Ring(on, ring))) => rings_text(alloc, *on, slice::from_ref(ring)),
-        Ok(Some(Drawn::Rings(on, rings))) => rings_text(alloc, *on, rings),
-        Ok(Some(Drawn::Placement(map))) => map_text(alloc, map),
+        Ok(Some(DrawnRecord::Ring(on, ring))) => rings_text(alloc, *on, slice::from_ref(ring)),
+        Ok(Some(DrawnRecord::Rings(on, rings))) => rings_text(alloc, *on, rings),
+        Ok(Some(DrawnRecord::Placement(map))) => map_text(alloc, map),
         Ok(None) => String::from_str(alloc, "nothing"),
         Err(Cause::Breach(rule)) => format!(in alloc; "{rule:?}"),
         Err(Cause::OutOfMemory) => Err(AllocError),
@@ -153,7 +153,7 @@ fn figures(rt: HostRuntime) -> Result<(), Fail> {
 /// Whether the last of these records places a cell.
 fn is_placing(modal: &mut Modal, alloc: Global, bytes: &[u8]) -> Result<bool, AllocError> {
     match take_all(modal, alloc, bytes, Profile::STANDARD) {
-        Ok(Some(Drawn::Placement(_))) => Ok(true),
+        Ok(Some(DrawnRecord::Placement(_))) => Ok(true),
         Err(Cause::OutOfMemory) => Err(AllocError),
         _ => Ok(false),
     }

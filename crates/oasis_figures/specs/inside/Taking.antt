@@ -10,13 +10,13 @@ use Rattle.oasis_records.specs.declared.record.Record.TheVariants.{XyRelative, T
 use Rattle.oasis_figures.specs.Figures.{IsDrawn, PlacesFit, shifts_of}
 use Rattle.oasis_figures.specs.Keeping.{StandsFor}
 use Rattle.oasis_figures.specs.Rules.{Breaches, BreachesNone}
-use Rattle.oasis_figures.specs.declared.drawn.Drawn.{Drawn}
+use Rattle.oasis_figures.specs.declared.drawn.DrawnRecord.{DrawnRecord}
 use Rattle.oasis_figures.specs.declared.modal.Modal.{Modal}
 use Rattle.oasis_figures.specs.declared.rule.FigureRule.{FigureRule}
 
 -- for every list of records after which the variables have these values: the record draws what is returned and breaches
 -- no rule, or it breaches the rule that is returned
-pub record Takes (ignore : Ignore) (m : Modal) (r : Record) (result : Result (Option Drawn) (Cause FigureRule))
+pub record Takes (ignore : Ignore) (m : Modal) (r : Record) (result : Result (Option DrawnRecord) (Cause FigureRule))
     (after : Modal)
     : Type 0 where
   pub drawn : IfOk result (λ d. (earlier : List Record) → StandsFor m earlier → IsDrawn earlier r d)

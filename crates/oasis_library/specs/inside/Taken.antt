@@ -6,13 +6,13 @@ use Rattle.oasis_records.specs.declared.record.Record.{Record}
 use Rattle.oasis_figures.specs.Figures.{shapes_of, placements_of, shifts_of, in_rings, IsDrawn, PlacesFit}
 use Rattle.oasis_figures.specs.Keeping.{StandsFor}
 use Rattle.oasis_figures.specs.Rules.{BreachesNone}
-use Rattle.oasis_figures.specs.declared.drawn.Drawn.{Drawn}
+use Rattle.oasis_figures.specs.declared.drawn.DrawnRecord.{DrawnRecord}
 use Rattle.oasis_figures.specs.declared.modal.Modal.{Modal}
 use Rattle.oasis_library.specs.Cells.{PlainDrawing}
 
 -- the modal variables are those after the record, and `drawn` is what it draws after the records before it in its cell;
 -- it breaches no rule, whatever is ignored of it
-pub record IsTaken (earlier : List Record) (r : Record) (drawn : Option Drawn) (m : Modal) : Type 0 where
+pub record IsTaken (earlier : List Record) (r : Record) (drawn : Option DrawnRecord) (m : Modal) : Type 0 where
   pub stands : StandsFor m (r ∷ earlier)
   pub draws : IsDrawn earlier r drawn
   pub fits : PlacesFit (shifts_of earlier r) drawn

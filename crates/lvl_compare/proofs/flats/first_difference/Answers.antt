@@ -25,10 +25,10 @@ apart_anywhere a b (Some at) h = record {
 
 pub returns-clause-same : goal.returns-clause-same
 returns-clause-same c =
-    IfOk-weaker c.first_difference_in.result _ _ (λ found h. alike_anywhere c.args.first.now c.args.second.now found h)
-    c.first_difference_in.ensures.same
+    IfOk-weaker c.first_difference_within.result _ _ (λ found h. alike_anywhere c.args.first.now c.args.second.now found h)
+    c.first_difference_within.ensures.same
 
 pub returns-clause-differ : goal.returns-clause-differ
 returns-clause-differ c =
-    IfOk-weaker c.first_difference_in.result _ _ (λ found h. apart_anywhere c.args.first.now c.args.second.now found h)
-    c.first_difference_in.ensures.differ
+    IfOk-weaker c.first_difference_within.result _ _ (λ found h. apart_anywhere c.args.first.now c.args.second.now found h)
+    c.first_difference_within.ensures.differ

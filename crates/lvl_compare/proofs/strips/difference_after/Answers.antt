@@ -14,8 +14,8 @@ use Rattle.lvl_compare.proofs.strips.difference_after.Goals as goal
 pub part-requires-clause-within : goal.part-requires-clause-within
 part-requires-clause-within c = λ l h. ((span_up_to _ _ _ l c.up_to.ensures.after c.up_to.ensures.last).0 h).0
 
-pub difference_of-requires-2-clause-lists : goal.difference_of-requires-2-clause-lists
-difference_of-requires-2-clause-lists c =
+pub drawn_difference-requires-2-clause-lists : goal.drawn_difference-requires-2-clause-lists
+drawn_difference-requires-2-clause-lists c =
     both_in c.args.pair.now c.args.window.now _ c.args.lists.now (rows_in _ _ c.in-Some.known _ _
     c.rows_before-rows.ensures) c.requires.lists
 
@@ -23,9 +23,9 @@ pub returns-in_default : goal.returns-in_default
 returns-in_default c =
     let pair : Pair = c.args.pair.now in
     let part : Part = on c.args.group.now.span (IsInWindow c.args.window.now) in
-    IfOk-weaker c.difference_of.result _ _
+    IfOk-weaker c.drawn_difference.result _ _
     (λ next h. subst (λ known. IsImproved (ours pair) (theirs pair) part known next) (sym c.in_default.is)
-    (first_improves _ _ _ next h)) c.difference_of.ensures
+    (first_improves _ _ _ next h)) c.drawn_difference.ensures
 
 pub returns : goal.returns
 returns c =

@@ -21,11 +21,12 @@ same_boxes k s rooted found boxes shared is at same held =
 pub hold_top-requires : goal.hold_top-requires
 hold_top-requires c =
     same_boxes c.args.cell c.self.inside.checked c.in-Some.checked c.in_ok-checked.field-0 c.self.inside.boxes
-    c.in_ok-boxes.boxes c.in-Some.is c.in_ok-checked.ensures c.in_ok-boxes.ensures c.self.invariant.0
+    c.in_ok-boxes.boxes c.in-Some.is c.in_ok-checked.ensures c.in_ok-boxes.ensures c.self.invariant.boxes_are
 
 pub invariant_of-result : goal.invariant_of-result
-invariant_of-result c = (
-  same_boxes c.args.cell c.self.inside.checked c.in-Some.checked c.in_ok-checked.field-0 c.self.inside.boxes
-      c.in_ok-boxes.boxes c.in-Some.is c.in_ok-checked.ensures c.in_ok-boxes.ensures c.self.invariant.0,
-  c.hold_top.ensures c.if-not-hold_top.false,
-)
+invariant_of-result c = record {
+  boxes_are =
+      same_boxes c.args.cell c.self.inside.checked c.in-Some.checked c.in_ok-checked.field-0 c.self.inside.boxes
+      c.in_ok-boxes.boxes c.in-Some.is c.in_ok-checked.ensures c.in_ok-boxes.ensures c.self.invariant.boxes_are;
+  in_range = c.hold_top.ensures c.if-not-hold_top.false;
+}

@@ -60,11 +60,13 @@ invariant_of-result c =
     (sym c.loop-sheet.sheet-iterator.rest.ok.0 ∙ c.in-None.ensures.steps.0) in
     let all : c.loop-sheet.yielded ≡ c.args.sheets.items =
     sym (append-nil c.loop-sheet.yielded)
-    ∙ (ap (λ r. c.loop-sheet.yielded ++ r) (sym none) ∙ c.loop-sheet.invariant.all) in (
-      subst IsInOrder (sym (c.loop-sheet.invariant.filled ∙ ap (filter is_filled) all))
-          (filled_in_order c.args.sheets.items c.requires),
-      c.new.ensures,
-    )
+    ∙ (ap (λ r. c.loop-sheet.yielded ++ r) (sym none) ∙ c.loop-sheet.invariant.all) in
+    record {
+      in_order =
+          subst IsInOrder (sym (c.loop-sheet.invariant.filled ∙ ap (filter is_filled) all))
+          (filled_in_order c.args.sheets.items c.requires);
+      none_are = c.new.ensures;
+    }
 
 pub returns : goal.returns
 returns c =

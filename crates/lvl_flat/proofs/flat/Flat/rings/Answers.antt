@@ -9,7 +9,8 @@ pub returns-in-Some : goal.returns-in-Some
 returns-in-Some c =
     let found = c.in-Some.ensures.found in
     let sheets : c.deref.result.now ≡ c.args.self.now = c.deref.ensures.value ∙ c.self.view_is in
-    let sorted : AreSorted c.deref.result.now = subst AreSorted (sym c.deref.ensures.value) c.self.invariant.0.sorted in
+    let sorted : AreSorted c.deref.result.now =
+    subst AreSorted (sym c.deref.ensures.value) c.self.invariant.in_order.sorted in
     let sheet : c.index-sheet.result.now ≡ found.sheet =
     c.index-sheet.ensures
     ∙ (ap (λ xs. get_or xs c.in-Some.place c.index-sheet.result.now) (sym c.deref.ensures.value)
@@ -22,6 +23,6 @@ returns-in-Some c =
 pub returns-in-None : goal.returns-in-None
 returns-in-None c =
     let sheets : c.deref.result.now ≡ c.args.self.now = c.deref.ensures.value ∙ c.self.view_is in
-    c.self.invariant.1
+    c.self.invariant.none_are
     ∙ sym (ap (λ xs. rings_on c.args.layer xs) (sym sheets)
     ∙ rings_nowhere c.deref.result.now c.args.layer c.in-None.ensures.absent)

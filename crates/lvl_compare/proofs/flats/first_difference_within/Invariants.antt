@@ -2,7 +2,7 @@ use Rattle.std.proofs.Common.{drop, length, ◌+◌}
 use Rattle.lvl_columns.specs.Windows.{window_of}
 use Rattle.lvl_compare.specs.Flats.{AlikeIn}
 use Rattle.lvl_compare.proofs.After.{IsWalked}
-use Rattle.lvl_compare.proofs.flats.first_difference_in.Given as goal
+use Rattle.lvl_compare.proofs.flats.first_difference_within.Given as goal
 
 -- both cover the same in the window on the Layers so far
 abbrev pub invariant-loop-layer : goal.invariant-loop-layer

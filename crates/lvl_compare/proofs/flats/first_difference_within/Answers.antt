@@ -11,7 +11,7 @@ use Rattle.lvl_columns.specs.Windows.{IsShown, window_of}
 use Rattle.lvl_compare.specs.Flats.{AlikeIn, IsLesser, head_layer}
 use Rattle.lvl_compare.proofs.After.{alike_absent, sorted_drop, walked_none, walked_more, walked_all, walked_before}
 use Rattle.lvl_compare.proofs.After.{walked_less, lesser_heads}
-use Rattle.lvl_compare.proofs.flats.first_difference_in.Goals as goal
+use Rattle.lvl_compare.proofs.flats.first_difference_within.Goals as goal
 
 pub loop-layer-init : goal.loop-layer-init
 loop-layer-init c =

@@ -2,7 +2,7 @@ use Rattle.std.proofs.Common.{AllPairs, subst, sym}
 use Rattle.lvl_names.specs.Layers.{ComesBefore}
 use Rattle.lvl_compare.proofs.Finding.{flats_found}
 use Rattle.lvl_compare.proofs.InGroups.{shows_ours, shows_theirs}
-use Rattle.lvl_compare.proofs.strips.difference_of.Goals as goal
+use Rattle.lvl_compare.proofs.strips.drawn_difference.Goals as goal
 
 pub within_of-requires-clause-rising : goal.within_of-requires-clause-rising
 within_of-requires-clause-rising c =
