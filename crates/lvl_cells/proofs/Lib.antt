@@ -1,5 +1,5 @@
 pub mod Indexes
-pub mod TargetRows
+pub mod Runs
 pub mod NamedTargets
 pub mod Missing
 pub mod Counting

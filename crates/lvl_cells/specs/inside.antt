@@ -1,4 +1,5 @@
 pub mod Spans
+pub mod Rows
 pub mod Targets
 pub mod Steps
 pub mod Settling

@@ -94,7 +94,7 @@ impl<'a> MovedRing<'a> {
     pub fn len(&self) -> usize
         ensures { result ≡ length self.now }
     {
-        self.outline.len()
+        self.outline.kept().as_slice().len()
     }
 
     /// The point at this index, moved, or None if there is none.

@@ -1,5 +1,5 @@
 //! Rings as they are kept: of a rectangle, only its diagonal.
-ghost use Rattle.std.specs.Prelude.{◌≡◌, length, All, IsTrue, IfSome};
+ghost use Rattle.std.specs.Prelude.{◌≡◌, All, IsTrue, IfSome};
 ghost use Rattle.lvl_names.specs.Shifts.{IsBetween};
 ghost use Rattle.lvl_cells.specs.inside.Outlines.{kept_points, rectangle_to, ring_of};
 ghost use Rattle.lvl_cells.specs.inside.Spans.{IsAgain};
@@ -66,16 +66,6 @@ impl<'a> Outline<'a> {
             return Kept::Corners(rectangle(self.points[0], self.along_y));
         }
         Kept::Points(self.points)
-    }
-
-    /// The number of its points.
-    pub(crate) fn len(&self) -> usize
-        ensures { result ≡ length (ring_of self.now) }
-    {
-        if self.points.len() == 1 {
-            return 4;
-        }
-        self.points.len()
     }
 
     /// The least and the greatest coordinates of its points, or None if it has none, which isn't so for a ring.

@@ -1,21 +1,74 @@
-//! The targets of references as they are stored: those of all cells in one list.
-ghost use Rattle.std.specs.Prelude.{◌≡◌, ◌<◌, ◌≤◌, ◌-◌, length, take, drop, slice_get, Some};
-ghost use Rattle.lvl_grid.specs.Pieces.{begin_of, cut_from, Rising};
+//! The targets of references as they are stored: for each cell a row of runs.
+ghost use Rattle.std.specs.Prelude.{◌≡◌, ◌<◌, ◌≤◌, ◌-◌, ◌++◌, ◌∷◌, [], ℕ, List, length, take, drop, slice_get, nat_le};
+ghost use Rattle.std.specs.Prelude.{Some, OnOk, option_map};
+ghost use Rattle.lvl_grid.specs.Pieces.{begin_of};
+ghost use Rattle.lvl_cells.specs.declared.rows.Run.{Run as PlainRun};
+ghost use Rattle.lvl_cells.specs.inside.Rows.{spread, spread_rows, AreRows, HasRow, Rises};
 
+use crate::lists::push_item;
+use crate::shape_lists::{kept_count, kept_sum};
+use std::alloc::AllocError;
 use std::marker::Model;
 
-/// The targets of the references of a cell: indexes of cells.
+/// References that follow one another in a cell and have the same target.
+#[derive(Clone, Copy)]
+pub(crate) struct Run {
+    /// The index after the last of them, among the references of the cell.
+    end: u32,
+    target: u32,
+}
+
+/// Adds the target of the reference at index `reference` of a cell whose row of runs begins at index
+/// `begin`. If the reference before has the same target, its run goes on.
+pub(crate) fn push_target(
+    runs: &mut Vec<Run>,
+    begin: usize,
+    reference: usize,
+    target: usize,
+) -> Result<(), AllocError>
+    ensures { OnOk result ((front : List PlainRun) (targets : List ℕ)
+        → length front ≡ begin → length targets ≡ reference
+        → HasRow front runs.old.items targets → HasRow front runs.new.items (targets ++ target ∷ [])) }
+{
+    let run = Run {
+        end: kept_sum(reference, 1)?,
+        target: kept_count(target)?,
+    };
+    let count = runs.len();
+    if count > begin && runs[count - 1].target == run.target {
+        runs[count - 1] = run;
+        return Ok(());
+    }
+    push_item(runs, run)
+}
+
+/// The index of the run with the reference at this index, or the number of runs if there is none.
+fn run_of(runs: &[Run], reference: usize) -> usize
+    requires { Rises 0 runs.now }
+    ensures { slice_get (spread 0 runs.now) reference ≡ option_map (λ r. r.target) (slice_get runs.now result) }
+{
+    runs.partition_point(
+        |run: &Run| -> bool
+            ensures { result ≡ nat_le run.now.end reference }
+        { run.end as usize <= reference },
+    )
+}
+
+/// The targets of the references of a cell.
 #[derive(Drop)]
 pub(crate) struct Row<'a> {
-    targets: &'a [u32],
+    runs: &'a [Run],
 }
 
 impl<'a> Model for Row<'a> {
     ghost use Rattle.std.specs.Prelude.{ℕ, List};
+    ghost use Rattle.lvl_cells.specs.inside.Rows.{spread, Rises};
 
     ghost Value = { List ℕ };
 
-    ghost view = { λ r. r.targets.now };
+    ghost view = { λ r. spread 0 r.runs.now };
+
+    ghost invariant = { λ r. Rises 0 r.runs.now };
 }
 
 impl<'a> Row<'a> {
@@ -23,21 +76,26 @@ impl<'a> Row<'a> {
     pub(crate) fn len(&self) -> usize
         ensures { result ≡ length self.now }
     {
-        self.targets.len()
+        let count = self.runs.len();
+        if count == 0 {
+            return 0;
+        }
+        self.runs[count - 1].end as usize
     }
 
     /// The target of the reference at this index, if there is one.
     pub(crate) fn get(&self, reference: usize) -> Option<usize>
         ensures { result ≡ slice_get self.now reference }
     {
-        match self.targets.get(reference) {
-            Some(target) => Some(*target as usize),
-            None => None,
+        let run = run_of(self.runs, reference);
+        if run >= self.runs.len() {
+            return None;
         }
+        Some(self.runs[run].target as usize)
     }
 }
 
-/// The index of the first target of row `i`, given the index after the last one of each.
+/// The index of the first run of row `i`, given the index after the last run of each.
 fn begin(ends: &[usize], i: usize) -> usize
     requires { i < length ends.now }
     ensures { result ≡ begin_of 0 ends.now i }
@@ -48,40 +106,41 @@ fn begin(ends: &[usize], i: usize) -> usize
     ends[i - 1]
 }
 
-/// The targets with an index from `start` up to `end`, which is excluded.
-fn stretch(targets: &[u32], start: usize, end: usize) -> &[u32]
+/// The runs with an index from `start` up to `end`, which is excluded.
+fn stretch(runs: &[Run], start: usize, end: usize) -> &[Run]
     requires rising { start ≤ end }
-    requires inside { end ≤ length targets.now }
-    ensures { result.now ≡ take (end - start) (drop start targets.now) }
+    requires inside { end ≤ length runs.now }
+    ensures { result.now ≡ take (end - start) (drop start runs.now) }
 {
-    &targets[start..end]
+    &runs[start..end]
 }
 
-/// The targets of the references of all cells. A cell takes 8 bytes, and each reference 4 more.
+/// The targets of the references of all cells. A cell takes 8 bytes, and each run of references
+/// that follow one another to the same cell 8 more.
 #[derive(Drop)]
 pub(crate) struct Targets {
     ends: Vec<usize>,
-    targets: Vec<u32>,
+    runs: Vec<Run>,
 }
 
 impl Model for Targets {
-    ghost use Rattle.std.specs.Prelude.{ℕ, List, length};
-    ghost use Rattle.lvl_grid.specs.Pieces.{cut_from, Rising};
+    ghost use Rattle.std.specs.Prelude.{ℕ, List};
+    ghost use Rattle.lvl_cells.specs.inside.Rows.{spread_rows, AreRows};
 
     ghost Value = { List (List ℕ) };
 
-    ghost view = { λ t. cut_from 0 t.ends.items t.targets.items };
+    ghost view = { λ t. spread_rows t.ends.items t.runs.items };
 
-    ghost invariant = { λ t. Rising 0 t.ends.items (length t.targets.items) };
+    ghost invariant = { λ t. AreRows t.ends.items t.runs.items };
 }
 
 impl Targets {
-    /// These targets, given the index after the last one of each cell.
-    pub(crate) fn of(ends: Vec<usize>, targets: Vec<u32>) -> Targets
-        requires { Rising 0 ends.items (length targets.items) }
-        ensures { result ≡ cut_from 0 ends.items targets.items }
+    /// The targets in these runs, given the index after the last run of each cell.
+    pub(crate) fn of(ends: Vec<usize>, runs: Vec<Run>) -> Targets
+        requires { AreRows ends.items runs.items }
+        ensures { result ≡ spread_rows ends.items runs.items }
     {
-        Targets { ends, targets }
+        Targets { ends, runs }
     }
 
     /// The number of cells.
@@ -99,7 +158,7 @@ impl Targets {
         let start = begin(&self.ends, cell);
         let end = self.ends[cell];
         Row {
-            targets: stretch(&self.targets, start, end),
+            runs: stretch(&self.runs, start, end),
         }
     }
 }

@@ -8,26 +8,25 @@ ghost use Rattle.lvl_refusal.specs.Refused.{Says};
 
 use crate::fault::CellFault;
 use crate::library::Cell;
-use crate::lists::push_item;
-use crate::rows::Targets;
-use crate::shape_lists::kept_count;
+use crate::rows::{Run, Targets, push_target};
 use lvl_refusal::Cause;
 use std::alloc::Global;
 use std::collections::BTreeMap;
 
-/// Adds the targets of the references of a cell. Refuses with [`CellFault::MissingCell`]
+/// Adds a row for the targets of the references of a cell. Refuses with [`CellFault::MissingCell`]
 /// and the first reference that names no cell, if there is one.
-fn push_targets(
+fn push_row(
     alloc: Global,
-    targets: &mut Vec<u32>,
+    runs: &mut Vec<Run>,
     cells: &[Cell],
     index: &BTreeMap<&[u8], usize>,
     cell: &Cell,
 ) -> Result<(), Cause<CellFault>>
     requires { IsIndexOf (names cells.now) index.now }
-    ensures ok { OnOk result (HasTargets (names cells.now) cell.now.references targets.old.items targets.new.items) }
+    ensures ok { OnOk result (HasTargets (names cells.now) cell.now.references runs.old.items runs.new.items) }
     ensures err { IfErr result (λ refusal. Says refusal (IsMissingFault (names cells.now) cell.now)) }
 {
+    let begin = runs.len();
     for j in 0..cell.references.len() {
         let reference = cell.references.reference(j);
         let name = reference.cell();
@@ -36,18 +35,9 @@ fn push_targets(
             let missing = Vec::from_slice(alloc, name)?;
             return Err(Cause::Breach(CellFault::MissingCell(from, missing)));
         };
-        push_item(targets, kept_count(*target)?)?;
+        push_target(runs, begin, j, *target)?;
     }
     Ok(())
-}
-
-/// The number of references of all cells.
-fn reference_count(cells: &[Cell]) -> usize {
-    let mut count: usize = 0;
-    for cell in cells {
-        count = count.saturating_add(cell.references.len());
-    }
-    count
 }
 
 /// The targets of the references of each cell. Refuses with [`CellFault::MissingCell`] and the
@@ -62,10 +52,10 @@ pub(crate) fn all_targets(
     ensures err { IfErr result (λ refusal. Says refusal (IsFirstMissingFault cells.now)) }
 {
     let mut ends = Vec::with_capacity(alloc, cells.len())?;
-    let mut targets = Vec::with_capacity(alloc, reference_count(cells))?;
+    let mut runs = Vec::new(alloc);
     for cell in cells {
-        push_targets(alloc, &mut targets, cells, index, cell)?;
-        ends.push(targets.len())?;
+        push_row(alloc, &mut runs, cells, index, cell)?;
+        ends.push(runs.len())?;
     }
-    Ok(Targets::of(ends, targets))
+    Ok(Targets::of(ends, runs))
 }

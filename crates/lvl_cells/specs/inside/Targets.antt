@@ -1,6 +1,8 @@
 -- The targets of references: the indexes of the cells that they name.
 use Rattle.std.specs.Prelude.{◌≡◌, ℕ, List, ◌∷◌, ◌++◌, map, All, Contains, slice_get, Some}
 use Rattle.lvl_cells.specs.Cells.{PlainCell, PlainReference, Rings}
+use Rattle.lvl_cells.specs.declared.rows.Run.{Run}
+use Rattle.lvl_cells.specs.inside.Rows.{HasRow}
 use Rattle.lvl_cells.specs.declared.fault.CellFault.{CellFault}
 use Rattle.lvl_cells.specs.declared.fault.CellFault.TheVariants.{MissingCell}
 
@@ -8,10 +10,10 @@ use Rattle.lvl_cells.specs.declared.fault.CellFault.TheVariants.{MissingCell}
 abbrev pub AreTargets : List (List ℕ) → List PlainReference → List ℕ → Type 0
 AreTargets names references targets = map (slice_get names) targets ≡ map (λ r. Some r.cell) references
 
--- the new list is the old one and the indexes of the names that the references have
-pub record HasTargets (names : List (List ℕ)) (references : List PlainReference) (old new : List ℕ) : Type 0 where
+-- the new runs are the old ones and a row of the indexes of the names that the references have
+pub record HasTargets (names : List (List ℕ)) (references : List PlainReference) (old new : List Run) : Type 0 where
   pub targets : List ℕ
-  pub is : new ≡ old ++ targets
+  pub row : HasRow old new targets
   pub are : AreTargets names references targets
 
 -- of the names asked for, `name` is the first that isn't in the list of names

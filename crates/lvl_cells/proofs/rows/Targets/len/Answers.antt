@@ -1,5 +1,5 @@
 use Rattle.std.proofs.Common.{length, ap, arith}
-use Rattle.lvl_grid.proofs.Pieces.{cut-length}
+use Rattle.lvl_cells.proofs.Runs.{spread_rows_long}
 use Rattle.lvl_cells.proofs.rows.Targets.len.Goals as goal
 
 pub returns : goal.returns
@@ -8,6 +8,6 @@ returns c =
       arith,
       c.len.ensures,
       c.self.inside.ends.ok.0,
-      cut-length 0 c.self.inside.ends.items c.self.inside.targets.items,
+      spread_rows_long c.self.inside.ends.items c.self.inside.runs.items,
       ap length c.self.view_is,
     )

@@ -1,4 +1,4 @@
-use Rattle.std.proofs.Common.{◌≡◌, ◌≤◌, ◌+◌, ◌++◌, ◌∷◌, [], ℕ, List, None, Some, map, take, length, sym, ap}
+use Rattle.std.proofs.Common.{◌≡◌, ◌≤◌, ℕ, List, None, Some, map, length, sym, ap}
 use Rattle.std.proofs.Common.{◌∙◌, subst}
 use Rattle.std.proofs.Common.{arith}
 use Rattle.std.specs.List.{slice_get}
@@ -7,10 +7,10 @@ use Rattle.lvl_cells.specs.Cells.{PlainCell, PlainReference, names, Rings}
 use Rattle.lvl_cells.specs.Resolving.{place_in_index}
 use Rattle.lvl_cells.specs.inside.Targets.{HasTargets, IsFirstUnknown}
 use Rattle.lvl_cells.proofs.NamedTargets.{has_none, has_more, first_unknown, take_past}
-use Rattle.lvl_cells.proofs.targets.push_targets.Goals as goal
+use Rattle.lvl_cells.proofs.targets.push_row.Goals as goal
 
 pub loop-j-init : goal.loop-j-init
-loop-j-init c = has_none (names c.args.cells.now) c.args.cell.now.references c.args.targets.now.items
+loop-j-init c = has_none (names c.args.cells.now) c.args.cell.now.references c.args.runs.now.items
 
 pub returns-in_default-clause-err : goal.returns-in_default-clause-err
 returns-in_default-clause-err c =
@@ -45,16 +45,17 @@ loop-j-preserved c =
     let same : c.cell.inside.references ≡ refs = ap (λ (x : PlainCell Rings). x.references) c.cell.view_is in
     let at : slice_get refs j ≡ Some r =
     sym (ap (λ (rs : List PlainReference). slice_get rs j) same) ∙ c.reference-reference.ensures in
-    let word : c.in_ok-kept_count.field-0 ≡ c.in-Some.target.now = c.in_ok-kept_count.ensures.0 in
-    subst (HasTargets all (take (j + 1) refs) c.args.targets.now.items)
-    (sym (c.in_ok-push_item.ensures.added ∙ ap (λ t. c.loop-j.targets.items ++ t ∷ []) word))
-    (has_more all refs j r c.in-Some.target.now c.args.targets.now.items c.loop-j.targets.items
-    (slice_get_within refs j r at) (sym (get_or_from_slice_get refs j r r at)) found c.loop-j.invariant)
+    has_more all refs j r c.in-Some.target.now c.args.runs.now.items c.loop-j.runs.items c.push_target.new.runs.items
+    (slice_get_within refs j r at) (sym (get_or_from_slice_get refs j r r at)) found
+    (λ front targets long count row.
+    c.in_ok-push_target.ensures front targets
+    (omega (arith, long, c.len-begin.ensures, c.args.runs.now.ok.0)) count row)
+    c.loop-j.invariant
 
 pub returns-clause-ok : goal.returns-clause-ok
 returns-clause-ok c =
     let refs : List PlainReference = c.args.cell.now.references in
     let same : c.cell.inside.references ≡ refs = ap (λ (x : PlainCell Rings). x.references) c.cell.view_is in
     let all : length refs ≤ c.loop-j.j = omega (arith, c.loop-j-test.false, c.len-j-end.ensures, ap length same) in
-    subst (λ (l : List PlainReference). HasTargets (names c.args.cells.now) l c.args.targets.now.items c.loop-j.targets.items)
+    subst (λ (l : List PlainReference). HasTargets (names c.args.cells.now) l c.args.runs.now.items c.loop-j.runs.items)
     (take_past refs c.loop-j.j all) c.loop-j.invariant
