@@ -2,9 +2,9 @@
 use crate::cells::{METAL, ORIGIN, add_rectangle, fitted, moved, reference, tens, with_a};
 use crate::rows::{cut, gives, layer, point, rows_give};
 use lvl_cells::Builder;
-use lvl_compare::difference_by_strips;
+use lvl_compare::{difference_by_strips, difference_in_windows, hull_of};
 use lvl_flat::Fitted;
-use lvl_grid::{Point, Square};
+use lvl_grid::{Point, Square, Window};
 use lvl_names::{Layer, Offsets};
 use lvl_region::Side;
 use lvl_view::View;
@@ -160,6 +160,67 @@ fn differences_under_views(rt: HostRuntime) -> Result<(), Fail> {
         check_view(rt.alloc(), row)?;
     }
     Ok(())
+}
+
+/// The columns of the abscissas from 0 up to 66, a window each.
+fn columns(alloc: Global) -> Result<Vec<Window>, Fail> {
+    let mut windows = Vec::new(alloc);
+    for x in 0..67_i64 {
+        windows.push(Window {
+            x0: x,
+            y0: -20,
+            x1: x.saturating_add(1),
+            y1: 70,
+        })?;
+    }
+    Ok(windows)
+}
+
+/// What two libraries differ in, in these columns.
+fn apart_in_columns(alloc: Global, pair: &Pair) -> Result<Option<(Layer, Square, Side)>, Fail> {
+    let (windows, view) = (columns(alloc)?, View::whole(alloc));
+    let found = difference_in_windows(alloc, &pair.first, &pair.second, &view, &windows, 40);
+    found.map_err(Fail::from)
+}
+
+/// What two tops differ in that draw the squares of words as `1/0 5,5 | 2/0 5,5`, in these columns.
+fn columns_text(alloc: Global, words: &str) -> Result<String, Fail> {
+    let (ours, theirs) = cut(words, "| ");
+    let pair = arrayed_pair(alloc, ours, theirs)?;
+    let found = apart_in_columns(alloc, &pair)?;
+    found_text(alloc, found)
+}
+
+/// What each top draws beside its array, and what is found in 67 columns.
+const IN_COLUMNS: &str = "\
+1/0 5,5 | 1/0 5,5 | -
+1/0 5,5 | | 1/0 5,5 First
+1/0 5,5; 1/0 66,4 | | 1/0 66,4 First
+1/0 67,4 | | -
+2/0 66,4 | 1/0 3,66 | 1/0 3,66 Second
+2/0 66,-9; 2/0 3,-9 | | 2/0 3,-9 First
+";
+
+#[test]
+fn many_windows(rt: HostRuntime) -> Result<(), Fail> {
+    rows_give(rt.alloc(), IN_COLUMNS, columns_text)
+}
+
+#[test]
+fn hulls(rt: HostRuntime) {
+    let all = Window {
+        x0: -3,
+        y0: 0,
+        x1: 9,
+        y1: 7,
+    };
+    let few = [
+        Window { x1: 2, ..all },
+        Window { y0: 4, ..all },
+        Window { x0: 8, ..all },
+    ];
+    assert!(rt; hull_of(&few) == Some(all));
+    assert!(rt; hull_of(&[]).is_none());
 }
 
 fn numbered(layer: u32) -> Layer {

@@ -1,5 +1,5 @@
 -- What of two tops may cover squares of a window and of its parts.
-use Rattle.std.proofs.Common.{◌≡◌, inl, inr, List, Option, Some, None, refl, sym, subst}
+use Rattle.std.proofs.Common.{◌≡◌, inl, inr, Contains, List, Option, Some, None, refl, sym, subst}
 use Rattle.std.specs.Prelude.{IfSome}
 use Rattle.lvl_grid.specs.declared.point.Square.{Square}
 use Rattle.lvl_grid.specs.declared.point.Window.{Window}
@@ -37,6 +37,14 @@ pub both_shorter : (pair : Pair) (w : Window) (short : Option Lists) (long resul
     → AreBoth pair w long → AreBoth pair w result
 both_shorter pair w None long result inner some none outer = subst (AreBoth pair w) (sym (none refl)) outer
 both_shorter pair w (Some lists) long result inner some none outer = subst (AreBoth pair w) (sym some) inner
+
+-- candidates for some windows are found in the shorter lists, if there are any
+pub both_near : (pair : Pair) (ws : List Window) (short : Option Lists) (long result : Lists)
+    → IfSome short (λ lists. (w : Window) → Contains ws w → AreBoth pair w lists) → IfSome short (λ lists. result ≡ lists)
+    → (short ≡ None → result ≡ long) → ((w : Window) → AreBoth pair w long) → (w : Window) → Contains ws w
+    → AreBoth pair w result
+both_near pair ws None long result near some none whole w has = subst (AreBoth pair w) (sym (none refl)) (whole w)
+both_near pair ws (Some lists) long result near some none whole w has = subst (AreBoth pair w) (sym some) (near w has)
 
 -- the rows that may have a square before the known one are rows of the window
 pub rows_in : (pairs : List LayerPair) (group : Group) (k : Difference) (w rows : Window)

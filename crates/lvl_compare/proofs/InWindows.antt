@@ -5,7 +5,7 @@ use Rattle.std.proofs.lemmas.Int.{ints, clamps}
 use Rattle.lvl_grid.specs.declared.point.Square.{Square}
 use Rattle.lvl_grid.specs.declared.point.Window.{Window}
 use Rattle.lvl_grid.specs.Clip.{IsInWindow}
-use Rattle.lvl_grid.proofs.Anyone.{Any-head, Any-left, Any-nil, Any-push}
+use Rattle.lvl_grid.proofs.Anyone.{Any-head, Any-left, Any-nil, Any-push, Any-right, Any-sides}
 use Rattle.lvl_names.specs.declared.layer.Layer.{Layer}
 use Rattle.lvl_view.specs.Moved.{IsMoved}
 use Rattle.lvl_view.specs.declared.map.LayerPair.{LayerPair}
@@ -19,7 +19,7 @@ use Rattle.lvl_compare.proofs.Finding.{improved_more, improved_none}
 use Rattle.lvl_compare.proofs.InStrips.{hull, hull_first, hull_second, seen_shown, shown_seen}
 
 -- squares of the intersection with a window are in the window
-seen_within : (v : Option Window) (w : Window) (q : Square) → IsInWindow (seen_of v w) q → IsInWindow w q
+pub seen_within : (v : Option Window) (w : Window) (q : Square) → IsInWindow (seen_of v w) q → IsInWindow w q
 seen_within None w q h = h
 seen_within (Some v) w q h = record {
   x_from = omega (arith, ints, clamps, h.x_from);
@@ -51,6 +51,19 @@ window_more a b span v ws w part known found last is =
       | inl earlier ↦ inl (s.0, (s.1.0, earlier))
       | inr this ↦ inr (s.0, subst (λ (u : Window). IsInWindow u q) (sym is) (shown_seen v w q s.1.0 this))
     ])
+
+-- with more windows
+pub windows_more : (a b : Draws) (span : Span) (v : Option Window) (ws more : List Window)
+    (known found last : Option Difference) → IsImproved a b (on span (IsSeenIn v ws)) known found
+    → IsImproved a b (on span (IsSeenIn v more)) found last
+    → IsImproved a b (on span (IsSeenIn v (ws ++ more))) known last
+windows_more a b span v ws more known found last =
+    improved_more a b (on span (IsSeenIn v ws)) (on span (IsSeenIn v more)) (on span (IsSeenIn v (ws ++ more))) known
+    found last (λ l q s. (s.0, (s.1.0, Any-left (λ u. IsInWindow u q) ws more s.1.1)))
+    (λ l q s. (s.0, (s.1.0, Any-right (λ u. IsInWindow u q) ws more s.1.1)))
+    (λ l q s.
+    elim (Any-sides (λ u. IsInWindow u q) ws more s.1.1)
+    [ inl earlier ↦ inl (s.0, (s.1.0, earlier)) | inr later ↦ inr (s.0, (s.1.0, later)) ])
 
 -- what is found among some squares is the first difference, or there is none
 pub part_same : (a b : Draws) (part : Square → Type 0) (found : Option Difference)

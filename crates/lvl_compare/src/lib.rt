@@ -26,6 +26,7 @@ pub use flats::{first_difference, first_difference_within, lesser, past};
 pub use listed::difference_on_layers;
 pub use pair::Pair;
 pub use regions::difference_with;
+pub use together::hull_of;
 pub use windows::{difference_by_strips, difference_in_windows};
 
 mod flats;
@@ -37,4 +38,5 @@ mod pair;
 mod regions;
 mod sizes;
 mod strips;
+mod together;
 mod windows;

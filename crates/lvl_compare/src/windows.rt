@@ -11,9 +11,9 @@ ghost use Rattle.lvl_compare.specs.inside.Strips.{IsFoundIn, everywhere};
 
 use crate::groups::{Group, Span};
 use crate::lists::Lists;
-use crate::pace::Pace;
 use crate::pair::Pair;
-use crate::strips::{Difference, Search, difference_within, shared};
+use crate::strips::Difference;
+use crate::together::difference_together;
 use lvl_flat::Fitted;
 use lvl_grid::{Square, Window};
 use lvl_names::Layer;
@@ -22,7 +22,12 @@ use lvl_view::View;
 use std::alloc::{AllocError, Global};
 use std::slice;
 
-/// The first difference of two layouts on the Layers of a group, in some windows.
+/// How many windows are searched together. Then a layout is looked at as a whole once for each eight windows, and
+/// not once for each.
+const TOGETHER: usize = 8;
+
+/// The first difference of two layouts on the Layers of a group, in some windows, of which those that
+/// follow one another should be near one another.
 pub(crate) fn difference_in_group(
     alloc: Global,
     pair: &Pair<'_>,
@@ -36,16 +41,12 @@ pub(crate) fn difference_in_group(
 {
     let lists = Lists::whole(pair);
     let mut found = None;
-    for window in windows {
-        let part = shared(*window, pair.view.window());
-        let start = Search {
-            found,
-            pace: Pace::new(most),
-            windows: 0,
-        };
-        let size = group.span.least_size();
-        let end = difference_within(alloc, pair, group, &lists, &part, size, start)?;
-        found = end.found;
+    let mut from = 0;
+    while from < windows.len() {
+        let end = windows.len().min(from.saturating_add(TOGETHER));
+        let near = &windows[from..end];
+        found = difference_together(alloc, pair, group, &lists, near, most, found)?;
+        from = end;
     }
     Ok(found)
 }

@@ -1,0 +1,84 @@
+//! Windows that are searched together: what may cover squares of one of them is looked for once.
+ghost use Rattle.std.specs.Prelude.{Contains, IfOk, IfSome};
+ghost use Rattle.lvl_grid.specs.declared.point.Square.{Square as GridSquare};
+ghost use Rattle.lvl_grid.specs.declared.point.Window.{Window as PlainWindow};
+ghost use Rattle.lvl_grid.specs.Clip.{IsInWindow};
+ghost use Rattle.lvl_compare.specs.Pairs.{ours, seen_in, theirs};
+ghost use Rattle.lvl_compare.specs.Parts.{SomeHas};
+ghost use Rattle.lvl_compare.specs.inside.Groups.{AreListed, on};
+ghost use Rattle.lvl_compare.specs.inside.Lists.{AreBoth};
+ghost use Rattle.lvl_compare.specs.inside.Strips.{IsImproved};
+
+use crate::groups::Group;
+use crate::lists::{Lists, shorter};
+use crate::pace::Pace;
+use crate::pair::Pair;
+use crate::strips::{Difference, Search, difference_within, shared};
+use lvl_grid::Window;
+use std::alloc::{AllocError, Global};
+
+/// A window that has all squares of some windows, or None if there are none.
+pub fn hull_of(windows: &[Window]) -> Option<Window>
+    ensures { IfSome result (λ hull. (s : GridSquare) → SomeHas windows.now s → IsInWindow hull s) }
+{
+    let mut hull = *windows.first()?;
+    for window in windows {
+        hull = hull.joined(*window);
+    }
+    Some(hull)
+}
+
+/// Lists for all of the windows that are at least a quarter shorter, or None. A single window needs
+/// none.
+fn shortened(
+    alloc: Global,
+    pair: &Pair<'_>,
+    lists: &Lists,
+    windows: &[Window],
+) -> Result<Option<Lists>, AllocError>
+    requires { (window : PlainWindow) → AreBoth pair.now window lists.now }
+    ensures { IfOk result (λ short. IfSome short
+        (λ shorter. (window : PlainWindow) → Contains windows.now window → AreBoth pair.now window shorter)) }
+{
+    if windows.len() < 2 {
+        return Ok(None);
+    }
+    let Some(hull) = hull_of(windows) else {
+        return Ok(None);
+    };
+    let (short, _) = lists.shortened(alloc, pair, &hull)?;
+    Ok(short)
+}
+
+/// The first difference of two layouts on the Layers of a group, in some windows near one another, if
+/// it precedes what is known, else what is known.
+pub(crate) fn difference_together(
+    alloc: Global,
+    pair: &Pair<'_>,
+    group: &Group,
+    wider: &Lists,
+    windows: &[Window],
+    most: usize,
+    known: Option<Difference>,
+) -> Result<Option<Difference>, AllocError>
+    requires listed { AreListed pair.now group.now }
+    requires lists { (window : PlainWindow) → AreBoth pair.now window wider.now }
+    ensures { IfOk result (IsImproved (ours pair.now) (theirs pair.now)
+        (on group.now.span (seen_in pair.now windows.now)) known) }
+{
+    let short = shortened(alloc, pair, wider, windows)?;
+    let lists = shorter(&short, wider);
+    let mut found = known;
+    for window in windows {
+        let part = shared(*window, pair.view.window());
+        let start = Search {
+            found,
+            pace: Pace::new(most),
+            windows: 0,
+        };
+        let size = group.span.least_size();
+        let end = difference_within(alloc, pair, group, lists, &part, size, start)?;
+        found = end.found;
+    }
+    Ok(found)
+}
