@@ -5,15 +5,16 @@
 ghost use Rattle.std.specs.Prelude.{IsTrue};
 ghost use Rattle.gds_elements.specs.inside.Formed.{IsFormed};
 
+use crate::cells::add_point;
 use crate::rows::{bytes_of, cut, rows_give};
 use gds_elements::{Drawn, Element, ElementFault, Step};
 use gds_records::record_type as ty;
 use lvl_cells::Reference;
 use lvl_grid::{Point, Ring};
-use lvl_names::Layer;
+use lvl_names::{Layer, Offsets};
 use lvl_profile::Profile;
 use lvl_refusal::Cause;
-use std::alloc::{AllocError, Global};
+use std::alloc::Global;
 use std::slice;
 use std::test::Fail;
 
@@ -52,13 +53,19 @@ fn kind_of(name: &str) -> Result<u8, Fail> {
     Err(Fail::from("a type"))
 }
 
+/// Appends the bytes of a point as `3,-4`.
+fn add_bytes_of_point(bytes: &mut Vec<u8>, word: &str) -> Result<(), Fail> {
+    for number in word.split(',') {
+        bytes.extend_from_slice(&number.parse::<i32>()?.to_be_bytes())?;
+    }
+    Ok(())
+}
+
 /// The bytes of points as `3,-4`.
 fn points_of(alloc: Global, words: &str) -> Result<Vec<u8>, Fail> {
     let mut bytes = Vec::new(alloc);
     for word in words.split_whitespace() {
-        let (x, y) = cut(word, ",");
-        bytes.extend_from_slice(&x.parse::<i32>()?.to_be_bytes())?;
-        bytes.extend_from_slice(&y.parse::<i32>()?.to_be_bytes())?;
+        add_bytes_of_point(&mut bytes, word)?;
     }
     Ok(bytes)
 }
@@ -93,86 +100,111 @@ fn is_formed(kind: u8, payload: &[u8]) -> bool
     }
 }
 
-/// What an open element does with the next record.
-fn take(
-    alloc: Global,
-    element: &mut Element,
-    record: &str,
-) -> Result<Result<Step, Cause<ElementFault>>, Fail> {
+/// The type of a record, and its payload.
+fn record_of(alloc: Global, record: &str) -> Result<(u8, Vec<u8>), Fail> {
     let (name, words) = cut(record, " ");
     let kind = kind_of(name)?;
-    let payload = payload_of(alloc, kind, words)?;
-    if !is_formed(kind, &payload) {
-        return Err(Fail::from("a payload"));
+    Ok((kind, payload_of(alloc, kind, words)?))
+}
+
+/// What an open element does with a record.
+type Taken = Result<Step, Cause<ElementFault>>;
+
+fn take_formed(
+    alloc: Global,
+    element: &mut Element,
+    kind: u8,
+    payload: &[u8],
+) -> Result<Taken, Fail> {
+    if is_formed(kind, payload) {
+        Ok(element.take(alloc, Profile::STANDARD, kind, payload))
+    } else {
+        Err(Fail::from("a payload"))
     }
-    Ok(element.take(alloc, Profile::STANDARD, kind, &payload))
+}
+
+/// What an open element does with the next record.
+fn take(alloc: Global, element: &mut Element, record: &str) -> Result<Taken, Fail> {
+    let (kind, payload) = record_of(alloc, record)?;
+    take_formed(alloc, element, kind, &payload)
 }
 
 /// What an element draws, or why the record at a place is refused.
 type Answer = Result<Drawn, (usize, Cause<ElementFault>)>;
 
+/// What an open element draws with the records after its first, or why one of them is refused.
+fn read_on(alloc: Global, element: &mut Element, records: &str) -> Result<Answer, Fail> {
+    for (n, record) in records.split(';').enumerate().skip(1) {
+        match take(alloc, element, record.trim())? {
+            Ok(Step::Open) => {}
+            Ok(Step::Whole) => return Ok(Ok(element.take_drawn().ok_or("what is drawn")?)),
+            Err(cause) => return Ok(Err((n, cause))),
+        }
+    }
+    Err("its last record".into())
+}
+
 /// What is read of these records.
 fn read(alloc: Global, records: &str) -> Result<Answer, Fail> {
     let first = kind_of(cut(records, ";").0)?;
     let mut element = Element::open(alloc, first).ok_or("an element")?;
-    for (n, record) in records.split(';').enumerate().skip(1) {
-        match take(alloc, &mut element, record.trim())? {
-            Ok(Step::Open) => {}
-            Ok(Step::Whole) => {
-                let drawn = element.take_drawn().ok_or("what is drawn")?;
-                return Ok(Ok(drawn));
-            }
-            Err(cause) => return Ok(Err((n, cause))),
-        }
-    }
-    Err(Fail::from("its last record"))
+    read_on(alloc, &mut element, records)
 }
 
-fn add_point(alloc: Global, text: &mut String, point: Point) -> Result<(), AllocError> {
-    let Point { x, y } = point;
-    text.push_str(&format!(in alloc; " {x},{y}")?)
+fn add_ring(text: &mut String, ring: &Ring) -> Result<(), Fail> {
+    text.push_str(";")?;
+    for point in ring.points() {
+        add_point(text, *point)?;
+    }
+    Ok(())
 }
 
 /// The Layer of rings, and their points.
-fn rings_text(alloc: Global, on: Layer, rings: &[Ring]) -> Result<String, AllocError> {
-    let mut text = format!(in alloc; "{}/{}", on.layer, on.datatype)?;
+fn add_rings(text: &mut String, on: Layer, rings: &[Ring]) -> Result<(), Fail> {
+    write!(text, "{}/{}", on.layer, on.datatype)?;
     for ring in rings {
-        text.push_str(";")?;
-        for point in ring.points() {
-            add_point(alloc, &mut text, *point)?;
+        add_ring(text, ring)?;
+    }
+    Ok(())
+}
+
+fn add_shifts(text: &mut String, shifts: &Offsets) -> Result<(), Fail> {
+    for k in 0..shifts.len() {
+        if let Some(shift) = shifts.at(k) {
+            add_point(text, shift)?;
         }
     }
-    Ok(text)
+    Ok(())
 }
 
 /// The cell of a reference, whether and how it is turned, where it is, and its shifts.
-fn reference_text(alloc: Global, reference: &Reference) -> Result<String, AllocError> {
+fn add_reference(alloc: Global, text: &mut String, reference: &Reference) -> Result<(), Fail> {
     let cell = String::from_utf8_lossy(alloc, reference.cell())?;
     let (flip, turn) = (reference.flip(), reference.turn());
-    let mut text = format!(in alloc; "{cell} {flip} {turn:?}")?;
-    add_point(alloc, &mut text, reference.at())?;
-    text.push_str(";")?;
-    for k in 0..reference.shifts().len() {
-        if let Some(shift) = reference.shifts().at(k) {
-            add_point(alloc, &mut text, shift)?;
-        }
-    }
-    Ok(text)
+    let Point { x, y } = reference.at();
+    write!(text, "{cell} {flip} {turn:?} {x},{y};")?;
+    add_shifts(text, reference.shifts())
 }
 
-fn drawn_text(alloc: Global, drawn: &Drawn) -> Result<String, AllocError> {
+fn add_drawn(alloc: Global, text: &mut String, drawn: &Drawn) -> Result<(), Fail> {
     match drawn {
-        Drawn::Ring(on, ring) => rings_text(alloc, *on, slice::from_ref(ring)),
-        Drawn::Rings(on, rings) => rings_text(alloc, *on, rings),
-        Drawn::Reference(reference) => reference_text(alloc, reference),
-        Drawn::Nothing => String::from_str(alloc, "nothing"),
+        Drawn::Ring(on, ring) => add_rings(text, *on, slice::from_ref(ring)),
+        Drawn::Rings(on, rings) => add_rings(text, *on, rings),
+        Drawn::Reference(reference) => add_reference(alloc, text, reference),
+        Drawn::Nothing => text.push_str("nothing").map_err(Fail::from),
     }
+}
+
+fn drawn_text(alloc: Global, drawn: &Drawn) -> Result<String, Fail> {
+    let mut text = String::new(alloc);
+    add_drawn(alloc, &mut text, drawn)?;
+    Ok(text)
 }
 
 /// What these records draw.
 fn text_of(alloc: Global, records: &str) -> Result<String, Fail> {
     match read(alloc, records)? {
-        Ok(drawn) => Ok(drawn_text(alloc, &drawn)?),
+        Ok(drawn) => drawn_text(alloc, &drawn),
         Err(_) => Err(Fail::from("what is drawn")),
     }
 }

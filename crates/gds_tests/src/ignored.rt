@@ -104,19 +104,18 @@ fn fault_text(alloc: Global, fault: GdsFault) -> Result<String, AllocError> {
 }
 
 /// A head and the cells of a library as text.
-fn text_of(alloc: Global, head: GdsHead, library: &Library) -> Result<String, AllocError> {
+fn text_of(alloc: Global, head: GdsHead, library: &Library) -> Result<String, Fail> {
     let cells = library_text(alloc, library)?;
-    format!(in alloc; "{head:?} {cells}")
+    format!(in alloc; "{head:?} {cells}").map_err(Fail::from)
 }
 
 /// A library and its head as text, or what is refused.
 fn read(alloc: Global, bytes: &[u8], most: usize, ignore: Ignore) -> Result<String, Fail> {
-    let text = match read_gds_with(alloc, &mut Pieces::new(bytes, most), under(ignore)) {
+    match read_gds_with(alloc, &mut Pieces::new(bytes, most), under(ignore)) {
         Ok((library, head)) => text_of(alloc, head, &library),
-        Err(Cause::Breach(fault)) => fault_text(alloc, fault),
-        Err(Cause::OutOfMemory) => Err(AllocError),
-    };
-    text.map_err(Fail::from)
+        Err(Cause::Breach(fault)) => fault_text(alloc, fault).map_err(Fail::from),
+        Err(Cause::OutOfMemory) => Err(Fail::from(AllocError)),
+    }
 }
 
 /// What is read of `RECORDS` with more bytes before the one with this index.
@@ -233,15 +232,21 @@ fn more_ignored(rt: HostRuntime) -> Result<(), Fail> {
     check_same(rt.alloc(), PROPERTIES)
 }
 
+/// The type of the first of these records.
+fn first_type(alloc: Global, words: &str) -> Result<u8, Fail> {
+    let records = bytes_of(alloc, words)?;
+    records.get(2).copied().ok_or("a type").map_err(Fail::from)
+}
+
 /// What is found in the row where the first of its records isn't ignored.
 fn unsupported(alloc: Global, row: &str) -> Result<String, Fail> {
     let (index, row) = cut(row, " | ");
-    let more = bytes_of(alloc, cut(row, " | ").0)?;
-    let kind = *more.get(2).ok_or("a type")?;
-    match RECORDS.lines().nth(index.parse::<usize>()?) {
-        Some(record) => Ok(format!(in alloc; "Unsupported {} {kind:02X}", cut(record, " ").0)?),
-        None => Ok(String::from_str(alloc, "AfterEnd 335")?),
-    }
+    let kind = first_type(alloc, cut(row, " | ").0)?;
+    let text = match RECORDS.lines().nth(index.parse::<usize>()?) {
+        Some(record) => format!(in alloc; "Unsupported {} {kind:02X}", cut(record, " ").0),
+        None => String::from_str(alloc, "AfterEnd 335"),
+    };
+    text.map_err(Fail::from)
 }
 
 /// Checks that the first record of each row is unsupported where this is ignored.

@@ -3,7 +3,7 @@
 ghost use Rattle.std.specs.Prelude.{Some, None};
 
 use crate::cells::library_text;
-use crate::rows::{add_bytes, cut, gives, points_of, rows_give};
+use crate::rows::{add_bytes, cut, cuts_hold, gives, points_of, rows_give};
 use gds_library::{GdsFault, GdsHead, GdsKind, RecordFault, read_gds};
 use gds_records::fake::{ONE, SQUARE, Stream};
 use lvl_cells::Library;
@@ -91,7 +91,7 @@ fn changed(alloc: Global, places: &[usize], value: u8) -> Result<Vec<u8>, AllocE
 /// The cells of these bytes as text.
 pub(crate) fn cells_of(alloc: Global, bytes: &[u8], most: usize) -> Result<String, Fail> {
     let (library, _) = read(alloc, bytes, most)?;
-    library_text(alloc, &library).map_err(Fail::from)
+    library_text(alloc, &library)
 }
 
 /// How many cells these bytes have.
@@ -242,19 +242,16 @@ fn names_have_up_to_255_bytes(rt: HostRuntime) -> Result<(), Fail> {
     rows_give(rt.alloc(), NAMES, fault_named)
 }
 
-/// Whether the first `k` bytes are truncated at the record that isn't whole, however they are cut.
-fn is_truncated(alloc: Global, bytes: &[u8], k: usize) -> bool {
-    let fault = at(begun(k), GdsKind::Record(RecordFault::Truncated));
-    fault_of(alloc, bytes, 1) == fault && fault_of(alloc, bytes, 1000) == fault
+/// Whether the first bytes of `square` are truncated at the record that isn't whole, however they are cut.
+fn is_truncated(alloc: Global, bytes: &[u8]) -> Result<bool, Fail> {
+    let fault = at(begun(bytes.len()), GdsKind::Record(RecordFault::Truncated));
+    Ok(fault_of(alloc, bytes, 1) == fault && fault_of(alloc, bytes, 1000) == fault)
 }
 
 #[test]
 fn reports_each_cut(rt: HostRuntime) -> Result<(), Fail> {
     let bytes = square(rt.alloc())?;
-    for k in 0..bytes.len() {
-        assert!(rt; is_truncated(rt.alloc(), &bytes[..k], k), "cut to {k}");
-    }
-    Ok(())
+    cuts_hold(rt.alloc(), &bytes, 168, is_truncated)
 }
 
 /// A number of zeros after the bytes of `square`, the bytes after them, and the fault.
@@ -273,41 +270,39 @@ fn padded(alloc: Global, zeros: &str, rest: &str) -> Result<Vec<u8>, Fail> {
     Ok(bytes)
 }
 
-/// The fault of the bytes of a row is the one that it says, however they are cut.
-fn check_end(alloc: Global, row: &str) -> Result<(), Fail> {
-    let (zeros, words) = cut(row, " |");
-    let (rest, want) = cut(words, "| ");
+/// The fault of the bytes of a row, at most `most` at a read.
+fn fault_at_end(alloc: Global, words: &str, most: usize) -> Result<String, Fail> {
+    let (zeros, rest) = cut(words, " |");
     let bytes = padded(alloc, zeros, rest)?;
-    for most in [1, 65_536] {
-        let fault = fault_text(alloc, fault_of(alloc, &bytes, most));
-        gives(fault.map_err(Fail::from), want, row)?;
-    }
-    Ok(())
+    fault_text(alloc, fault_of(alloc, &bytes, most)).map_err(Fail::from)
+}
+
+fn fault_by_bytes(alloc: Global, words: &str) -> Result<String, Fail> {
+    fault_at_end(alloc, words, 1)
+}
+
+fn fault_at_once(alloc: Global, words: &str) -> Result<String, Fail> {
+    fault_at_end(alloc, words, 65_536)
 }
 
 #[test]
 fn takes_zero_bytes_alone_after_the_end(rt: HostRuntime) -> Result<(), Fail> {
-    for row in ENDS.lines() {
-        check_end(rt.alloc(), row)?;
-    }
-    Ok(())
+    rows_give(rt.alloc(), ENDS, fault_by_bytes)?;
+    rows_give(rt.alloc(), ENDS, fault_at_once)
 }
 
-/// Why no library is read where a reader fails after these bytes, and how often it failed.
-fn failing(alloc: Global, bytes: &[u8]) -> (Option<Cause<GdsFault>>, u64) {
+/// Whether a reader that fails after these bytes is reported at the record that isn't whole, and failed once.
+fn is_reported(alloc: Global, bytes: &[u8]) -> Result<bool, Fail> {
     let mut reader = Pieces::failing(bytes, 100);
     let fault = read_gds(alloc, &mut reader).err();
-    (fault, reader.errors)
+    let want = at(begun(bytes.len()), GdsKind::Record(RecordFault::Read));
+    Ok(fault == want && reader.errors == 1)
 }
 
 #[test]
 fn reports_a_failed_read(rt: HostRuntime) -> Result<(), Fail> {
     let bytes = square(rt.alloc())?;
-    for k in 0..=bytes.len() {
-        let fault = at(begun(k), GdsKind::Record(RecordFault::Read));
-        assert!(rt; failing(rt.alloc(), &bytes[..k]) == (fault, 1), "after {k}");
-    }
-    Ok(())
+    cuts_hold(rt.alloc(), &bytes, 169, is_reported)
 }
 
 #[test]

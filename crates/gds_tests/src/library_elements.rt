@@ -224,13 +224,16 @@ fn are_a_and_b(names: &[Vec<u8>]) -> bool {
     }
 }
 
+/// Whether three cells are read, of which A and B place one another.
+fn is_cycle(alloc: Global, bytes: &[u8]) -> Result<bool, Fail> {
+    Ok(count_of(alloc, bytes, 7)? == 3 && are_a_and_b(&cycle_of(alloc, bytes)?))
+}
+
 /// Row cycle: cells that place one another are read, and refused as a library.
 #[test]
 fn cycle(rt: HostRuntime) -> Result<(), Fail> {
     let stream = with_cycle(rt.alloc())?;
-    assert!(rt; count_of(rt.alloc(), &stream, 7)? == 3);
-    let names = cycle_of(rt.alloc(), &stream)?;
-    assert!(rt; are_a_and_b(&names));
+    assert!(rt; is_cycle(rt.alloc(), &stream)?);
     Ok(())
 }
 
@@ -260,13 +263,19 @@ const RECORDS: &str = "\
 10 3 | 00 00 00 00 00 00 00 00 00 00 00 00 00 00 00 00 | Element(Points)
 ";
 
-/// The fault of the stream with the record of a row, after the offset of that record.
-fn fault_after(alloc: Global, types: &str, payload: &str) -> Result<String, Fail> {
+/// The stream with the record of a row, and where that record begins.
+fn with_row(alloc: Global, types: &str, payload: &str) -> Result<(u64, Vec<u8>), Fail> {
     let (kind, data_type) = cut(types, " ");
     let (kind, data_type) = (u8::from_str_radix(kind, 16)?, data_type.parse::<u8>()?);
     let payload = bytes_of(alloc, payload)?;
-    let (begin, stream) = with_record(alloc, kind, data_type, &payload)?;
-    Ok(format!(in alloc; "{begin}: {}", fault(alloc, &stream)?)?)
+    with_record(alloc, kind, data_type, &payload).map_err(Fail::from)
+}
+
+/// The fault of the stream with the record of a row, after the offset of that record.
+fn fault_after(alloc: Global, types: &str, payload: &str) -> Result<String, Fail> {
+    let (begin, stream) = with_row(alloc, types, payload)?;
+    let fault = fault(alloc, &stream)?;
+    format!(in alloc; "{begin}: {fault}").map_err(Fail::from)
 }
 
 /// The fault of that stream, if it is where the record begins.

@@ -2,67 +2,16 @@
 //! reader cuts the bytes nor where it fails.
 ghost use Rattle.std.specs.Prelude.{Some, None};
 
-use crate::rows::{add_bytes, bytes_of, check_text, cut};
+use crate::rows::{add_bytes, bytes_of, cut, cuts_hold, rows_give, rows_hold};
 use gds_records::{RecordFault, Records, Stopped, record_type};
 use lvl_io::Read;
 use lvl_io::fake::Pieces;
 use std::alloc::{AllocError, Global};
-use std::process::Abort;
 use std::test::Fail;
 
-/// The records of a library with one structure TOP, in it the boundary of a square.
-static RECORDS: [&[u8]; 13] = [
-    b"\x00\x06\x00\x02\x02\x58",
-    b"\x00\x1C\x01\x02\0\0\0\0\0\0\0\0\0\0\0\0\0\0\0\0\0\0\0\0\0\0\0\0",
-    b"\x00\x06\x02\x06LB",
-    b"\x00\x14\x03\x05A\x10\0\0\0\0\0\0A\x10\0\0\0\0\0\0",
-    b"\x00\x1C\x05\x02\0\0\0\0\0\0\0\0\0\0\0\0\0\0\0\0\0\0\0\0\0\0\0\0",
-    b"\x00\x08\x06\x06TOP\0",
-    b"\x00\x04\x08\x00",
-    b"\x00\x06\x0D\x02\x00\x01",
-    b"\x00\x06\x0E\x02\x00\x00",
-    b"\x00\x2C\x10\x03\0\0\0\0\0\0\0\0\0\0\0\x0A\0\0\0\0\0\0\0\x0A\0\0\0\x0A\0\0\0\0\0\0\0\x0A\0\0\0\0\0\0\0\0",
-    b"\x00\x04\x11\x00",
-    b"\x00\x04\x07\x00",
-    b"\x00\x04\x04\x00",
-];
+mod squares;
 
-/// The bytes of these records.
-fn square(alloc: Global) -> Result<Vec<u8>, AllocError> {
-    let mut bytes = Vec::with_capacity(alloc, 168)?;
-    for record in RECORDS.iter() {
-        bytes.extend_from_slice(record)?;
-    }
-    Ok(bytes)
-}
-
-/// Where each record of `square` begins, its type, and how long its payload is.
-const SQUARE: [(u64, u8, u64); 13] = [
-    (0, record_type::HEADER, 2),
-    (6, record_type::BGNLIB, 24),
-    (34, record_type::LIBNAME, 2),
-    (40, record_type::UNITS, 16),
-    (60, record_type::BGNSTR, 24),
-    (88, record_type::STRNAME, 4),
-    (96, record_type::BOUNDARY, 0),
-    (100, record_type::LAYER, 2),
-    (106, record_type::DATATYPE, 2),
-    (112, record_type::XY, 40),
-    (156, record_type::ENDEL, 0),
-    (160, record_type::ENDSTR, 0),
-    (164, record_type::ENDLIB, 0),
-];
-
-/// The start of the record of `square` that isn't whole in its first `k` bytes, or `k` between records.
-fn begun(k: u64) -> u64 {
-    let mut start = k;
-    for (at, _, len) in SQUARE {
-        if at < k && k - at < len.saturating_add(4) {
-            start = at;
-        }
-    }
-    start
-}
+use squares::{SQUARE, begun, square};
 
 /// How it went to read records up to the end or to a fault.
 #[derive(Clone, Copy, PartialEq, Eq)]
@@ -87,14 +36,14 @@ fn has_failed<R: Read>(records: &mut Records<R>) -> bool {
     matches!(records.next(), Err(Stopped::Failed)) && records.tail() == Err(Stopped::Failed)
 }
 
-/// Every call answers `Failed`, and the offset stays.
-fn check_failed<R: Read>(rt: &impl Abort, records: &mut Records<R>) {
+/// Whether every call answers `Failed`, and the offset stays.
+fn stays_failed<R: Read>(records: &mut Records<R>) -> bool {
     let offset = records.offset();
-    assert!(rt; has_failed(records) && records.offset() == offset);
+    has_failed(records) && records.offset() == offset
 }
 
 /// Reads records up to the end or to a fault, after which every call has to answer `Failed`.
-fn read_on<R: Read>(rt: &impl Abort, records: &mut Records<R>) -> Walk {
+fn read_on<R: Read>(records: &mut Records<R>) -> Result<Walk, Fail> {
     let mut count = 0u32;
     let mut checksum = 0u64;
     let mut found = None;
@@ -109,25 +58,25 @@ fn read_on<R: Read>(rt: &impl Abort, records: &mut Records<R>) -> Walk {
                 found = Some(fault);
                 break;
             }
-            Err(Stopped::Failed) => panic!(rt; "no call met a fault"),
+            Err(Stopped::Failed) => return Err("no call met a fault".into()),
         }
     }
     let offset = records.offset();
-    if found.is_some() {
-        check_failed(rt, records);
+    if found.is_some() && !stays_failed(records) {
+        return Err("a call after a fault".into());
     }
-    Walk {
+    Ok(Walk {
         records: count,
         checksum,
         fault: found,
         offset,
-    }
+    })
 }
 
 /// How it goes to read these bytes, at most `most` at a read.
-fn walk_of(rt: &impl Abort, alloc: Global, bytes: &[u8], most: usize) -> Result<Walk, AllocError> {
+fn walk_of(alloc: Global, bytes: &[u8], most: usize) -> Result<Walk, Fail> {
     let mut records = Records::new(alloc, Pieces::new(bytes, most))?;
-    Ok(read_on(rt, &mut records))
+    read_on(&mut records)
 }
 
 /// Where the next record begins, its type, and how long its payload is.
@@ -141,21 +90,26 @@ fn next_of<R: Read>(records: &mut Records<R>) -> Option<(u64, u8, u64)> {
     }
 }
 
-/// The records are those of `square`, and no more.
-fn read_square<R: Read>(rt: &impl Abort, records: &mut Records<R>) {
-    for row in SQUARE {
-        assert!(rt; next_of(records) == Some(row));
+/// Whether the records are those of `square`, and no more.
+fn are_of_square<R: Read>(records: &mut Records<R>) -> bool {
+    for row in &SQUARE {
+        if next_of(records) != Some(*row) {
+            return false;
+        }
     }
-    assert!(rt; matches!(records.next(), Ok(None)));
-    assert!(rt; records.offset() == 168);
+    matches!(records.next(), Ok(None)) && records.offset() == 168
+}
+
+/// Whether these are the bytes of `square`, by their records.
+fn is_square(alloc: Global, bytes: &[u8]) -> Result<bool, AllocError> {
+    let mut records = Records::new(alloc, Pieces::new(bytes, 168))?;
+    Ok(bytes.len() == 168 && are_of_square(&mut records))
 }
 
 #[test]
 fn reads_a_square(rt: HostRuntime) -> Result<(), Fail> {
     let bytes = square(rt.alloc())?;
-    assert!(rt; bytes.len() == 168);
-    let mut records = Records::new(rt.alloc(), Pieces::new(&bytes, 168))?;
-    read_square(&rt, &mut records);
+    assert!(rt; is_square(rt.alloc(), &bytes)?);
     Ok(())
 }
 
@@ -189,36 +143,28 @@ fn stop_text(alloc: Global, walk: Walk) -> Result<String, AllocError> {
 }
 
 /// How it goes to read the bytes of a row.
-fn stop_of(rt: &impl Abort, alloc: Global, words: &str) -> Result<String, Fail> {
-    let bytes = bytes_of(alloc, words)?;
-    stop_text(alloc, walk_of(rt, alloc, &bytes, 100)?).map_err(Fail::from)
+fn stop_of(alloc: Global, words: &str) -> Result<String, Fail> {
+    let walk = walk_of(alloc, &bytes_of(alloc, words)?, 100)?;
+    stop_text(alloc, walk).map_err(Fail::from)
 }
 
 #[test]
 fn tests_a_header_in_order(rt: HostRuntime) -> Result<(), Fail> {
-    for row in HEADERS.lines() {
-        let (words, want) = cut(row, " | ");
-        check_text(&rt, &stop_of(&rt, rt.alloc(), words)?, want, row);
-    }
-    Ok(())
+    rows_give(rt.alloc(), HEADERS, stop_of)
 }
 
-/// What is reported of the first `k` bytes of `square`.
-fn check_cut(rt: &impl Abort, alloc: Global, bytes: &[u8], k: usize) -> Result<(), Fail> {
-    let walk = walk_of(rt, alloc, bytes, 100)?;
-    let start = begun(k as u64);
-    let fault = (start < k as u64).then_some(RecordFault::Truncated);
-    assert!(rt; walk.fault == fault && walk.offset == start, "cut to {k}");
-    Ok(())
+/// Whether the first bytes of `square` are truncated, or end between two records.
+fn is_truncated(alloc: Global, bytes: &[u8]) -> Result<bool, Fail> {
+    let walk = walk_of(alloc, bytes, 100)?;
+    let start = begun(bytes.len() as u64);
+    let fault = (start < bytes.len() as u64).then_some(RecordFault::Truncated);
+    Ok(walk.fault == fault && walk.offset == start)
 }
 
 #[test]
 fn reports_each_cut(rt: HostRuntime) -> Result<(), Fail> {
     let bytes = square(rt.alloc())?;
-    for k in 0..bytes.len() {
-        check_cut(&rt, rt.alloc(), &bytes[..k], k)?;
-    }
-    Ok(())
+    cuts_hold(rt.alloc(), &bytes, 168, is_truncated)
 }
 
 /// The bytes of `square`, a number of zeros, and the rest.
@@ -251,52 +197,80 @@ fn is_tail<R: Read>(records: &mut Records<R>, other: Option<u64>, end: u64) -> b
     records.tail() == Ok(other) && records.offset() == end
 }
 
-/// Checks the tail of the bytes of a row, however they are cut.
-fn check_end(rt: &impl Abort, alloc: Global, row: &str) -> Result<(), Fail> {
+/// Whether the tail of these bytes is this, where at most `most` are read at once.
+fn has_tail(
+    alloc: Global,
+    bytes: &[u8],
+    most: usize,
+    other: Option<u64>,
+    end: u64,
+) -> Result<bool, AllocError> {
+    let mut records = Records::new(alloc, Pieces::new(bytes, most))?;
+    Ok(is_tail(&mut records, other, end))
+}
+
+/// Whether the tail of these bytes is this, however they are cut.
+fn has_tails(
+    alloc: Global,
+    bytes: &[u8],
+    other: Option<u64>,
+    end: u64,
+) -> Result<bool, AllocError> {
+    for most in [1, 3, 65_536] {
+        if !has_tail(alloc, bytes, most, other, end)? {
+            return Ok(false);
+        }
+    }
+    Ok(true)
+}
+
+/// Whether the bytes of a row have its tail.
+fn row_has_tail(alloc: Global, row: &str) -> Result<bool, Fail> {
     let (zeros, words) = cut(row, " |");
     let (rest, other) = cut(words, "| ");
     let zeros = zeros.parse::<usize>()?;
+    let end = zeros.saturating_add(168) as u64;
     let bytes = padded(alloc, zeros, rest)?;
-    let other = other.parse::<u64>().ok();
-    for most in [1, 3, 65_536] {
-        let mut records = Records::new(alloc, Pieces::new(&bytes, most))?;
-        assert!(rt;
-            is_tail(&mut records, other, zeros.saturating_add(168) as u64),
-            "{row}"
-        );
-    }
-    Ok(())
+    has_tails(alloc, &bytes, other.parse::<u64>().ok(), end).map_err(Fail::from)
 }
 
 #[test]
 fn takes_zero_bytes_alone_after_the_end(rt: HostRuntime) -> Result<(), Fail> {
-    for row in ENDS.lines() {
-        check_end(&rt, rt.alloc(), row)?;
-    }
-    Ok(())
+    rows_hold(rt.alloc(), ENDS, row_has_tail)
 }
 
-/// These bytes, of which one was changed, are records up to the end or to a fault of their own.
-fn check_changed(rt: &impl Abort, alloc: Global, bytes: &[u8]) -> Result<(), Fail> {
-    let walk = walk_of(rt, alloc, bytes, 1000)?;
-    let is_its_own = match walk.fault {
+/// Whether these bytes, of which one was changed, are records up to the end or to a fault of their own.
+fn is_read(alloc: Global, bytes: &[u8]) -> Result<bool, Fail> {
+    let walk = walk_of(alloc, bytes, 1000)?;
+    Ok(match walk.fault {
         Some(fault) => fault != RecordFault::Read && fault != RecordFault::TooLong,
         None => walk.offset == 168,
-    };
-    assert!(rt; is_its_own);
-    Ok(())
+    })
+}
+
+/// Whether the bytes are read with each value at a place.
+fn is_each_read(alloc: Global, bytes: &mut [u8], place: usize) -> Result<bool, Fail> {
+    for value in 0..=255u8 {
+        if let Some(byte) = bytes.get_mut(place) {
+            *byte = value;
+        }
+        if !is_read(alloc, bytes)? {
+            return Ok(false);
+        }
+    }
+    Ok(true)
+}
+
+/// Whether the bytes of `square` are read with each value at a place.
+fn square_is_read(alloc: Global, place: usize) -> Result<bool, Fail> {
+    let mut bytes = square(alloc)?;
+    is_each_read(alloc, &mut bytes, place)
 }
 
 #[test]
 fn gives_each_byte_a_record_or_a_fault(rt: HostRuntime) -> Result<(), Fail> {
-    let bytes = square(rt.alloc())?;
-    let mut changed = square(rt.alloc())?;
-    for k in 0..bytes.len().min(changed.len()) {
-        for value in 0..=255u8 {
-            changed[k] = value;
-            check_changed(&rt, rt.alloc(), &changed)?;
-        }
-        changed[k] = bytes[k];
+    for place in 0..168 {
+        assert!(rt; square_is_read(rt.alloc(), place)?, "byte {place}");
     }
     Ok(())
 }
@@ -319,39 +293,47 @@ fn long(alloc: Global) -> Result<Vec<u8>, AllocError> {
     Ok(bytes)
 }
 
+/// Whether the walk is along three long records and three times those of `square`.
+fn is_long(walk: &Walk) -> bool {
+    walk.records == 42 && walk.fault.is_none() && walk.offset == 3 * 65_702
+}
+
+/// Whether these long bytes are read alike, however they are cut.
+fn is_alike(alloc: Global, bytes: &[u8]) -> Result<bool, Fail> {
+    let want = walk_of(alloc, bytes, 1_000_000)?;
+    for most in [1, 2, 3, 65_535, 65_536] {
+        if walk_of(alloc, bytes, most)? != want {
+            return Ok(false);
+        }
+    }
+    Ok(is_long(&want))
+}
+
 #[test]
 fn reads_pieces_of_any_size_alike(rt: HostRuntime) -> Result<(), Fail> {
     let bytes = long(rt.alloc())?;
-    let want = walk_of(&rt, rt.alloc(), &bytes, 1_000_000)?;
-    assert!(rt; want.records == 42 && want.fault.is_none() && want.offset == 3 * 65_702);
-    for most in [1, 2, 3, 65_535, 65_536] {
-        let walk = walk_of(&rt, rt.alloc(), &bytes, most)?;
-        assert!(rt; walk == want, "pieces of {most}");
-    }
+    assert!(rt; is_alike(rt.alloc(), &bytes)?);
     Ok(())
 }
 
-/// The fault and the offset at which it ends to read these bytes from a reader that then fails, and how often it
-/// has failed.
-fn walk_failing(
-    rt: &impl Abort,
-    alloc: Global,
-    bytes: &[u8],
-) -> Result<(Option<RecordFault>, u64, u64), AllocError> {
+/// How it goes to read these bytes from a reader that then fails, and how often it has failed.
+fn walk_failing(alloc: Global, bytes: &[u8]) -> Result<(Walk, u64), Fail> {
     let mut records = Records::new(alloc, Pieces::failing(bytes, 100))?;
-    let walk = read_on(rt, &mut records);
-    Ok((walk.fault, walk.offset, records.into_reader().errors))
+    let walk = read_on(&mut records)?;
+    Ok((walk, records.into_reader().errors))
+}
+
+/// Whether a reader that fails after these bytes is reported, once and at the record that isn't whole.
+fn is_reported(alloc: Global, bytes: &[u8]) -> Result<bool, Fail> {
+    let (walk, errors) = walk_failing(alloc, bytes)?;
+    let start = begun(bytes.len() as u64);
+    Ok(walk.fault == Some(RecordFault::Read) && walk.offset == start && errors == 1)
 }
 
 #[test]
 fn reports_a_failed_read_once(rt: HostRuntime) -> Result<(), Fail> {
     let bytes = square(rt.alloc())?;
-    for k in 0..=bytes.len() {
-        let found = walk_failing(&rt, rt.alloc(), &bytes[..k])?;
-        let want = (Some(RecordFault::Read), begun(k as u64), 1);
-        assert!(rt; found == want, "after {k}");
-    }
-    Ok(())
+    cuts_hold(rt.alloc(), &bytes, 169, is_reported)
 }
 
 /// Whether the tail fails after the given number of zero bytes, and again at once.
@@ -361,21 +343,16 @@ fn is_tail_failing<R: Read>(records: &mut Records<R>, zeros: usize) -> bool {
         && records.tail() == Err(Stopped::Failed)
 }
 
-/// The tail of these zeros fails, and the reader has failed once.
-fn check_failing_tail(rt: &impl Abort, alloc: Global, zeros: &[u8]) -> Result<(), Fail> {
+/// Whether the tail of these zeros fails, and the reader has failed once.
+fn has_failing_tail(alloc: Global, zeros: &[u8]) -> Result<bool, Fail> {
     let mut records = Records::new(alloc, Pieces::failing(zeros, 7))?;
     let is_failing = is_tail_failing(&mut records, zeros.len());
-    assert!(rt; is_failing && records.into_reader().errors == 1);
-    Ok(())
+    Ok(is_failing && records.into_reader().errors == 1)
 }
 
 #[test]
 fn reports_a_failed_read_of_the_tail_once(rt: HostRuntime) -> Result<(), Fail> {
-    let zeros = [0; 100];
-    for k in 0..100usize {
-        check_failing_tail(&rt, rt.alloc(), &zeros[..k])?;
-    }
-    Ok(())
+    cuts_hold(rt.alloc(), &[0; 100], 100, has_failing_tail)
 }
 
 /// The type of the first record.

@@ -68,12 +68,11 @@ fn read(alloc: Global, bytes: &[u8], ignore: Ignore) -> Result<String, Fail> {
         ignore,
         ..Profile::STANDARD
     };
-    let text = match read_gds_with(alloc, &mut Pieces::new(bytes, 7), profile) {
+    match read_gds_with(alloc, &mut Pieces::new(bytes, 7), profile) {
         Ok((library, _)) => library_text(alloc, &library),
-        Err(Cause::Breach(fault)) => fault_text(alloc, fault),
-        Err(Cause::OutOfMemory) => Err(AllocError),
-    };
-    text.map_err(Fail::from)
+        Err(Cause::Breach(fault)) => fault_text(alloc, fault).map_err(Fail::from),
+        Err(Cause::OutOfMemory) => Err(Fail::from(AllocError)),
+    }
 }
 
 /// The text of a library that draws these rings, or of the refusal by that rule of paths.

@@ -62,3 +62,37 @@ pub(crate) fn rows_give(
     }
     Ok(())
 }
+
+/// Fails at the first row that doesn't hold.
+pub(crate) fn rows_hold(
+    alloc: Global,
+    rows: &str,
+    row_holds: fn(Global, &str) -> Result<bool, Fail>,
+) -> Result<(), Fail>
+    requires { IsAlwaysCallable row_holds }
+{
+    for row in rows.lines() {
+        if !row_holds(alloc, row)? {
+            return Err(Fail::new(row));
+        }
+    }
+    Ok(())
+}
+
+/// Fails at the first of so many beginnings of the bytes that doesn't hold: the shortest has no byte.
+pub(crate) fn cuts_hold(
+    alloc: Global,
+    bytes: &[u8],
+    count: usize,
+    cut_holds: fn(Global, &[u8]) -> Result<bool, Fail>,
+) -> Result<(), Fail>
+    requires { IsAlwaysCallable cut_holds }
+{
+    for k in 0..count {
+        let cut = bytes.get(..k).ok_or("bytes")?;
+        if !cut_holds(alloc, cut)? {
+            return Err(Fail::new(format_args!("cut to {k}")));
+        }
+    }
+    Ok(())
+}

@@ -3,7 +3,6 @@ use super::{at, begun, fault_of, square};
 use gds_library::{ElementRule, GdsFault, GdsKind};
 use lvl_refusal::Cause;
 use std::alloc::Global;
-use std::process::Abort;
 use std::test::Fail;
 
 /// Whether it matters not how a reader cuts these bytes.
@@ -17,27 +16,34 @@ fn is_alike(alloc: Global, bytes: &[u8]) -> bool {
     true
 }
 
-/// Turns each bit of the byte at a place, one after another, and then leaves it as it was.
-fn turn_bits(rt: &impl Abort, alloc: Global, bytes: &mut [u8], k: usize) {
-    let kept = bytes.get(k).copied().unwrap_or(0);
+/// Whether it matters not how a reader cuts the bytes with this value at a place.
+fn is_alike_with(alloc: Global, bytes: &mut [u8], place: usize, value: u8) -> bool {
+    if let Some(byte) = bytes.get_mut(place) {
+        *byte = value;
+    }
+    is_alike(alloc, bytes)
+}
+
+/// The same whichever bit of the byte at a place is another, which is then as it was.
+fn are_bits_alike(alloc: Global, bytes: &mut [u8], place: usize) -> bool {
+    let kept = bytes.get(place).copied().unwrap_or(0);
     for bit in [1, 2, 4, 8, 16, 32, 64, 128] {
-        let value = kept ^ bit;
-        if let Some(byte) = bytes.get_mut(k) {
-            *byte = value;
+        if !is_alike_with(alloc, bytes, place, kept ^ bit) {
+            return false;
         }
-        assert!(rt; is_alike(alloc, bytes), "byte {k} is {value}");
     }
-    if let Some(byte) = bytes.get_mut(k) {
-        *byte = kept;
-    }
+    is_alike_with(alloc, bytes, place, kept)
 }
 
 /// Whichever bit is another, it matters not how a reader cuts the bytes.
 #[test]
 fn reads_pieces_of_any_size_alike(rt: HostRuntime) -> Result<(), Fail> {
     let mut bytes = square(rt.alloc())?;
-    for k in 0..bytes.len() {
-        turn_bits(&rt, rt.alloc(), &mut bytes, k);
+    for place in 0..bytes.len() {
+        assert!(rt;
+            are_bits_alike(rt.alloc(), &mut bytes, place),
+            "byte {place}"
+        );
     }
     Ok(())
 }
@@ -87,28 +93,38 @@ fn is_reported(place: usize, value: u8, fault: Option<Cause<GdsFault>>) -> bool 
     }
 }
 
-/// What is reported of `square` with the byte at a place set to each value.
-fn set_each(rt: &impl Abort, alloc: Global, bytes: &mut [u8], place: usize, kept: u8) {
-    for value in 0..=255u8 {
-        if let Some(byte) = bytes.get_mut(place) {
-            *byte = value;
-        }
-        let fault = fault_of(alloc, bytes, 1000);
-        let is_right = if value == kept {
-            fault.is_none()
-        } else {
-            is_reported(place, value, fault)
-        };
-        assert!(rt; is_right, "byte {place} is {value}");
+/// Whether that is reported of `square` with the byte at a place set to a value.
+fn is_right_with(alloc: Global, bytes: &mut [u8], place: usize, value: u8, kept: u8) -> bool {
+    if let Some(byte) = bytes.get_mut(place) {
+        *byte = value;
     }
+    let fault = fault_of(alloc, bytes, 1000);
+    if value == kept {
+        fault.is_none()
+    } else {
+        is_reported(place, value, fault)
+    }
+}
+
+/// The same with each value, of which the last is the one that the byte had.
+fn is_right_with_each(alloc: Global, bytes: &mut [u8], place: usize) -> bool {
+    let kept = bytes.get(place).copied().unwrap_or(0);
+    for value in 0..=255u8 {
+        if !is_right_with(alloc, bytes, place, value, kept) {
+            return false;
+        }
+    }
+    is_right_with(alloc, bytes, place, kept, kept)
 }
 
 #[test]
 fn reports_each_byte_that_is_set(rt: HostRuntime) -> Result<(), Fail> {
-    let square = square(rt.alloc())?;
-    for (place, kept) in square.iter().enumerate() {
-        let mut bytes = Vec::from_slice(rt.alloc(), &square)?;
-        set_each(&rt, rt.alloc(), &mut bytes, place, *kept);
+    let mut bytes = square(rt.alloc())?;
+    for place in 0..bytes.len() {
+        assert!(rt;
+            is_right_with_each(rt.alloc(), &mut bytes, place),
+            "byte {place}"
+        );
     }
     Ok(())
 }
