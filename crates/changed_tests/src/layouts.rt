@@ -28,7 +28,7 @@ fn number_or(text: &str, other: i64) -> Result<i64, Fail> {
     if text.is_empty() {
         return Ok(other);
     }
-    Ok(text.parse::<i64>()?)
+    text.parse::<i64>().map_err(Fail::from)
 }
 
 /// What is before the mark, and what is after it.
@@ -36,9 +36,29 @@ pub(crate) fn cut<'a>(text: &'a str, mark: &str) -> (&'a str, &'a str) {
     text.split_once(mark).unwrap_or((text, ""))
 }
 
-fn add_box(alloc: Global, cells: &mut Builder, left: &str, rest: &str) -> Result<(), Fail> {
-    let (right, on) = cut(rest, "@");
+/// Fails at the first row that doesn't hold.
+pub(crate) fn rows_hold(
+    alloc: Global,
+    rows: &str,
+    row_holds: fn(Global, &str) -> Result<bool, Fail>,
+) -> Result<(), Fail>
+    requires { IsAlwaysCallable row_holds }
+{
+    for row in rows.lines() {
+        if !row_holds(alloc, row)? {
+            return Err(Fail::new(row));
+        }
+    }
+    Ok(())
+}
+
+/// The layer of a box, which may be given.
+fn layer_or_first(on: &str) -> Result<Layer, Fail> {
     let layer = if on.is_empty() { 1 } else { on.parse::<u32>()? };
+    Ok(Layer { layer, datatype: 0 })
+}
+
+fn rectangle(alloc: Global, left: &str, right: &str) -> Result<Ring, Fail> {
     let low = Point {
         x: left.parse::<i64>()?,
         y: 0,
@@ -47,10 +67,15 @@ fn add_box(alloc: Global, cells: &mut Builder, left: &str, rest: &str) -> Result
         x: right.parse::<i64>()?,
         y: 1,
     };
-    let ring = Ring::rectangle(alloc, low, high)?;
-    let layer = Layer { layer, datatype: 0 };
-    cells.add_ring(layer, ring.points(), &Offsets::single())?;
-    Ok(())
+    Ring::rectangle(alloc, low, high).map_err(Fail::from)
+}
+
+fn add_box(alloc: Global, cells: &mut Builder, left: &str, rest: &str) -> Result<(), Fail> {
+    let (right, on) = cut(rest, "@");
+    let layer = layer_or_first(on)?;
+    let ring = rectangle(alloc, left, right)?;
+    let added = cells.add_ring(layer, ring.points(), &Offsets::single());
+    added.map_err(Fail::from)
 }
 
 /// How a cell is reflected and turned.
@@ -64,29 +89,57 @@ fn turned(word: &str) -> (bool, Turn) {
     }
 }
 
-fn add_places(alloc: Global, cells: &mut Builder, word: &str) -> Result<(), Fail> {
+/// The shifts of so many places, perhaps with a number of rows and a step from one place to the next.
+fn shifts(count: &str, rows: &str, step: &str) -> Result<Offsets, Fail> {
+    let across = Point {
+        x: number_or(step, STEP.x)?,
+        y: 0,
+    };
+    let count = count.parse::<u64>()?;
+    let many = number_or(rows, 1)?.unsigned_abs();
+    let shifts = Offsets::lattice(across, count, step_up(rows), many);
+    shifts.ok_or("shifts").map_err(Fail::from)
+}
+
+/// What places the cell of that name at these shifts.
+fn placing(
+    alloc: Global,
+    name: &str,
+    by: &str,
+    at: Point,
+    shifts: Offsets,
+) -> Result<Reference, Fail> {
+    let (flip, turn) = turned(by);
+    let name = Name::of(alloc, name.as_bytes())?;
+    let placing = Reference::new(name, flip, turn, at, shifts);
+    placing.ok_or("places").map_err(Fail::from)
+}
+
+/// What places the cell of a word.
+fn placing_of(alloc: Global, word: &str) -> Result<Reference, Fail> {
     let (name, rest) = cut(word, ",");
     let (x, rest) = cut(rest, ",");
     let (count, rest) = cut(rest, ",");
     let (by, rest) = cut(rest, ",");
     let (rows, rest) = cut(rest, ",");
     let (y, step) = cut(rest, ",");
-    let (flip, turn) = turned(by);
     let at = Point {
         x: x.parse::<i64>()?,
         y: number_or(y, 0)?,
     };
-    let across = Point {
-        x: number_or(step, STEP.x)?,
-        y: 0,
-    };
-    let up = step_up(rows);
-    let rows = number_or(rows, 1)?.unsigned_abs();
-    let shifts = Offsets::lattice(across, count.parse::<u64>()?, up, rows).ok_or("shifts")?;
-    let name = Name::new(Vec::from_slice(alloc, name.as_bytes())?)?;
-    let reference = Reference::new(name, flip, turn, at, shifts).ok_or("places")?;
-    cells.add_reference(reference)?;
-    Ok(())
+    placing(alloc, name, by, at, shifts(count, rows, step)?)
+}
+
+fn add_places(alloc: Global, cells: &mut Builder, word: &str) -> Result<(), Fail> {
+    let placing = placing_of(alloc, word)?;
+    cells.add_reference(placing).map_err(Fail::from)
+}
+
+fn add_word(alloc: Global, cells: &mut Builder, word: &str) -> Result<(), Fail> {
+    match word.split_once("..") {
+        Some((left, right)) => add_box(alloc, cells, left, right),
+        None => add_places(alloc, cells, word),
+    }
 }
 
 fn add_cell(alloc: Global, cells: &mut Builder, text: &str) -> Result<(), Fail> {
@@ -94,13 +147,9 @@ fn add_cell(alloc: Global, cells: &mut Builder, text: &str) -> Result<(), Fail> 
     let name = words.next().ok_or("a name")?;
     cells.open(alloc, name.as_bytes())?;
     for word in words {
-        match word.split_once("..") {
-            Some((left, right)) => add_box(alloc, cells, left, right)?,
-            None => add_places(alloc, cells, word)?,
-        }
+        add_word(alloc, cells, word)?;
     }
-    cells.close(alloc)?;
-    Ok(())
+    cells.close(alloc).map_err(Fail::from)
 }
 
 fn add_cells(alloc: Global, cells: &mut Builder, text: &str) -> Result<(), Fail> {
@@ -119,12 +168,12 @@ fn built(alloc: Global, text: &str) -> Result<Library, Fail> {
 /// The library that the text says, checked.
 pub(crate) fn library(alloc: Global, text: &str) -> Result<Checked, Fail> {
     let top = text.split_whitespace().next().ok_or("a top")?;
-    Ok(check(alloc, built(alloc, text)?, Some(top.as_bytes()))?)
+    check(alloc, built(alloc, text)?, Some(top.as_bytes())).map_err(Fail::from)
 }
 
 /// The library that the text says, checked, which is to fit 64 bits.
 pub(crate) fn fitted(alloc: Global, text: &str) -> Result<Fitted, Fail> {
-    Ok(Fitted::new(alloc, library(alloc, text)?)?)
+    Fitted::new(alloc, library(alloc, text)?).map_err(Fail::from)
 }
 
 /// Two libraries that are compared.

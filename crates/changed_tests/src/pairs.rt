@@ -1,5 +1,5 @@
 //! Pairs of libraries that differ by one change each.
-use crate::layouts::{Pair, cut, fitted_pair, library};
+use crate::layouts::{Pair, cut, fitted_pair, library, rows_hold};
 use lvl_changed::{Changes, changed, difference_by_changes, pays_by_cells, same_by_cells};
 use lvl_compare::difference_by_strips;
 use lvl_flat::fits_by_boxes;
@@ -15,38 +15,46 @@ const METAL: Layer = Layer {
     datatype: 0,
 };
 
+fn add_window(text: &mut String, window: &Window) -> Result<(), AllocError> {
+    let Window { x0, y0, x1, y1 } = *window;
+    write!(text, " {x0},{y0},{x1},{y1}").or(Err(AllocError))
+}
+
+fn add_windows(text: &mut String, windows: &[Window]) -> Result<(), AllocError> {
+    for window in windows {
+        add_window(text, window)?;
+    }
+    Ok(())
+}
+
 /// The windows from left to right, each as its four coordinates.
 fn windows_text(alloc: Global, mut windows: Vec<Window>) -> Result<String, AllocError> {
     windows.sort_unstable_by_key(|window| (window.x0, window.y0));
     let mut text = String::new(alloc);
-    for window in &windows {
-        let Window { x0, y0, x1, y1 } = *window;
-        let word = format!(in alloc; " {x0},{y0},{x1},{y1}")?;
-        text.push_str(&word)?;
-    }
+    add_windows(&mut text, &windows)?;
     Ok(text)
 }
 
-/// The layers in order, each after the mark that boxes have.
-fn layers_text(alloc: Global, layers: Vec<Layer>) -> Result<String, AllocError> {
-    let mut text = String::new(alloc);
-    for layer in &in_order(layers)? {
-        let number = layer.layer;
-        let word = format!(in alloc; " @{number}")?;
-        text.push_str(&word)?;
+fn add_each_layer(text: &mut String, layers: &[Layer]) -> Result<(), AllocError> {
+    for layer in layers {
+        write!(text, " @{}", layer.layer).or(Err(AllocError))?;
     }
-    Ok(text)
+    Ok(())
+}
+
+/// Appends the layers in order, each after the mark that boxes have.
+fn add_layers(text: &mut String, layers: Option<Vec<Layer>>) -> Result<(), AllocError> {
+    match layers {
+        Some(layers) => add_each_layer(text, &in_order(layers)?),
+        None => text.push_str(" @any"),
+    }
 }
 
 /// The windows and the layers.
 pub(crate) fn changes_text(alloc: Global, changes: Changes) -> Result<String, AllocError> {
     let Changes { windows, layers } = changes;
     let mut text = windows_text(alloc, windows)?;
-    let layers = match layers {
-        Some(layers) => layers_text(alloc, layers)?,
-        None => String::from_str(alloc, " @any")?,
-    };
-    text.push_str(&layers)?;
+    add_layers(&mut text, layers)?;
     Ok(text)
 }
 
@@ -164,10 +172,12 @@ fn found_twice(alloc: Global, pair: &Pair, most: usize) -> Result<Found, Fail> {
 /// The first square that differs, found by `difference_by_changes`, which has to be what strips find.
 fn difference_text(alloc: Global, pair: &Pair, most: usize) -> Result<String, Fail> {
     let (found, is_plain) = found_twice(alloc, pair, most)?;
-    if !is_plain {
-        return Ok(String::from_str(alloc, "not what strips find")?);
-    }
-    Ok(found_text(alloc, found)?)
+    let text = if is_plain {
+        found_text(alloc, found)
+    } else {
+        String::from_str(alloc, "not what strips find")
+    };
+    text.map_err(Fail::from)
 }
 
 /// Whether these are the windows in which both libraries may differ.
@@ -206,11 +216,19 @@ fn wrong_in_row(alloc: Global, row: &str) -> Result<Option<&'static str>, Fail> 
     first_wrong(alloc, &pair, windows, want)
 }
 
+/// Fails if something is wrong of the libraries of a row, whose name is before them.
+fn check_row(alloc: Global, row: &str) -> Result<(), Fail> {
+    let (name, row) = cut(row, " | ");
+    match wrong_in_row(alloc, row)? {
+        Some(wrong) => Err(Fail::new(format_args!("{name}: {wrong}"))),
+        None => Ok(()),
+    }
+}
+
 #[test]
 fn pairs_of_libraries(rt: HostRuntime) -> Result<(), Fail> {
     for row in PAIRS.lines() {
-        let (name, row) = cut(row, " | ");
-        assert_eq!(rt; wrong_in_row(rt.alloc(), row)?, None, "{name}");
+        check_row(rt.alloc(), row)?;
     }
     Ok(())
 }
@@ -241,22 +259,18 @@ rows of a cell that is changed | T R,0,2000,0,1,0,20000; R A,0,2000,0; A 0..2 | 
     T A,0,4000000,0; A 0..2 7..8@2 | 7,0,39999998,1 @2
 ";
 
-/// Where the libraries of a row may differ, and where that says that they may.
-fn changes_of_row<'a>(alloc: Global, row: &'a str) -> Result<(String, &'a str), Fail> {
+/// Whether the libraries of a row may differ where it says.
+fn row_is_changed(alloc: Global, row: &str) -> Result<bool, Fail> {
+    let (_, row) = cut(row, " | ");
     let (ours, row) = cut(row, " | ");
     let (theirs, windows) = cut(row, " |");
     let pair = fitted_pair(alloc, ours, theirs)?;
-    Ok((changed_text(alloc, &pair)?, windows))
+    changes_within(alloc, &pair, windows)
 }
 
 #[test]
 fn large_pairs(rt: HostRuntime) -> Result<(), Fail> {
-    for row in LARGE.lines() {
-        let (name, row) = cut(row, " | ");
-        let (found, want) = changes_of_row(rt.alloc(), row)?;
-        assert_eq!(rt; found.as_str(), want, "{name}");
-    }
-    Ok(())
+    rows_hold(rt.alloc(), LARGE, row_is_changed)
 }
 
 fn many_changed(alloc: Global) -> Result<Pair, Fail> {
@@ -270,24 +284,21 @@ fn windows_of(alloc: Global, pair: &Pair) -> Result<usize, Fail> {
     Ok(changes.ok_or("windows")?.windows.len())
 }
 
-/// How many windows there are, and what `found_twice` finds with few points for a strip.
-fn windows_and_found(alloc: Global, pair: &Pair) -> Result<(usize, Found), Fail> {
-    Ok((windows_of(alloc, pair)?, found_twice(alloc, pair, 16)?))
+/// Whether strips find the same, which is the square at (5, 0) that the second alone covers.
+fn is_at_five(found: Found) -> bool {
+    found == (Some((METAL, Square { x: 5, y: 0 }, Side::Second)), true)
 }
 
-/// How many windows there are where there are many, and what is found in them.
-fn found_in_many(alloc: Global) -> Result<(usize, Found), Fail> {
-    let pair = many_changed(alloc)?;
-    windows_and_found(alloc, &pair)
+/// Whether 64 windows are kept, and the first square is found with few points for a strip.
+fn are_kept(alloc: Global, pair: &Pair) -> Result<bool, Fail> {
+    Ok(windows_of(alloc, pair)? == 64 && is_at_five(found_twice(alloc, pair, 16)?))
 }
 
 /// Of many windows 64 are kept, and no square is lost.
 #[test]
 fn many_windows(rt: HostRuntime) -> Result<(), Fail> {
-    let (windows, (found, is_plain)) = found_in_many(rt.alloc())?;
-    assert_eq!(rt; windows, 64);
-    assert!(rt; is_plain);
-    assert_eq!(rt; found, Some((METAL, Square { x: 5, y: 0 }, Side::Second)));
+    let pair = many_changed(rt.alloc())?;
+    assert!(rt; are_kept(rt.alloc(), &pair)?);
     Ok(())
 }
 
@@ -313,16 +324,17 @@ fn judged(alloc: Global, text: &str) -> Result<(bool, bool), Fail> {
     Ok((fits, pays_by_cells(&library)))
 }
 
+/// Whether the library of a row is judged as it says.
+fn row_is_judged(alloc: Global, row: &str) -> Result<bool, Fail> {
+    let (_, row) = cut(row, " | ");
+    let (text, row) = cut(row, " | ");
+    let (fits, pays) = cut(row, " | ");
+    Ok(judged(alloc, text)? == (fits == "true", pays == "true"))
+}
+
 #[test]
 fn single_libraries(rt: HostRuntime) -> Result<(), Fail> {
-    for row in SINGLE.lines() {
-        let (name, row) = cut(row, " | ");
-        let (text, row) = cut(row, " | ");
-        let (fits, pays) = cut(row, " | ");
-        let want = (fits == "true", pays == "true");
-        assert_eq!(rt; judged(rt.alloc(), text)?, want, "{name}");
-    }
-    Ok(())
+    rows_hold(rt.alloc(), SINGLE, row_is_judged)
 }
 
 fn growing(alloc: Global) -> Result<Pair, Fail> {
@@ -331,19 +343,15 @@ fn growing(alloc: Global) -> Result<Pair, Fail> {
     fitted_pair(alloc, ours, theirs)
 }
 
-fn are_changes_right(alloc: Global, pair: &Pair) -> Result<(bool, bool), Fail> {
+fn are_changes_right(alloc: Global, pair: &Pair) -> Result<bool, Fail> {
     let is_within = changes_within(alloc, pair, " 90,0,92,1 @1")?;
-    Ok((is_within, differs_by(alloc, pair, "1 91 0 second")?))
-}
-
-fn changes_of_growing(alloc: Global) -> Result<(bool, bool), Fail> {
-    let pair = growing(alloc)?;
-    are_changes_right(alloc, &pair)
+    Ok(is_within && differs_by(alloc, pair, "1 91 0 second")?)
 }
 
 /// Run with each allocation refused in turn: it ends with that, or each answer is the libraries' own.
 #[test]
 fn growths_of_changes(rt: HostRuntime) -> Result<(), Fail> {
-    assert_eq!(rt; changes_of_growing(rt.alloc())?, (true, true));
+    let pair = growing(rt.alloc())?;
+    assert!(rt; are_changes_right(rt.alloc(), &pair)?);
     Ok(())
 }

@@ -1,5 +1,5 @@
 //! Changes seen under a view.
-use crate::layouts::{Pair, cut, fitted_pair};
+use crate::layouts::{Pair, cut, fitted_pair, rows_hold};
 use crate::pairs::{changes_text, found_text};
 use lvl_changed::{changed, difference_by_changes};
 use lvl_compare::{difference_by_strips, difference_in_windows, difference_on_layers};
@@ -71,28 +71,30 @@ fn is_right(
     Ok(is_plain && found_text(alloc, found)?.as_str() == want)
 }
 
+/// The view of a map, and perhaps a window after it.
+fn view_of(alloc: Global, text: &str) -> Result<View, Fail> {
+    let (map, window) = match text.split_once(" in ") {
+        Some((map, window)) => (map, Some(window)),
+        None => (text, None),
+    };
+    View::read(alloc, Some(map), window).map_err(Fail::from)
+}
+
 /// Whether the windows and the first square are those of a row, for its libraries and its view.
 fn is_row_right(alloc: Global, row: &str) -> Result<bool, Fail> {
+    let (_, row) = cut(row, " | ");
     let (ours, row) = cut(row, " | ");
     let (theirs, row) = cut(row, " | ");
-    let (map, row) = cut(row, " |");
+    let (view, row) = cut(row, " |");
     let (windows, want) = cut(row, " | ");
-    let (map, window) = match map.split_once(" in ") {
-        Some((map, window)) => (map, Some(window)),
-        None => (map, None),
-    };
-    let view = View::read(alloc, Some(map), window)?;
+    let view = view_of(alloc, view)?;
     let pair = fitted_pair(alloc, ours, theirs)?;
     is_right(alloc, &pair, &view, windows, want)
 }
 
 #[test]
 fn maps_of_layers(rt: HostRuntime) -> Result<(), Fail> {
-    for row in MAPPED.lines() {
-        let (name, row) = cut(row, " | ");
-        assert!(rt; is_row_right(rt.alloc(), row)?, "{name}");
-    }
-    Ok(())
+    rows_hold(rt.alloc(), MAPPED, is_row_right)
 }
 
 /// A window, and the first square of it that differs between the two libraries below.
@@ -131,43 +133,38 @@ fn differs_in(alloc: Global, pair: &Pair, window: &str, want: &str) -> Result<bo
     Ok(found_text(alloc, found)?.as_str() == want)
 }
 
-/// The first window of the rows whose square is another.
-fn wrong_window(
-    alloc: Global,
-    pair: &Pair,
-    rows: &'static str,
-) -> Result<Option<&'static str>, Fail> {
+/// Fails at the first window of the rows whose square is another.
+fn check_windows(alloc: Global, pair: &Pair, rows: &str) -> Result<(), Fail> {
     for row in rows.lines() {
         let (window, want) = cut(row, " | ");
         if !differs_in(alloc, pair, window, want)? {
-            return Ok(Some(window));
+            return Err(Fail::new(row));
         }
     }
-    Ok(None)
+    Ok(())
 }
 
-fn wrong_window_of_moved(alloc: Global) -> Result<Option<&'static str>, Fail> {
+fn check_moved(alloc: Global) -> Result<(), Fail> {
     let pair = with_one_moved(alloc)?;
-    wrong_window(alloc, &pair, SHOWN)
+    check_windows(alloc, &pair, SHOWN)
 }
 
-fn wrong_window_of_often(alloc: Global) -> Result<Option<&'static str>, Fail> {
+fn check_often(alloc: Global) -> Result<(), Fail> {
     let pair = fitted_pair(alloc, "T A,0,8,0; A 0..2", "T A,0,8,0; A 0..2 4..5@9")?;
-    wrong_window(alloc, &pair, SHOWN_OFTEN)
+    check_windows(alloc, &pair, SHOWN_OFTEN)
 }
 
-fn wrong_window_of_drawn(alloc: Global) -> Result<Option<&'static str>, Fail> {
+fn check_drawn(alloc: Global) -> Result<(), Fail> {
     let ours = "T A,0,4,0; A 0..2 V,3,1,0; V 0..1@2";
     let pair = fitted_pair(alloc, ours, "T A,0,4,0; A 0..2 3..4@2")?;
-    wrong_window(alloc, &pair, SHOWN_DRAWN)
+    check_windows(alloc, &pair, SHOWN_DRAWN)
 }
 
 #[test]
 fn windows_of_views(rt: HostRuntime) -> Result<(), Fail> {
-    assert_eq!(rt; wrong_window_of_moved(rt.alloc())?, None);
-    assert_eq!(rt; wrong_window_of_often(rt.alloc())?, None);
-    assert_eq!(rt; wrong_window_of_drawn(rt.alloc())?, None);
-    Ok(())
+    check_moved(rt.alloc())?;
+    check_often(rt.alloc())?;
+    check_drawn(rt.alloc())
 }
 
 /// Two windows of one row of squares, from where to where along it, and the first square that differs in them
@@ -213,26 +210,19 @@ fn differs_alone(
     Ok(found_text(alloc, found)?.as_str() == want)
 }
 
-/// The first row whose square is another.
-fn wrong_row(alloc: Global, pair: &Pair) -> Result<Option<&'static str>, Fail> {
-    for row in ALONE.lines() {
-        let (windows, want) = cut(row, " | ");
-        let windows = two_windows(windows)?;
-        if !differs_alone(alloc, pair, &windows, want)? {
-            return Ok(Some(row));
-        }
-    }
-    Ok(None)
-}
-
-fn wrong_row_of_more(alloc: Global) -> Result<Option<&'static str>, Fail> {
-    let pair = with_more(alloc)?;
-    wrong_row(alloc, &pair)
+/// Whether the first square of a row is the one that differs in its windows.
+fn row_differs_alone(alloc: Global, pair: &Pair, row: &str) -> Result<bool, Fail> {
+    let (windows, want) = cut(row, " | ");
+    let windows = two_windows(windows)?;
+    differs_alone(alloc, pair, &windows, want).map_err(Fail::from)
 }
 
 #[test]
 fn windows_alone(rt: HostRuntime) -> Result<(), Fail> {
-    assert_eq!(rt; wrong_row_of_more(rt.alloc())?, None);
+    let pair = with_more(rt.alloc())?;
+    for row in ALONE.lines() {
+        assert!(rt; row_differs_alone(rt.alloc(), &pair, row)?, "{row}");
+    }
     Ok(())
 }
 
@@ -246,11 +236,17 @@ const LISTED: &str = "\
 3 | 0 99 0 99 | -
 ";
 
+fn layer_of(word: &str) -> Result<Layer, Fail> {
+    Ok(Layer {
+        layer: word.parse::<u32>()?,
+        datatype: 0,
+    })
+}
+
 fn listed_layers(alloc: Global, text: &str) -> Result<Vec<Layer>, Fail> {
     let mut layers = Vec::new(alloc);
     for word in text.split_whitespace() {
-        let layer = word.parse::<u32>()?;
-        layers.push(Layer { layer, datatype: 0 })?;
+        layers.push(layer_of(word)?)?;
     }
     Ok(layers)
 }
@@ -269,28 +265,21 @@ fn differs_listed(
     Ok(found_text(alloc, found)?.as_str() == want)
 }
 
-/// The first row of those whose square is another.
-fn wrong_listed(alloc: Global, pair: &Pair) -> Result<Option<&'static str>, Fail> {
-    for row in LISTED.lines() {
-        let (layers, rest) = cut(row, " | ");
-        let (windows, want) = cut(rest, " | ");
-        let layers = listed_layers(alloc, layers)?;
-        let windows = two_windows(windows)?;
-        if !differs_listed(alloc, pair, &layers, &windows, want)? {
-            return Ok(Some(row));
-        }
-    }
-    Ok(None)
-}
-
-fn wrong_listed_of_more(alloc: Global) -> Result<Option<&'static str>, Fail> {
-    let pair = with_more(alloc)?;
-    wrong_listed(alloc, &pair)
+/// Whether the first square of a row is the one that differs on its layers in its windows.
+fn row_differs_listed(alloc: Global, pair: &Pair, row: &str) -> Result<bool, Fail> {
+    let (layers, rest) = cut(row, " | ");
+    let (windows, want) = cut(rest, " | ");
+    let windows = two_windows(windows)?;
+    let layers = listed_layers(alloc, layers)?;
+    differs_listed(alloc, pair, &layers, &windows, want).map_err(Fail::from)
 }
 
 #[test]
 fn listed(rt: HostRuntime) -> Result<(), Fail> {
-    assert_eq!(rt; wrong_listed_of_more(rt.alloc())?, None);
+    let pair = with_more(rt.alloc())?;
+    for row in LISTED.lines() {
+        assert!(rt; row_differs_listed(rt.alloc(), &pair, row)?, "{row}");
+    }
     Ok(())
 }
 
