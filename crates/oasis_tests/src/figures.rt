@@ -1,6 +1,6 @@
 //! What the records of a cell draw, one after the other.
 
-use crate::rows::{bytes_of, check_text, cut};
+use crate::rows::{bytes_of, cut, gives};
 use lvl_grid::{Map, Point, Ring};
 use lvl_io::Read;
 use lvl_io::fake::Pieces;
@@ -137,7 +137,7 @@ placement-fields, magnified | 12 84 01 41 04 02 01 | 1 Magnification
 
 fn drawn_of_words(alloc: Global, words: &str) -> Result<String, Fail> {
     let records = bytes_of(alloc, words)?;
-    Ok(drawn(alloc, &records, Profile::STANDARD)?)
+    drawn(alloc, &records, Profile::STANDARD).map_err(Fail::from)
 }
 
 #[test]
@@ -145,7 +145,7 @@ fn figures(rt: HostRuntime) -> Result<(), Fail> {
     for row in DRAWN.lines() {
         let (_, words) = cut(row, " | ");
         let (words, want) = cut(words, " | ");
-        check_text(&rt, &drawn_of_words(rt.alloc(), words)?, want, row);
+        gives(drawn_of_words(rt.alloc(), words), want, row)?;
     }
     Ok(())
 }

@@ -2,7 +2,7 @@
 
 use crate::library::{SQUARE, START, TOP, fault_of, file};
 use crate::library_faults::fault_text;
-use crate::rows::{bytes_of, check_text, cut};
+use crate::rows::{bytes_of, cut, gives, rows_give};
 use lvl_cells::Library;
 use lvl_io::Read;
 use lvl_io::fake::Pieces;
@@ -12,7 +12,6 @@ use oasis_library::{OasisFault, ValueFault, read_oasis_with};
 use oasis_records::{Record, RecordFault, RecordType, read_fields, read_id};
 use oasis_values::{Input, Repetition, Text};
 use std::alloc::{AllocError, Global};
-use std::process::Abort;
 use std::test::Fail;
 
 mod rows;
@@ -75,14 +74,14 @@ fn integer_text(alloc: Global, words: &str) -> Result<String, Fail> {
     let (first, words) = cut(words, "| ");
     let (zeros, last) = cut(words, " |");
     let bytes = padded(alloc, first, zeros.parse::<usize>()?, last)?;
-    Ok(format!(in alloc; "{:?}", integer(&bytes))?)
+    format!(in alloc; "{:?}", integer(&bytes)).map_err(Fail::from)
 }
 
 #[test]
 fn padding_of_integers(rt: HostRuntime) -> Result<(), Fail> {
     for row in PADDED.lines() {
         let (words, want) = row.rsplit_once("| ").unwrap_or((row, ""));
-        check_text(&rt, &integer_text(rt.alloc(), words)?, want, row);
+        gives(integer_text(rt.alloc(), words), want, row)?;
     }
     Ok(())
 }
@@ -104,11 +103,7 @@ fn skipped_words(alloc: Global, words: &str) -> Result<String, Fail> {
 
 #[test]
 fn values_that_are_not_kept(rt: HostRuntime) -> Result<(), Fail> {
-    for row in SKIPPED.lines() {
-        let (words, want) = cut(row, " | ");
-        check_text(&rt, &skipped_words(rt.alloc(), words)?, want, row);
-    }
-    Ok(())
+    rows_give(rt.alloc(), SKIPPED, " | ", skipped_words)
 }
 
 /// A string of 300 letters, after its length.
@@ -179,7 +174,7 @@ fn next_text<R: Read>(
 fn record_text(alloc: Global, words: &str, ignore: Ignore) -> Result<String, Fail> {
     let bytes = bytes_of(alloc, words)?;
     let mut input = Input::new(Pieces::new(&bytes, 2), under(ignore));
-    Ok(next_text(&mut input, alloc, ignore, bytes.len())?)
+    next_text(&mut input, alloc, ignore, bytes.len()).map_err(Fail::from)
 }
 
 /// What is ignored, by its name.
@@ -209,53 +204,47 @@ fn unsupported(alloc: Global, id: &str) -> Result<String, AllocError> {
     format!(in alloc; "Rule(Unsupported({id}))")
 }
 
-/// A record is unsupported where it isn't ignored.
-fn check_refused(
-    rt: &impl Abort,
-    alloc: Global,
-    words: &str,
-    ignore: Ignore,
-    id: &str,
-) -> Result<(), Fail> {
-    let refused = record_text(alloc, words, without(ignore))?;
-    check_text(rt, &refused, &unsupported(alloc, id)?, words);
-    Ok(())
+/// Whether a record is unsupported where it isn't ignored.
+fn is_refused(alloc: Global, words: &str, ignore: Ignore, id: &str) -> Result<bool, Fail> {
+    let want = unsupported(alloc, id)?;
+    Ok(record_text(alloc, words, without(ignore))?.as_str() == want.as_str())
 }
 
-/// A record is a text if its type is 19.
-fn check_record(rt: &impl Abort, alloc: Global, row: &str) -> Result<(), Fail> {
+/// Whether a record is a text, which it is if its type is 19.
+fn is_kind(alloc: Global, words: &str, ignore: Ignore, id: &str) -> Result<bool, Fail> {
+    let want = if id == "19" { "text" } else { "no text" };
+    Ok(record_text(alloc, words, ignore)?.starts_with(want))
+}
+
+/// Whether the record of a row is what it says, and unsupported where it isn't ignored.
+fn is_row(alloc: Global, row: &str) -> Result<bool, Fail> {
     let (words, wanted) = cut(row, " | ");
     let (name, id) = cut(wanted, " ");
     let ignore = ignore_of(name);
-    let found = record_text(alloc, words, ignore)?;
-    let want = if id == "19" { "text" } else { "no text" };
-    assert!(rt; found.starts_with(want), "{row}");
-    check_refused(rt, alloc, words, ignore, id)
+    Ok(is_kind(alloc, words, ignore, id)? && is_refused(alloc, words, ignore, id)?)
 }
 
 #[test]
 fn records_that_are_ignored(rt: HostRuntime) -> Result<(), Fail> {
     for row in RECORDS.lines() {
-        check_record(&rt, rt.alloc(), row)?;
+        assert!(rt; is_row(rt.alloc(), row)?, "{row}");
     }
     Ok(())
 }
 
 #[test]
 fn a_text_keeps_its_repetition(rt: HostRuntime) -> Result<(), Fail> {
-    let found = record_text(rt.alloc(), "13 04 02 01 05", ignore_of("texts"))?;
-    assert_eq!(rt; found.as_str(), "text of 3 places");
-    Ok(())
+    let found = record_text(rt.alloc(), "13 04 02 01 05", ignore_of("texts"));
+    gives(found, "text of 3 places", "a repetition")
+}
+
+fn text_where_all_is_ignored(alloc: Global, words: &str) -> Result<String, Fail> {
+    record_text(alloc, words, Ignore::EVERYTHING)
 }
 
 #[test]
 fn malformed_records(rt: HostRuntime) -> Result<(), Fail> {
-    for row in MALFORMED.lines() {
-        let (words, want) = cut(row, " | ");
-        let found = record_text(rt.alloc(), words, Ignore::EVERYTHING)?;
-        check_text(&rt, &found, want, row);
-    }
-    Ok(())
+    rows_give(rt.alloc(), MALFORMED, " | ", text_where_all_is_ignored)
 }
 
 /// Tables of names and strings, a text and properties, among what draws the square.
@@ -298,18 +287,17 @@ fn counts_of(alloc: Global, bytes: &[u8], most: usize) -> Result<String, Fail> {
     counts_text(alloc, &library)
 }
 
+/// The fault where nothing is ignored, at most `most` bytes at a read.
+fn fault_by(alloc: Global, bytes: &[u8], most: usize) -> Result<String, Fail> {
+    fault_text(alloc, fault_of(alloc, bytes, most)).map_err(Fail::from)
+}
+
 #[test]
 fn reads_a_square_among_what_is_ignored(rt: HostRuntime) -> Result<(), Fail> {
     let bytes = file(rt.alloc(), &AROUND)?;
-    let fault = fault_text(rt.alloc(), fault_of(rt.alloc(), &bytes, 5))?;
-    check_text(&rt, &fault, "34 Record(Unsupported(5))", "nothing ignored");
-    check_text(
-        &rt,
-        &counts_of(rt.alloc(), &bytes, 5)?,
-        "1 1 1 1",
-        "all ignored",
-    );
-    Ok(())
+    let fault = fault_by(rt.alloc(), &bytes, 5);
+    gives(fault, "34 Record(Unsupported(5))", "nothing ignored")?;
+    gives(counts_of(rt.alloc(), &bytes, 5), "1 1 1 1", "all ignored")
 }
 
 /// A text sets the repetition that a later rectangle uses again, and draws nothing.
@@ -318,13 +306,7 @@ fn a_text_sets_the_repetition(rt: HostRuntime) -> Result<(), Fail> {
     let text: &[u8] = b"\x13\x5F\x02hi\x01\x02\x03\x04\x02\x01\x14";
     let again: &[u8] = b"\x14\x7F\x01\x00\x0A\x0A\x00\x00\x00\x13\x04\x00";
     let bytes = file(rt.alloc(), &[TOP, text, again])?;
-    check_text(
-        &rt,
-        &counts_of(rt.alloc(), &bytes, 100)?,
-        "1 1 1 3",
-        "again",
-    );
-    Ok(())
+    gives(counts_of(rt.alloc(), &bytes, 100), "1 1 1 3", "again")
 }
 
 /// The fault of a file of these records, with everything ignored.
@@ -347,11 +329,7 @@ const OUT_OF_ORDER: &str = "\
 
 #[test]
 fn refuses_what_is_out_of_order(rt: HostRuntime) -> Result<(), Fail> {
-    for row in OUT_OF_ORDER.lines() {
-        let (words, want) = cut(row, " | ");
-        check_text(&rt, &fault_in(rt.alloc(), words)?, want, row);
-    }
-    Ok(())
+    rows_give(rt.alloc(), OUT_OF_ORDER, " | ", fault_in)
 }
 
 /// END with the length of its padding, 0, spelled in 254 bytes.
@@ -372,8 +350,7 @@ fn cells_padded(alloc: Global, bytes: &[u8]) -> Result<usize, Fail> {
 #[test]
 fn reads_an_end_with_a_padded_length(rt: HostRuntime) -> Result<(), Fail> {
     let bytes = padded_end(rt.alloc())?;
-    let fault = fault_text(rt.alloc(), fault_of(rt.alloc(), &bytes, 9))?;
-    check_text(&rt, &fault, "39 Value(IntegerTooLarge)", "no padding");
-    assert_eq!(rt; cells_padded(rt.alloc(), &bytes)?, 1);
-    Ok(())
+    assert!(rt; cells_padded(rt.alloc(), &bytes)? == 1);
+    let fault = fault_by(rt.alloc(), &bytes, 9);
+    gives(fault, "39 Value(IntegerTooLarge)", "no padding")
 }

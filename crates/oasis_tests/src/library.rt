@@ -1,6 +1,6 @@
 //! Files read whole: what each spells, and that it doesn't matter how a reader cuts the bytes.
 
-use crate::rows::{check_text, cut};
+use crate::rows::rows_give;
 use lvl_cells::{Cell, Library, MovedRing, Shapes};
 use lvl_grid::Point;
 use lvl_io::fake::Pieces;
@@ -8,7 +8,6 @@ use lvl_names::Layer;
 use lvl_refusal::Cause;
 use oasis_library::{OasisFault, OasisHead, Real, read_oasis};
 use std::alloc::{AllocError, Global};
-use std::process::Abort;
 use std::test::Fail;
 
 /// The magic string and START, but its offset flag.
@@ -113,45 +112,57 @@ pub fn boxes(alloc: Global, library: &Library) -> Result<Vec<Boxed>, AllocError>
     Ok(boxes)
 }
 
-/// One square on 1/0, at one place.
-fn check_square(rt: &impl Abort, shapes: &Shapes) {
-    assert_eq!(rt; shapes.len(), 1);
-    let layer = Layer {
-        layer: 1,
-        datatype: 0,
-    };
-    assert_eq!(rt; shapes.layer(0), layer);
-    assert_eq!(rt; shapes.shift_count(0), 1);
-    assert_eq!(rt; shapes.ring_count(0), 1);
-    let ring = shapes.ring(0, 0);
-    assert_eq!(rt; ring.get(0), Some(Point { x: 0, y: 0 }));
-    assert_eq!(rt; ring.get(1), Some(Point { x: 10, y: 0 }));
-    assert_eq!(rt; ring.get(2), Some(Point { x: 10, y: 10 }));
-    assert_eq!(rt; ring.get(3), Some(Point { x: 0, y: 10 }));
+/// Whether a ring of four points is the square.
+fn is_square(ring: &MovedRing<'_>) -> bool {
+    let is_right = ring.get(1) == Some(Point { x: 10, y: 0 });
+    let is_upper = ring.get(2) == Some(Point { x: 10, y: 10 });
+    let is_left = ring.get(3) == Some(Point { x: 0, y: 10 });
+    ring.get(0) == Some(Point { x: 0, y: 0 }) && is_right && is_upper && is_left
 }
 
-/// One cell, TOP, with the square.
-fn check_top(rt: &impl Abort, library: &Library) -> Result<(), Fail> {
-    assert_eq!(rt; library.cells.len(), 1);
-    let cell = first_of(library)?;
-    assert_eq!(rt; cell.name.as_bytes(), b"TOP".as_slice());
-    assert_eq!(rt; cell.references.len(), 0);
-    check_square(rt, &cell.shapes);
-    Ok(())
+const METAL: Layer = Layer {
+    layer: 1,
+    datatype: 0,
+};
+
+/// Whether there is one shape, of the square on 1/0 at one place.
+fn are_square(shapes: &Shapes) -> bool {
+    if shapes.len() != 1 || shapes.layer(0) != METAL {
+        return false;
+    }
+    shapes.shift_count(0) == 1 && shapes.ring_count(0) == 1 && is_square(&shapes.ring(0, 0))
 }
 
-/// The file with the square, and what it says of itself.
-fn check_file(rt: &impl Abort, alloc: Global, bytes: &[u8]) -> Result<(), Fail> {
-    assert_eq!(rt; head_of(alloc, bytes, 1000)?, (HEAD, 1));
+/// Whether a library has one cell, TOP, with the square.
+fn is_top(library: &Library) -> bool {
+    match library.cells.as_slice() {
+        [cell] => {
+            cell.name.as_bytes() == b"TOP".as_slice()
+                && cell.references.is_empty()
+                && are_square(&cell.shapes)
+        }
+        _ => false,
+    }
+}
+
+/// Whether these bytes are a library with the square.
+fn is_read(alloc: Global, bytes: &[u8]) -> Result<bool, Fail> {
     let (library, _) = read(alloc, bytes, 1000)?;
-    check_top(rt, &library)
+    Ok(is_top(&library))
+}
+
+/// Whether a file says of itself what all files here do, and has so many cells.
+fn has_head(alloc: Global, bytes: &[u8], most: usize, cells: usize) -> Result<bool, Fail> {
+    Ok(head_of(alloc, bytes, most)? == (HEAD, cells))
 }
 
 #[test]
 fn reads_a_square(rt: HostRuntime) -> Result<(), Fail> {
     let bytes = square(rt.alloc())?;
-    assert_eq!(rt; bytes.len(), 303);
-    check_file(&rt, rt.alloc(), &bytes)
+    assert!(rt; bytes.len() == 303);
+    assert!(rt; has_head(rt.alloc(), &bytes, 1000, 1)?);
+    assert!(rt; is_read(rt.alloc(), &bytes)?);
+    Ok(())
 }
 
 /// What a file says of itself, and how many cells it has.
@@ -203,16 +214,12 @@ fn head_text(alloc: Global, words: &str) -> Result<String, Fail> {
         scheme,
         signature,
     } = head;
-    Ok(format!(in alloc; "{unit:?} {scheme} {signature:?} {cells}")?)
+    format!(in alloc; "{unit:?} {scheme} {signature:?} {cells}").map_err(Fail::from)
 }
 
 #[test]
 fn reads_heads(rt: HostRuntime) -> Result<(), Fail> {
-    for row in HEADS.lines() {
-        let (words, want) = cut(row, " | ");
-        check_text(&rt, &head_text(rt.alloc(), words)?, want, row);
-    }
-    Ok(())
+    rows_give(rt.alloc(), HEADS, " | ", head_text)
 }
 
 /// The box of the first ring of a file.
@@ -221,18 +228,17 @@ fn first_box(alloc: Global, bytes: &[u8], most: usize) -> Result<Option<Boxed>, 
     Ok(boxes(alloc, &library)?.first().copied())
 }
 
-/// The file with the square, in pieces of at most `most` bytes.
-fn check_pieces(rt: &impl Abort, alloc: Global, bytes: &[u8], most: usize) -> Result<(), Fail> {
-    assert_eq!(rt; head_of(alloc, bytes, most)?, (HEAD, 1));
-    assert_eq!(rt; first_box(alloc, bytes, most)?, Some(([0, 0, 10, 10], 4)));
-    Ok(())
+/// Whether the file with the square is read in pieces of at most `most` bytes.
+fn is_read_by(alloc: Global, bytes: &[u8], most: usize) -> Result<bool, Fail> {
+    let is_boxed = first_box(alloc, bytes, most)? == Some(([0, 0, 10, 10], 4));
+    Ok(is_boxed && has_head(alloc, bytes, most, 1)?)
 }
 
 #[test]
 fn reads_pieces_of_any_size_alike(rt: HostRuntime) -> Result<(), Fail> {
     let bytes = square(rt.alloc())?;
     for most in [1, 2, 3, 4095, 4096, 65_536, usize::MAX] {
-        check_pieces(&rt, rt.alloc(), &bytes, most)?;
+        assert!(rt; is_read_by(rt.alloc(), &bytes, most)?, "{most}");
     }
     Ok(())
 }
@@ -258,7 +264,7 @@ fn growths(rt: HostRuntime) -> Result<(), Fail> {
     ];
     let bytes = file(rt.alloc(), records)?;
     match head_and_rings(rt.alloc(), &bytes) {
-        Ok(answer) => assert_eq!(rt; answer, (HEAD, 4)),
+        Ok(answer) => assert!(rt; answer == (HEAD, 4)),
         Err(Cause::Breach(_)) => assert!(rt; false, "no library"),
         Err(Cause::OutOfMemory) => return Err(AllocError.into()),
     }

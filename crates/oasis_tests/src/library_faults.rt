@@ -1,12 +1,11 @@
 //! Files read whole: which fault comes first, and where a file is cut or a reader fails.
 
 use crate::library::{fault_of, file, square};
-use crate::rows::{bytes_of, check_text, cut};
+use crate::rows::{bytes_of, cut, rows_give};
 use lvl_io::fake::Pieces;
 use lvl_refusal::Cause;
 use oasis_library::{OasisFault, OasisKind, ValueFault, read_oasis};
 use std::alloc::{AllocError, Global};
-use std::process::Abort;
 use std::test::Fail;
 
 fn at(offset: u64, kind: OasisKind) -> Option<Cause<OasisFault>> {
@@ -77,11 +76,7 @@ fn fault_in(alloc: Global, words: &str) -> Result<String, Fail> {
 
 #[test]
 fn names_the_first_fault(rt: HostRuntime) -> Result<(), Fail> {
-    for row in FAULTS.lines() {
-        let (words, want) = cut(row, " | ");
-        check_text(&rt, &fault_in(rt.alloc(), words)?, want, row);
-    }
-    Ok(())
+    rows_give(rt.alloc(), FAULTS, " | ", fault_in)
 }
 
 /// A byte of the head that is changed, its value, and the fault.
@@ -102,11 +97,7 @@ fn fault_with(alloc: Global, words: &str) -> Result<String, Fail> {
 
 #[test]
 fn names_faults_of_heads(rt: HostRuntime) -> Result<(), Fail> {
-    for row in HEADS.lines() {
-        let (words, want) = cut(row, " | ");
-        check_text(&rt, &fault_with(rt.alloc(), words)?, want, row);
-    }
-    Ok(())
+    rows_give(rt.alloc(), HEADS, " | ", fault_with)
 }
 
 #[test]
@@ -166,13 +157,16 @@ fn failing(alloc: Global, bytes: &[u8]) -> (Option<Cause<OasisFault>>, u64) {
     (fault, reader.errors)
 }
 
-/// The first `k` of these bytes are truncated at the record that isn't whole, and so is a read that fails there.
-fn check_cut(rt: &impl Abort, alloc: Global, bytes: &[u8], k: usize) {
-    let failed = value(begun(k), ValueFault::Read);
-    assert_eq!(rt; failing(alloc, bytes), (failed, 1), "after {k}");
-    let cut = value(begun(k), ValueFault::Truncated);
-    let want = if begun(k) < 303 { cut } else { None };
-    assert_eq!(rt; fault_of(alloc, bytes, 7), want, "cut to {k}");
+/// Whether a read that fails after these bytes is reported at the record that isn't whole, and failed once.
+fn is_failing(alloc: Global, bytes: &[u8]) -> bool {
+    failing(alloc, bytes) == (value(begun(bytes.len()), ValueFault::Read), 1)
+}
+
+/// Whether these bytes are truncated at the record that isn't whole, unless all are whole.
+fn is_truncated(alloc: Global, bytes: &[u8]) -> bool {
+    let start = begun(bytes.len());
+    let cut = value(start, ValueFault::Truncated);
+    fault_of(alloc, bytes, 7) == if start < 303 { cut } else { None }
 }
 
 /// Rows oasis-cuts and failing-read: the first bytes alone, and then the end or one failure.
@@ -180,7 +174,11 @@ fn check_cut(rt: &impl Abort, alloc: Global, bytes: &[u8], k: usize) {
 fn refuses_each_cut_and_each_failed_read(rt: HostRuntime) -> Result<(), Fail> {
     let bytes = square(rt.alloc())?;
     for k in 0..=bytes.len() {
-        check_cut(&rt, rt.alloc(), &bytes[..k], k);
+        let first = &bytes[..k];
+        assert!(rt;
+            is_failing(rt.alloc(), first) && is_truncated(rt.alloc(), first),
+            "{k}"
+        );
     }
     Ok(())
 }

@@ -1,7 +1,7 @@
 //! Files read whole: what is drawn, how often, and which cells are placed.
 
 use crate::library::{Boxed, TOP, boxes, first_of, library_of};
-use crate::rows::{bytes_of, check_text, cut};
+use crate::rows::{bytes_of, cut, gives, rows_give};
 use lvl_cells::{Cell, KeptReference, Library, Shapes};
 use lvl_grid::Point;
 use std::alloc::{AllocError, Global};
@@ -62,11 +62,7 @@ fn drawn_boxes(alloc: Global, words: &str) -> Result<String, Fail> {
 
 #[test]
 fn draws_boxes(rt: HostRuntime) -> Result<(), Fail> {
-    for row in BOXES.lines() {
-        let (words, want) = cut(row, " | ");
-        check_text(&rt, &drawn_boxes(rt.alloc(), words)?, want, row);
-    }
-    Ok(())
+    rows_give(rt.alloc(), BOXES, " | ", drawn_boxes)
 }
 
 /// At how many places each shape of the cell TOP stands.
@@ -105,23 +101,16 @@ fn places_of(alloc: Global, record: &[u8]) -> Result<String, Fail> {
 #[test]
 fn repeats_shapes(rt: HostRuntime) -> Result<(), Fail> {
     let spaces = b"\x14\x7F\x01\x00\x0A\x0A\x00\x00\x04\x01\x0C\x14";
-    check_text(&rt, &counts_of(rt.alloc(), spaces, 1)?, "3 ", "spaces");
-    check_text(
-        &rt,
-        &places_of(rt.alloc(), spaces)?,
-        "0,0 12,0 32,0 ",
-        "spaces",
-    );
-    Ok(())
+    gives(counts_of(rt.alloc(), spaces, 1), "3 ", "spaces")?;
+    gives(places_of(rt.alloc(), spaces), "0,0 12,0 32,0 ", "spaces")
 }
 
 /// Row long-repetition: the second of three shapes is at one place.
 #[test]
 fn repeats_shapes_at_many_places(rt: HostRuntime) -> Result<(), Fail> {
     let long = b"\x14\x7F\x01\x00\x01\x01\x00\x00\x02\xFE\xFF\xFF\x07\x01\x14\x00\x14\x04\x00";
-    let counts = counts_of(rt.alloc(), long, 1000)?;
-    check_text(&rt, &counts, "16777216 1 16777216 ", "long-repetition");
-    Ok(())
+    let counts = counts_of(rt.alloc(), long, 1000);
+    gives(counts, "16777216 1 16777216 ", "long-repetition")
 }
 
 /// A cell that is placed, whether and how it is turned, where it is, and at how many shifts.
@@ -164,9 +153,5 @@ fn placed_by(alloc: Global, words: &str) -> Result<String, Fail> {
 
 #[test]
 fn places_cells(rt: HostRuntime) -> Result<(), Fail> {
-    for row in PLACEMENTS.lines() {
-        let (words, want) = cut(row, " | ");
-        check_text(&rt, &placed_by(rt.alloc(), words)?, want, row);
-    }
-    Ok(())
+    rows_give(rt.alloc(), PLACEMENTS, " | ", placed_by)
 }

@@ -1,6 +1,6 @@
 //! Lists of points and repetitions by the byte.
 
-use crate::rows::{bytes_of, check_text, cut};
+use crate::rows::{bytes_of, cut, rows_give};
 use crate::values::input;
 use lvl_grid::Point;
 use lvl_names::Offsets;
@@ -63,11 +63,7 @@ fn point_list_of(alloc: Global, words: &str) -> Result<String, Fail> {
 
 #[test]
 fn point_lists(rt: HostRuntime) -> Result<(), Fail> {
-    for row in POINT_LISTS.lines() {
-        let (words, want) = cut(row, " |");
-        check_text(&rt, &point_list_of(rt.alloc(), words)?, want, row);
-    }
-    Ok(())
+    rows_give(rt.alloc(), POINT_LISTS, " |", point_list_of)
 }
 
 /// The places, each after a space.
@@ -107,11 +103,7 @@ fn repetition_of(alloc: Global, words: &str) -> Result<String, Fail> {
 
 #[test]
 fn repetitions(rt: HostRuntime) -> Result<(), Fail> {
-    for row in REPETITIONS.lines() {
-        let (words, want) = cut(row, " |");
-        check_text(&rt, &repetition_of(rt.alloc(), words)?, want, row);
-    }
-    Ok(())
+    rows_give(rt.alloc(), REPETITIONS, " |", repetition_of)
 }
 
 #[test]
@@ -150,9 +142,5 @@ fn count_of(alloc: Global, words: &str) -> Result<String, Fail> {
 
 #[test]
 fn repetition_limits(rt: HostRuntime) -> Result<(), Fail> {
-    for row in LIMITS.lines() {
-        let (words, want) = cut(row, " | ");
-        check_text(&rt, &count_of(rt.alloc(), words)?, want, row);
-    }
-    Ok(())
+    rows_give(rt.alloc(), LIMITS, " | ", count_of)
 }

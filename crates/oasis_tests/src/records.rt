@@ -8,7 +8,6 @@ use oasis_records::{
 };
 use oasis_values::{Input, Real};
 use std::alloc::{AllocError, Global};
-use std::process::Abort;
 use std::test::Fail;
 
 /// The magic string, START, CELL, RECTANGLE and END.
@@ -32,63 +31,58 @@ fn next<R: Read>(input: &mut Input<R>, alloc: Global) -> Option<Record> {
     read_fields(input, alloc, kind, id.len, false).ok()
 }
 
-fn check_start(rt: &impl Abort, start: &Start) {
-    assert_eq!(rt; start.unit, Real::Whole(1000));
-    assert_eq!(rt; start.has_offsets_at_end, false);
+fn is_start(start: &Start) -> bool {
+    start.unit == Real::Whole(1000) && !start.has_offsets_at_end
 }
 
-fn check_rectangle(rt: &impl Abort, rectangle: &Rectangle) {
-    assert_eq!(rt; rectangle.on.layer, Some(1));
-    assert_eq!(rt; rectangle.on.datatype, Some(0));
-    assert_eq!(rt; rectangle.width, Some(10));
-    assert_eq!(rt; rectangle.height, Some(10));
-    assert_eq!(rt; rectangle.position.x, Some(0));
-    assert_eq!(rt; rectangle.position.y, Some(0));
-    assert!(rt; rectangle.position.repetition.is_none());
+fn is_rectangle(rectangle: &Rectangle) -> bool {
+    let on = (rectangle.on.layer, rectangle.on.datatype);
+    let sides = (rectangle.width, rectangle.height);
+    let at = (rectangle.position.x, rectangle.position.y);
+    let is_square = on == (Some(1), Some(0)) && sides == (Some(10), Some(10));
+    is_square && at == (Some(0), Some(0)) && rectangle.position.repetition.is_none()
 }
 
-/// The record of that number, counted from START.
-fn check_record(rt: &impl Abort, number: u32, record: &Record) -> Result<(), Fail> {
+/// Whether this is the record of that number, counted from START.
+fn is_record(number: u32, record: &Record) -> bool {
     match (number, record) {
-        (0, Record::Start(start)) => check_start(rt, start),
-        (1, Record::Cell(CellRef::Name(name))) => {
-            assert!(rt; name.as_bytes() == b"TOP".as_slice());
-        }
-        (2, Record::Rectangle(rectangle)) => check_rectangle(rt, rectangle),
-        (3, Record::End(validation)) => assert_eq!(rt; *validation, Validation::Absent),
-        _ => return Err(AllocError.into()),
+        (0, Record::Start(start)) => is_start(start),
+        (1, Record::Cell(CellRef::Name(name))) => name.as_bytes() == b"TOP".as_slice(),
+        (2, Record::Rectangle(rectangle)) => is_rectangle(rectangle),
+        (3, Record::End(validation)) => *validation == Validation::Absent,
+        _ => false,
     }
-    Ok(())
 }
 
-/// The record that comes next, which has that number, counted from START.
-fn check_next<R: Read>(
-    rt: &impl Abort,
-    alloc: Global,
-    input: &mut Input<R>,
-    number: u32,
-) -> Result<(), Fail> {
-    let record = next(input, alloc).ok_or("a record")?;
-    check_record(rt, number, &record)
+/// Whether the record that comes next has that number, counted from START.
+fn is_next<R: Read>(alloc: Global, input: &mut Input<R>, number: u32) -> bool {
+    match next(input, alloc) {
+        Some(record) => is_record(number, &record),
+        None => false,
+    }
 }
 
-/// The magic string and the four records.
-fn check_all<R: Read>(rt: &impl Abort, alloc: Global, input: &mut Input<R>) -> Result<(), Fail> {
-    assert!(rt; read_magic(input).is_ok());
+/// Whether the magic string and the four records are all.
+fn are_all<R: Read>(alloc: Global, input: &mut Input<R>) -> bool {
+    if read_magic(input).is_err() {
+        return false;
+    }
     for number in 0..4 {
-        check_next(rt, alloc, input, number)?;
+        if !is_next(alloc, input, number) {
+            return false;
+        }
     }
-    assert_eq!(rt; input.offset(), 303);
-    Ok(())
+    input.offset() == 303
 }
 
-fn check_square(rt: &impl Abort, alloc: Global, bytes: &[u8]) -> Result<(), Fail> {
+fn are_of_square(alloc: Global, bytes: &[u8]) -> bool {
     let mut input = Input::new(Pieces::new(bytes, 1), Profile::STANDARD);
-    check_all(rt, alloc, &mut input)
+    are_all(alloc, &mut input)
 }
 
 #[test]
 fn records_of_a_square(rt: HostRuntime) -> Result<(), Fail> {
     let bytes = square(rt.alloc())?;
-    check_square(&rt, rt.alloc(), &bytes)
+    assert!(rt; are_of_square(rt.alloc(), &bytes));
+    Ok(())
 }

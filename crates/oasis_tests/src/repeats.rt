@@ -3,12 +3,11 @@
 use crate::figures::drawn;
 use crate::library::{TOP, file};
 use crate::library_faults::fault_text;
-use crate::rows::{bytes_of, check_text, cut};
+use crate::rows::{bytes_of, cut, gives};
 use lvl_io::fake::Pieces;
 use lvl_profile::{Ignore, Profile};
 use oasis_library::read_oasis_with;
 use std::alloc::{AllocError, Global};
-use std::process::Abort;
 use std::test::Fail;
 
 /// Such points alone.
@@ -75,35 +74,29 @@ fn want_of(alloc: Global, words: &str) -> Result<String, AllocError> {
 }
 
 /// Checks what the last of these records draws where this is ignored.
-fn check_drawn(
-    rt: &impl Abort,
-    alloc: Global,
-    bytes: &[u8],
-    ignore: Ignore,
-    words: &str,
-) -> Result<(), Fail> {
-    let found = drawn(alloc, bytes, under(ignore))?;
-    check_text(rt, &found, &want_of(alloc, words)?, words);
-    Ok(())
+fn check_drawn(alloc: Global, bytes: &[u8], ignore: Ignore, words: &str) -> Result<(), Fail> {
+    let want = want_of(alloc, words)?;
+    let found = drawn(alloc, bytes, under(ignore));
+    gives(found.map_err(Fail::from), &want, words)
 }
 
 /// Checks a row: what isn't refused is drawn alike, whatever is ignored.
-fn check_row(rt: &impl Abort, alloc: Global, row: &str) -> Result<(), Fail> {
+fn check_row(alloc: Global, row: &str) -> Result<(), Fail> {
     let (ends, row) = cut(row, " | ");
     let (list, row) = cut(row, " | ");
     let (refused, drawn) = cut(row, " | ");
     let without = if refused == "drawn" { drawn } else { refused };
     let bytes = path(alloc, ends, list)?;
-    check_drawn(rt, alloc, &bytes, Ignore::NOTHING, without)?;
-    check_drawn(rt, alloc, &bytes, ALL_ELSE, without)?;
-    check_drawn(rt, alloc, &bytes, POINTS, drawn)?;
-    check_drawn(rt, alloc, &bytes, Ignore::EVERYTHING, drawn)
+    check_drawn(alloc, &bytes, Ignore::NOTHING, without)?;
+    check_drawn(alloc, &bytes, ALL_ELSE, without)?;
+    check_drawn(alloc, &bytes, POINTS, drawn)?;
+    check_drawn(alloc, &bytes, Ignore::EVERYTHING, drawn)
 }
 
 #[test]
 fn repeated_points_of_paths(rt: HostRuntime) -> Result<(), Fail> {
     for row in PATHS.lines() {
-        check_row(&rt, rt.alloc(), row)?;
+        check_row(rt.alloc(), row)?;
     }
     Ok(())
 }
@@ -121,7 +114,7 @@ fn records_after_and_beside(rt: HostRuntime) -> Result<(), Fail> {
     for row in RECORDS.lines() {
         let (words, want) = cut(row, " | ");
         let bytes = bytes_of(rt.alloc(), words)?;
-        check_drawn(&rt, rt.alloc(), &bytes, POINTS, want)?;
+        check_drawn(rt.alloc(), &bytes, POINTS, want)?;
     }
     Ok(())
 }
@@ -130,7 +123,7 @@ fn records_after_and_beside(rt: HostRuntime) -> Result<(), Fail> {
 fn a_polygon_keeps_its_points(rt: HostRuntime) -> Result<(), Fail> {
     let (words, want) = cut(RECORDS.lines().last().ok_or("a row")?, " | ");
     let bytes = bytes_of(rt.alloc(), words)?;
-    check_drawn(&rt, rt.alloc(), &bytes, Ignore::NOTHING, want)
+    check_drawn(rt.alloc(), &bytes, Ignore::NOTHING, want)
 }
 
 /// How many rings the first shape of a file has, or what is refused, where this is ignored.
@@ -157,8 +150,7 @@ fn a_file_with_a_repeated_point(rt: HostRuntime) -> Result<(), Fail> {
         (ALL_ELSE, refused),
         (POINTS, "2 rings"),
     ] {
-        let found = rings_text(rt.alloc(), &bytes, ignore)?;
-        check_text(&rt, &found, want, "a file");
+        gives(rings_text(rt.alloc(), &bytes, ignore), want, "a file")?;
     }
     Ok(())
 }

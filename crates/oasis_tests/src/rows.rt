@@ -1,6 +1,5 @@
 //! Rows of tables that are text.
 use std::alloc::Global;
-use std::process::Abort;
 use std::test::Fail;
 
 /// What is before the mark, and what is after it.
@@ -17,7 +16,28 @@ pub(crate) fn bytes_of(alloc: Global, words: &str) -> Result<Vec<u8>, Fail> {
     Ok(bytes)
 }
 
-/// Ends the test if the text that is found isn't the one that the row wants.
-pub(crate) fn check_text(rt: &impl Abort, found: &str, want: &str, row: &str) {
-    assert_eq!(rt; found, want, "{row}");
+/// Fails unless this text is found in the row.
+pub(crate) fn gives(found: Result<String, Fail>, want: &str, row: &str) -> Result<(), Fail> {
+    let found = found?;
+    if found.as_str() == want {
+        Ok(())
+    } else {
+        Err(Fail::new(format_args!("{row}: {found}")))
+    }
+}
+
+/// Fails at the first row that gives another text than the one after the mark.
+pub(crate) fn rows_give(
+    alloc: Global,
+    rows: &str,
+    mark: &str,
+    text_of: fn(Global, &str) -> Result<String, Fail>,
+) -> Result<(), Fail>
+    requires { IsAlwaysCallable text_of }
+{
+    for row in rows.lines() {
+        let (words, want) = cut(row, mark);
+        gives(text_of(alloc, words), want, row)?;
+    }
+    Ok(())
 }

@@ -1,7 +1,7 @@
 //! Values by the byte: what each row spells or breaches, and that it matters neither how a reader cuts
 //! the bytes nor where it fails.
 
-use crate::rows::{bytes_of, check_text, cut};
+use crate::rows::{bytes_of, cut, gives, rows_give};
 use lvl_grid::Point;
 use lvl_io::Read;
 use lvl_io::fake::Pieces;
@@ -9,7 +9,6 @@ use lvl_profile::Profile;
 use lvl_refusal::Cause;
 use oasis_values::{Input, Real, Repetition, Text, Use, ValueFault};
 use std::alloc::{AllocError, Global};
-use std::process::Abort;
 use std::test::Fail;
 
 /// The values in these bytes.
@@ -50,16 +49,12 @@ FF FF FF FF FF FF FF FF FF 02 | Err(IntegerTooLarge)
 
 fn unsigned_text(alloc: Global, words: &str) -> Result<String, Fail> {
     let bytes = bytes_of(alloc, words)?;
-    Ok(format!(in alloc; "{:?}", input(&bytes).unsigned())?)
+    format!(in alloc; "{:?}", input(&bytes).unsigned()).map_err(Fail::from)
 }
 
 #[test]
 fn small_values(rt: HostRuntime) -> Result<(), Fail> {
-    for row in UNSIGNED.lines() {
-        let (words, want) = cut(row, "| ");
-        check_text(&rt, &unsigned_text(rt.alloc(), words)?, want, row);
-    }
-    Ok(())
+    rows_give(rt.alloc(), UNSIGNED, "| ", unsigned_text)
 }
 
 const SIGNED: &str = "\
@@ -83,11 +78,7 @@ fn signed_text(alloc: Global, words: &str) -> Result<String, Fail> {
 
 #[test]
 fn small_signed_values(rt: HostRuntime) -> Result<(), Fail> {
-    for row in SIGNED.lines() {
-        let (words, want) = cut(row, " | ");
-        check_text(&rt, &signed_text(rt.alloc(), words)?, want, row);
-    }
-    Ok(())
+    rows_give(rt.alloc(), SIGNED, " | ", signed_text)
 }
 
 /// Deltas of the three other kinds.
@@ -110,16 +101,12 @@ fn delta(bytes: &[u8], kind: &str) -> Result<Point, ValueFault> {
 fn delta_text(alloc: Global, words: &str) -> Result<String, Fail> {
     let (kind, words) = cut(words, " ");
     let bytes = bytes_of(alloc, words)?;
-    Ok(format!(in alloc; "{:?}", delta(&bytes, kind))?)
+    format!(in alloc; "{:?}", delta(&bytes, kind)).map_err(Fail::from)
 }
 
 #[test]
 fn small_deltas(rt: HostRuntime) -> Result<(), Fail> {
-    for row in DELTAS.lines() {
-        let (words, want) = cut(row, " | ");
-        check_text(&rt, &delta_text(rt.alloc(), words)?, want, row);
-    }
-    Ok(())
+    rows_give(rt.alloc(), DELTAS, " | ", delta_text)
 }
 
 #[test]
@@ -145,16 +132,12 @@ const REALS: &str = "\
 
 fn real_text(alloc: Global, words: &str) -> Result<String, Fail> {
     let bytes = bytes_of(alloc, words)?;
-    Ok(format!(in alloc; "{:?}", input(&bytes).real())?)
+    format!(in alloc; "{:?}", input(&bytes).real()).map_err(Fail::from)
 }
 
 #[test]
 fn reals(rt: HostRuntime) -> Result<(), Fail> {
-    for row in REALS.lines() {
-        let (words, want) = cut(row, " | ");
-        check_text(&rt, &real_text(rt.alloc(), words)?, want, row);
-    }
-    Ok(())
+    rows_give(rt.alloc(), REALS, " | ", real_text)
 }
 
 /// What the unsigned integer is with which these bytes begin, and how many of them it takes.
@@ -164,20 +147,23 @@ fn unsigned_in(bytes: &[u8]) -> (Result<u64, ValueFault>, u64) {
     (read, values.offset())
 }
 
-/// That number, the one before and the one after, each spelled and read.
-fn check_near(rt: &impl Abort, alloc: Global, power: u64) -> Result<(), Fail> {
-    for near in [power.wrapping_sub(1), power, power.wrapping_add(1)] {
-        let bytes = spelled(alloc, near)?;
-        assert_eq!(rt; unsigned_in(&bytes), (Ok(near), bytes.len() as u64));
-    }
-    Ok(())
+/// Whether this number is read where it is spelled.
+fn is_read(alloc: Global, number: u64) -> Result<bool, Fail> {
+    let bytes = spelled(alloc, number)?;
+    Ok(unsigned_in(&bytes) == (Ok(number), bytes.len() as u64))
+}
+
+/// Whether that number, the one before and the one after are read.
+fn are_near_read(alloc: Global, power: u64) -> Result<bool, Fail> {
+    let are_at = is_read(alloc, power)? && is_read(alloc, power.wrapping_add(1))?;
+    Ok(are_at && is_read(alloc, power.wrapping_sub(1))?)
 }
 
 #[test]
 fn integers_near_powers(rt: HostRuntime) -> Result<(), Fail> {
     let mut power = 1u64;
     for _ in 0..10 {
-        check_near(&rt, rt.alloc(), power)?;
+        assert!(rt; are_near_read(rt.alloc(), power)?, "{power}");
         power = power.wrapping_mul(128);
     }
     Ok(())
@@ -216,7 +202,7 @@ fn string_text(alloc: Global, bytes: &[u8], kind: Text, most: usize) -> Result<S
 fn string_of_row(alloc: Global, kind: &str, words: &str) -> Result<String, Fail> {
     let (letter, most) = cut(kind, " ");
     let bytes = bytes_of(alloc, words)?;
-    Ok(string_text(alloc, &bytes, kind_of(letter), most.parse::<usize>()?)?)
+    string_text(alloc, &bytes, kind_of(letter), most.parse::<usize>()?).map_err(Fail::from)
 }
 
 #[test]
@@ -224,7 +210,7 @@ fn strings(rt: HostRuntime) -> Result<(), Fail> {
     for row in STRINGS.lines() {
         let (kind, words) = cut(row, " | ");
         let (words, want) = cut(words, " | ");
-        check_text(&rt, &string_of_row(rt.alloc(), kind, words)?, want, row);
+        gives(string_of_row(rt.alloc(), kind, words), want, row)?;
     }
     Ok(())
 }
@@ -268,45 +254,43 @@ fn groups(alloc: Global) -> Result<Vec<u8>, AllocError> {
     Ok(bytes)
 }
 
-/// All the groups of `len` bytes, and then the end.
-fn check_all<R: Read>(rt: &impl Abort, alloc: Global, values: &mut Input<R>, len: usize) {
+/// Whether all the groups of `len` bytes are read, and then the end.
+fn are_groups<R: Read>(alloc: Global, values: &mut Input<R>, len: usize) -> bool {
     for _ in 0..300u32 {
-        assert!(rt; matches!(read_group(alloc, values), Ok(343_115)));
+        if !matches!(read_group(alloc, values), Ok(343_115)) {
+            return false;
+        }
     }
-    assert_eq!(rt; values.offset(), len as u64);
-    assert_eq!(rt; values.byte(), Err(ValueFault::Truncated));
+    values.offset() == len as u64 && values.byte() == Err(ValueFault::Truncated)
 }
 
-/// All the groups of these bytes, at most `most` bytes at a read.
-fn check_groups(rt: &impl Abort, alloc: Global, bytes: &[u8], most: usize) {
+/// Whether all the groups of these bytes are read, at most `most` bytes at a read.
+fn are_groups_by(alloc: Global, bytes: &[u8], most: usize) -> bool {
     let mut values = Input::new(Pieces::new(bytes, most), Profile::STANDARD);
-    check_all(rt, alloc, &mut values, bytes.len());
+    are_groups(alloc, &mut values, bytes.len())
 }
 
 #[test]
 fn reads_pieces_of_any_size_alike(rt: HostRuntime) -> Result<(), Fail> {
     let bytes = groups(rt.alloc())?;
     for most in [1, 2, 3, 4095, 4096, 65_536, usize::MAX] {
-        check_groups(&rt, rt.alloc(), &bytes, most);
+        assert!(rt; are_groups_by(rt.alloc(), &bytes, most), "{most}");
     }
     Ok(())
 }
 
-/// After a fault each call for a number answers `Failed`.
-fn check_numbers_failed<R: Read>(rt: &impl Abort, values: &mut Input<R>) {
+/// Whether after a fault each call for a number answers `Failed`.
+fn are_numbers_failed<R: Read>(values: &mut Input<R>) -> bool {
     let failed = ValueFault::Failed;
-    assert_eq!(rt; values.byte(), Err(failed));
-    assert_eq!(rt; values.unsigned(), Err(failed));
-    assert_eq!(rt; values.signed(), Err(failed));
-    assert_eq!(rt; values.real(), Err(failed));
+    let are_whole = values.byte() == Err(failed) && values.unsigned() == Err(failed);
+    are_whole && values.signed() == Err(failed) && values.real() == Err(failed)
 }
 
-/// After a fault each call for a delta answers `Failed`.
-fn check_deltas_failed<R: Read>(rt: &impl Abort, values: &mut Input<R>) {
+/// Whether after a fault each call for a delta answers `Failed`.
+fn are_deltas_failed<R: Read>(values: &mut Input<R>) -> bool {
     let failed = ValueFault::Failed;
-    assert_eq!(rt; values.two_delta(), Err(failed));
-    assert_eq!(rt; values.three_delta(), Err(failed));
-    assert_eq!(rt; values.g_delta(), Err(failed));
+    let are_short = values.two_delta() == Err(failed) && values.three_delta() == Err(failed);
+    are_short && values.g_delta() == Err(failed)
 }
 
 /// Whether this is the answer of a call after a fault.
@@ -314,52 +298,47 @@ fn has_failed<T>(answer: &Result<T, Cause<ValueFault>>) -> bool {
     matches!(answer, Err(Cause::Breach(ValueFault::Failed)))
 }
 
-/// After a fault each call for a list answers `Failed`.
-fn check_lists_failed<R: Read>(rt: &impl Abort, alloc: Global, values: &mut Input<R>) {
-    assert!(rt; has_failed(&values.string(alloc, Text::B, 9)));
-    assert!(rt; has_failed(&values.point_list(alloc, Use::Path)));
-    assert!(rt; has_failed(&values.repetition(alloc, true)));
+/// Whether after a fault each call for a list answers `Failed`.
+fn are_lists_failed<R: Read>(alloc: Global, values: &mut Input<R>) -> bool {
+    has_failed(&values.string(alloc, Text::B, 9))
+        && has_failed(&values.point_list(alloc, Use::Path))
+        && has_failed(&values.repetition(alloc, true))
 }
 
-/// After a fault each call answers `Failed`, and the offset stays.
-fn check_failed<R: Read>(rt: &impl Abort, alloc: Global, values: &mut Input<R>) {
+/// Whether after a fault each call answers `Failed`, and the offset stays.
+fn stays_failed<R: Read>(alloc: Global, values: &mut Input<R>) -> bool {
     let at = values.offset();
-    check_numbers_failed(rt, values);
-    check_deltas_failed(rt, values);
-    check_lists_failed(rt, alloc, values);
-    assert_eq!(rt; values.offset(), at);
+    let are_failed = are_numbers_failed(values) && are_deltas_failed(values);
+    are_failed && are_lists_failed(alloc, values) && values.offset() == at
 }
 
-/// A group of which only `k` bytes are read has this fault, and then each call answers `Failed`.
-fn check_fault<R: Read>(
-    rt: &impl Abort,
-    alloc: Global,
-    values: &mut Input<R>,
-    fault: ValueFault,
-    k: usize,
-) {
-    let read = read_group(alloc, values);
-    assert_eq!(rt; read, Err(Cause::Breach(fault)), "after {k}");
-    check_failed(rt, alloc, values);
+/// Whether a group has this fault, and then each call answers `Failed`.
+fn has_fault<R: Read>(alloc: Global, values: &mut Input<R>, fault: ValueFault) -> bool {
+    let is_found = match read_group(alloc, values) {
+        Err(Cause::Breach(found)) => found == fault,
+        _ => false,
+    };
+    is_found && stays_failed(alloc, values)
 }
 
-fn check_cut(rt: &impl Abort, alloc: Global, bytes: &[u8]) {
+fn is_truncated(alloc: Global, bytes: &[u8]) -> bool {
     let mut cut = Input::new(Pieces::new(bytes, 3), Profile::STANDARD);
-    check_fault(rt, alloc, &mut cut, ValueFault::Truncated, bytes.len());
+    has_fault(alloc, &mut cut, ValueFault::Truncated)
 }
 
-fn check_failed_read(rt: &impl Abort, alloc: Global, bytes: &[u8]) {
+/// Whether a reader that fails after these bytes is reported, and failed once.
+fn is_failed_read(alloc: Global, bytes: &[u8]) -> bool {
     let mut failing = Input::new(Pieces::failing(bytes, 3), Profile::STANDARD);
-    check_fault(rt, alloc, &mut failing, ValueFault::Read, bytes.len());
-    let errors = failing.into_reader().errors;
-    assert_eq!(rt; errors, 1);
+    let is_read = has_fault(alloc, &mut failing, ValueFault::Read);
+    is_read && failing.into_reader().errors == 1
 }
 
 #[test]
 fn reports_each_cut_and_each_failed_read(rt: HostRuntime) -> Result<(), Fail> {
     for k in 0..GROUP.len() {
-        check_cut(&rt, rt.alloc(), &GROUP[..k]);
-        check_failed_read(&rt, rt.alloc(), &GROUP[..k]);
+        let first = &GROUP[..k];
+        let is_right = is_truncated(rt.alloc(), first) && is_failed_read(rt.alloc(), first);
+        assert!(rt; is_right, "after {k}");
     }
     Ok(())
 }
@@ -368,10 +347,10 @@ fn reports_each_cut_and_each_failed_read(rt: HostRuntime) -> Result<(), Fail> {
 fn growths(rt: HostRuntime) -> Result<(), Fail> {
     let mut values = input(GROUP);
     match read_group(rt.alloc(), &mut values) {
-        Ok(sum) => assert_eq!(rt; sum, 343_115),
+        Ok(sum) => assert!(rt; sum == 343_115),
         Err(Cause::Breach(_)) => assert!(rt; false, "no group"),
         Err(Cause::OutOfMemory) => {
-            check_failed(&rt, rt.alloc(), &mut values);
+            assert!(rt; stays_failed(rt.alloc(), &mut values));
             return Err(AllocError.into());
         }
     }
