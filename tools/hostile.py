@@ -332,6 +332,22 @@ def layers_and_lists():
         one(*few, rectangle(0, 0, width, 1, 1, array)) for width in (2, 3)))
 
 
+def placements():
+    """Placements by few bytes each, against the same of another cell."""
+    n = 5_000_000
+    def near(width):
+        line = placement("A"), b"\x10", (b"\x11\x20" + signed(3)) * (n - 1)
+        return oas_file(oas_cell("A", rectangle(0, 0, width, 2)), oas_cell("TOP", *line))
+    yield case("5,000,000 placements of 3 bytes", n, near(2))
+    yield case("the same, against those of a wider square", 2 * n, near(2), near(3))
+    n = 3_000_000
+    def in_turn(width):
+        cells = [*oas_cell("A", rectangle(0, 0, width, 1)), *oas_cell("B", rectangle(0, 0, 1, 1))]
+        places = (placement("AB"[at % 2], 3 * (at % 2000), 3 * (at // 2000)) for at in range(n))
+        return oas_file(*cells, oas_cell("TOP", *places))
+    yield case("3,000,000 placements of two cells in turn, one of them wider", 2 * n, in_turn(1), in_turn(2))
+
+
 def corner(at, n):
     """An L-shape; each lies within the one before."""
     low, middle, high = at, 2 * n - at, 4 * n - at
@@ -567,6 +583,7 @@ GROUPS = [
     deep_chains, hierarchies, cells_that_double, arrays_of_arrays, cells_that_differ, paths, polygons, full_columns,
     small_cells, records, repetitions, tables, layers, wires, overlaps, scattered, views, far_combs, far_spirals,
     far_stairs, far_rounds, far_bars, far_lines, deceptive, long_bars, many_places, layers_and_lists,
+    placements,
 ]
 
 

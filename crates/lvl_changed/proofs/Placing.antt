@@ -214,6 +214,49 @@ partners_more pairs ours theirs i j c ps new a f all at low is found has adds be
       ],
     )
 
+-- what is placed has another array's places and the partner of its cell
+pub same_more : (pairs : List LayerPair) (ours theirs : List (PlainCell Rings)) (i k j : ℕ) (c d : PlainCell Rings)
+    (a b : Array) (f : Found) (all : Area) → slice_get ours i ≡ Some c → j < length c.references
+    → slice_get theirs k ≡ Some d → j < length d.references → IsArrayOf ours i j a → IsArrayOf theirs k j b
+    → f.partner ≡ Some b.cell → as_reference b ≡ as_reference a → IsFound pairs ours theirs a.cell f
+    → ((e : Point) → Contains a.shifts e → HasImages (map_at (as_reference a) e) f.area all)
+    → AlikeOutside all (ReferencesCover ours (take j c.references))
+    (IsMoved pairs (ReferencesCover theirs (take j d.references)))
+    → AlikeOutside all (ReferencesCover ours (take (j + 1) c.references))
+    (IsMoved pairs (ReferencesCover theirs (take (j + 1) d.references)))
+same_more pairs ours theirs i k j c d a b f all at low there other_low is other_is partner places found has before l s out =
+    let whole : Draws = ReferencesCover theirs (take (j + 1) d.references) in
+    let mine = references_more ours i j c a at low is l s in
+    let other : (n : Layer) → whole n s
+    ↔ (ReferencesCover theirs (take j d.references) n s ⊎ PlacedCover theirs (each_place b) n s) =
+    λ n. references_more theirs k j d b there other_low other_is n s in
+    let earlier = before l s out in
+    let last : PlacedCover ours (each_place a) l s ↔ IsMoved pairs (PlacedCover theirs (each_place b)) l s =
+    subst
+    (λ (r : PlainReference). PlacedCover ours (each_place a) l s ↔ IsMoved pairs (PlacedCover theirs (placed b.cell r)) l s)
+    (sym places) (partner_alike pairs ours theirs a.cell f (as_reference a) all (Some b.cell) partner found has l s out)
+    in (
+      λ x. elim (mine.0 x) [
+        | inl y ↦
+            moved_more pairs (ReferencesCover theirs (take j d.references)) whole s s (λ n h. (other n).1 (inl h)) l
+            (earlier.0 y)
+        | inr y ↦
+            moved_more pairs (PlacedCover theirs (each_place b)) whole s s (λ n h. (other n).1 (inr h)) l (last.0 y)
+      ],
+      λ m. elim ((other m.source).0 m.covers) [
+        | inl h ↦ mine.1 (inl (earlier.1 (record { source = m.source; is_target = m.is_target; covers = h })))
+        | inr h ↦ mine.1 (inr (last.1 (record { source = m.source; is_target = m.is_target; covers = h })))
+      ],
+    )
+
+-- no references of either
+pub same_none : (pairs : List LayerPair) (ours theirs : List (PlainCell Rings)) (all : Area)
+    → AlikeOutside all (ReferencesCover ours []) (IsMoved pairs (ReferencesCover theirs []))
+same_none pairs ours theirs all l s out = (
+  λ a. absurd (Any-nil (PickCovers ours l s) a),
+  λ m. absurd (Any-nil (PickCovers theirs m.source s) m.covers),
+)
+
 -- without references
 pub partners_none : (pairs : List LayerPair) (ours theirs : List (PlainCell Rings)) (all : Area)
     → AlikeOutside all (ReferencesCover ours []) (IsMoved pairs (PlacedCover theirs []))

@@ -10,3 +10,4 @@ pub mod Layers
 pub mod Areas
 pub mod Drawing
 pub mod Rows
+pub mod InStep

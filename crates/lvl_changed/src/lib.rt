@@ -40,6 +40,7 @@ mod difference;
 mod drawing;
 mod figures;
 mod found;
+mod in_step;
 mod lattices;
 mod layers;
 mod left;

@@ -18,6 +18,7 @@ ghost use Rattle.lvl_changed.specs.inside.Placements.{PlacedCover, ReferencesCov
 use crate::area::Area;
 use crate::arrays::{Array, array_of, sort_arrays};
 use crate::found::Found;
+use crate::in_step::hold_same;
 use crate::layers::Layers;
 use crate::listing::list_alone;
 use crate::placed::{Placed, placed_of};
@@ -208,6 +209,9 @@ pub(crate) fn hold_references(
         pair.now.first.now.cells ours pair.now.second.now.cells theirs) }
     ensures kept { OnOk result (Grows area.old area.new) }
 {
+    if hold_same(area, pair, ours, theirs, known)? {
+        return Ok(());
+    }
     let placed = partners_placed(area, alloc, pair.first.checked(), ours, known)?;
     let others = placed_of(alloc, pair.second.checked(), theirs)?;
     hold_placed(area, alloc, pair.second, drawn, pair.view, placed, others)?;

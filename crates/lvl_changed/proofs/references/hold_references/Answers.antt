@@ -52,7 +52,13 @@ returns-clause-held c = λ known x y at there.
     refer_alike pairs ours theirs x.references y.references ps qs old new mine other c.in_ok-hold_placed.ensures.kept
     c.in_ok-hold_placed.ensures.held
 
+pub returns-then-branch-clause-held : goal.returns-then-branch-clause-held
+returns-then-branch-clause-held c = c.in_ok-hold_same.ensures.alike c.if-branch.true
+
 pub returns-clause-kept : goal.returns-clause-kept
 returns-clause-kept c =
-    grows_further c.args.area.now c.partners_placed.new.area c.hold_placed.new.area
-    c.in_ok-placed.ensures.kept c.in_ok-hold_placed.ensures.kept
+    let before =
+    grows_further c.args.area.now c.hold_same.new.area c.partners_placed.new.area c.in_ok-hold_same.ensures.kept
+    c.in_ok-placed.ensures.kept in
+    grows_further c.args.area.now c.partners_placed.new.area c.hold_placed.new.area before
+    c.in_ok-hold_placed.ensures.kept
