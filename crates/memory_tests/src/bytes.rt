@@ -51,22 +51,25 @@ fn no_growths_of_records(rt: HostRuntime) -> Result<(), Fail> {
 /// A byte, 1,000, -5, the reciprocal of 5, 10 north, (5, -5), (10, 10), and 1 as a delta.
 const VALUES: &[u8] = b"\x07\xE8\x07\x0B\x02\x05\x29\x2F\xA8\x01\x02";
 
+/// Whether the next values are the numbers of `VALUES`.
+fn are_numbers(values: &mut Input<Pieces<'_>>) -> bool {
+    let is_whole = values.byte() == Ok(7) && values.unsigned() == Ok(1000);
+    is_whole && values.signed() == Ok(-5) && values.real() == Ok(Real::Reciprocal(5))
+}
+
+/// Whether the next values are its deltas, after which there is none.
+fn are_deltas(values: &mut Input<Pieces<'_>>) -> bool {
+    let are_pairs = values.two_delta().is_ok() && values.three_delta().is_ok();
+    let are_last = values.g_delta().is_ok() && values.one_delta() == Ok(1);
+    are_pairs && are_last && values.byte().is_err() && values.offset() == 11
+}
+
 #[test]
 fn no_growths_of_values(rt: HostRuntime) -> Result<(), Fail> {
-    let alloc = rt.alloc();
     let mut values = Input::new(Pieces::new(VALUES, 3), Profile::STANDARD);
-    fence(alloc)?;
-    let (byte, unsigned) = (values.byte(), values.unsigned());
-    let (signed, real) = (values.signed(), values.real());
-    let deltas = (values.two_delta(), values.three_delta(), values.g_delta());
-    let delta = values.one_delta();
-    let end = values.byte();
-    let offset = values.offset();
-    fence(alloc)?;
-    assert!(rt; byte == Ok(7) && unsigned == Ok(1000));
-    assert!(rt; signed == Ok(-5) && real == Ok(Real::Reciprocal(5)));
-    assert!(rt; deltas.0.is_ok() && deltas.1.is_ok() && deltas.2.is_ok());
-    assert!(rt; delta == Ok(1));
-    assert!(rt; end.is_err() && offset == 11);
+    fence(rt.alloc())?;
+    let are_read = are_numbers(&mut values) && are_deltas(&mut values);
+    fence(rt.alloc())?;
+    assert!(rt; are_read);
     Ok(())
 }
