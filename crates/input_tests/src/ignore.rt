@@ -2,75 +2,44 @@
 
 use lvl_profile::{Ignore, IgnoreFault};
 use lvl_refusal::Cause;
-use std::alloc::AllocError;
+use std::alloc::{AllocError, Global};
 use std::test::Fail;
 
-/// A text, and whether it names properties, texts, names and padding, in this order; `None` for a text that
-/// names nothing that can be ignored.
-static TEXTS: [(&str, Option<[bool; 4]>); 40] = [
-    ("properties", Some([true, false, false, false])),
-    ("texts", Some([false, true, false, false])),
-    ("names", Some([false, false, true, false])),
-    ("padding", Some([false, false, false, true])),
-    ("all", Some([true, true, true, true])),
-    ("properties,texts", Some([true, true, false, false])),
-    ("texts,properties", Some([true, true, false, false])),
-    ("padding,names,texts", Some([false, true, true, true])),
-    (
-        "properties,texts,names,padding",
-        Some([true, true, true, true]),
-    ),
-    // A word may come again, and what all names may be named beside it.
-    ("names,names", Some([false, false, true, false])),
-    ("texts,names,texts", Some([false, true, true, false])),
-    ("all,texts", Some([true, true, true, true])),
-    ("padding,all", Some([true, true, true, true])),
-    ("all,all", Some([true, true, true, true])),
-    // No word between commas.
-    ("", None),
-    (",", None),
-    (",,", None),
-    ("texts,", None),
-    (",texts", None),
-    ("texts,,names", None),
-    ("all,", None),
-    // Blanks belong to the words.
-    (" ", None),
-    (" texts", None),
-    ("texts ", None),
-    ("texts, names", None),
-    ("texts names", None),
-    ("texts\n", None),
-    ("texts\0", None),
-    // Words are whole, in small letters, and joined by commas alone.
-    ("Texts", None),
-    ("ALL", None),
-    ("text", None),
-    ("property", None),
-    ("propertie", None),
-    ("propertiess", None),
-    ("none", None),
-    ("texts;names", None),
-    ("texts=names", None),
-    ("texts,layers", None),
-    ("layers,all", None),
-    ("nämes", None),
-];
+/// Texts, with a bar after each, and what they name after the mark: `p` for properties, `t` for texts, `n` for names
+/// and `z` for padding; `!` for a text that names nothing that can be ignored. In the second row of words a word
+/// comes again, and what all names is named beside it; in the third no word is between commas; in the fourth blanks
+/// belong to the words. Words are whole, in small letters, and joined by commas alone.
+const TEXTS: &str = "\
+properties>p|texts>t|names>n|padding>z|all>ptnz|\
+properties,texts>pt|texts,properties>pt|padding,names,texts>tnz|properties,texts,names,padding>ptnz|\
+names,names>n|texts,names,texts>tn|all,texts>ptnz|padding,all>ptnz|all,all>ptnz|\
+>!|,>!|,,>!|texts,>!|,texts>!|texts,,names>!|all,>!|\
+texts >!| >!| texts>!|texts, names>!|texts names>!|texts\n>!|texts\0>!|\
+Texts>!|ALL>!|text>!|property>!|propertie>!|propertiess>!|none>!|\
+texts;names>!|texts=names>!|texts,layers>!|layers,all>!|nämes>!";
+
+/// Whether this is ignored, and no more.
+fn are_named(ignore: Ignore, named: &str) -> bool {
+    ignore.properties == named.contains("p")
+        && ignore.texts == named.contains("t")
+        && ignore.names == named.contains("n")
+        && ignore.padding == named.contains("z")
+}
+
+/// Whether the text of a row names what the row says.
+fn row_is_read(alloc: Global, row: &str) -> Result<bool, Fail> {
+    let (text, named) = row.split_once(">").ok_or("a row")?;
+    match Ignore::read(alloc, text) {
+        Ok(ignore) => Ok(named != "!" && are_named(ignore, named)),
+        Err(Cause::Breach(IgnoreFault::IgnoreText)) => Ok(named == "!"),
+        Err(Cause::OutOfMemory) => Err(AllocError.into()),
+    }
+}
 
 #[test]
 fn texts_name_what_they_say(rt: HostRuntime) -> Result<(), Fail> {
-    for (text, named) in &TEXTS {
-        let found = match Ignore::read(rt.alloc(), text) {
-            Ok(ignore) => Some([
-                ignore.properties,
-                ignore.texts,
-                ignore.names,
-                ignore.padding,
-            ]),
-            Err(Cause::Breach(IgnoreFault::IgnoreText)) => None,
-            Err(Cause::OutOfMemory) => return Err(AllocError.into()),
-        };
-        assert_eq!(rt; found, *named, "{text}");
+    for row in TEXTS.split('|') {
+        assert!(rt; row_is_read(rt.alloc(), row)?, "{row}");
     }
     Ok(())
 }
@@ -89,7 +58,7 @@ fn one_text(rt: HostRuntime) -> Result<(), Fail> {
 fn growths_of_a_text(rt: HostRuntime) -> Result<(), Fail> {
     match Ignore::read(rt.alloc(), "properties,texts,names,padding,all,texts") {
         Ok(ignore) => {
-            assert_eq!(rt; ignore, Ignore::EVERYTHING);
+            assert!(rt; ignore == Ignore::EVERYTHING);
             Ok(())
         }
         Err(Cause::OutOfMemory) => Err(AllocError.into()),

@@ -52,21 +52,30 @@ fn writes_to_a_vec_of_std(rt: HostRuntime) -> Result<(), Fail> {
     Ok(())
 }
 
-#[test]
-fn reports_a_failed_write(rt: HostRuntime) {
+/// Whether a writer takes two bytes, and then fails.
+fn takes_two() -> bool {
     let mut writer = Counted::new(Full {
         room: 2,
         fails: true,
     });
-    assert!(rt; writer.write(b"mask") == Ok(2));
-    assert!(rt; writer.write(b"sk") == Err(Failure));
-    assert!(rt; writer.flush() == Err(Failure));
+    writer.write(b"mask") == Ok(2)
+        && writer.write(b"sk") == Err(Failure)
+        && writer.flush() == Err(Failure)
+}
+
+/// Whether a writer takes nothing, and doesn't fail.
+fn is_idle() -> bool {
     let mut idle = Counted::new(Full {
         room: 0,
         fails: false,
     });
-    assert!(rt; idle.write(b"mask") == Ok(0));
-    assert!(rt; idle.flush() == Ok(()));
+    idle.write(b"mask") == Ok(0) && idle.flush() == Ok(())
+}
+
+#[test]
+fn reports_a_failed_write(rt: HostRuntime) {
+    assert!(rt; takes_two());
+    assert!(rt; is_idle());
 }
 
 /// Whether the reader gives three bytes, one, a failure and nothing.
@@ -89,13 +98,16 @@ fn gives_the_rest(reader: &mut Peeked<Pieces<'_>>, buf: &mut [u8]) -> bool {
     reader.read(buf) == Ok(2) && reader.read(buf) == Ok(1) && reader.read(buf) == Ok(0)
 }
 
+/// Whether the reader gives nothing where there is no room, and then the letter `m`.
+fn gives_m(reader: &mut Peeked<Pieces<'_>>, buf: &mut [u8]) -> bool {
+    reader.read(&mut []) == Ok(0) && reader.read(buf) == Ok(1) && buf.first() == Some(&b'm')
+}
+
 #[test]
 fn gives_a_byte_again(rt: HostRuntime) {
     let mut reader = Peeked::new(Some(b'm'), Pieces::new(b"ask", 2));
     let mut buf = [0; 4];
-    assert!(rt; reader.read(&mut []) == Ok(0));
-    assert!(rt; reader.read(&mut buf) == Ok(1));
-    assert!(rt; buf.first() == Some(&b'm'));
+    assert!(rt; gives_m(&mut reader, &mut buf));
     assert!(rt; gives_the_rest(&mut reader, &mut buf));
 }
 

@@ -32,8 +32,7 @@ fn add_ring(text: &mut String, ring: &Ring) -> Result<(), Fail> {
     for point in ring.points() {
         write!(text, " {},{}", point.x, point.y)?;
     }
-    text.push_str(";")?;
-    Ok(())
+    text.push_str(";").map_err(Fail::from)
 }
 
 fn rings_text(alloc: Global, rings: &[Ring]) -> Result<String, Fail> {
@@ -55,7 +54,7 @@ fn bands_text(
 ) -> Result<String, Fail> {
     match bands(alloc, points, half, start, end) {
         Ok(rings) => rings_text(alloc, &rings),
-        Err(Cause::Breach(fault)) => Ok(format!(in alloc; " {fault:?}")?),
+        Err(Cause::Breach(fault)) => format!(in alloc; " {fault:?}").map_err(Fail::from),
         Err(Cause::OutOfMemory) => Err(AllocError.into()),
     }
 }
