@@ -185,7 +185,7 @@ fn apart_in_columns(alloc: Global, pair: &Pair) -> Result<Option<(Layer, Square,
 
 /// What two tops differ in that draw the squares of words as `1/0 5,5 | 2/0 5,5`, in these columns.
 fn columns_text(alloc: Global, words: &str) -> Result<String, Fail> {
-    let (ours, theirs) = cut(words, "| ");
+    let (ours, theirs) = cut(words, "|");
     let pair = arrayed_pair(alloc, ours, theirs)?;
     let found = apart_in_columns(alloc, &pair)?;
     found_text(alloc, found)

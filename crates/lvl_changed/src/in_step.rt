@@ -64,7 +64,7 @@ fn hold_same_at(
 }
 
 /// The number of references of a cell.
-fn reference_count(checked: &Checked, cell: usize) -> usize
+pub(crate) fn reference_count(checked: &Checked, cell: usize) -> usize
     requires { cell < length checked.now.cells }
     ensures each { (j : ℕ) → j < result → HasReference checked.now.cells cell j }
     ensures all { (c : PlainCell Rings) → slice_get checked.now.cells cell ≡ Some c → length c.references ≤ result }

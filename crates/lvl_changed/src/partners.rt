@@ -4,6 +4,8 @@
 //! least.
 ghost use Rattle.std.specs.Prelude.{◌<◌, length, IfSome};
 
+use crate::arrays::array_of;
+use crate::in_step::reference_count;
 use crate::placed::{Placed, placed_of};
 use crate::spots::{AtSpot, skip_to_spot, sort_by_spot};
 use lvl_cells::{Checked, index_of};
@@ -183,6 +185,33 @@ impl<'a> Matching<'a> {
         }
     }
 
+    /// Proposes the cells that two cells place, reference by reference. Returns whether all of these place them at
+    /// the same spots, one after the other.
+    fn propose_in_step(
+        &mut self,
+        ours: usize,
+        theirs: usize,
+        round: Round,
+    ) -> Result<bool, AllocError> {
+        let (first, second) = (self.first.checked(), self.second.checked());
+        if ours >= first.cells().len() || theirs >= second.cells().len() {
+            return Ok(false);
+        }
+        let count = reference_count(first, ours);
+        if reference_count(second, theirs) != count {
+            return Ok(false);
+        }
+        for j in 0..count {
+            let placed = array_of(first, ours, j)?;
+            let other = array_of(second, theirs, j)?;
+            if placed.spot() != other.spot() {
+                return Ok(false);
+            }
+            self.propose(placed.cell, other.cell, round);
+        }
+        Ok(true)
+    }
+
     /// Looks for partners among the cells that two partners place.
     fn match_placed(
         &mut self,
@@ -195,6 +224,11 @@ impl<'a> Matching<'a> {
             return Ok(());
         }
         if !self.places_alone(ours) {
+            return Ok(());
+        }
+        if self.propose_in_step(ours, theirs, Round::Named)? {
+            self.propose_in_step(ours, theirs, Round::Free)?;
+            self.propose_in_step(ours, theirs, Round::Shared)?;
             return Ok(());
         }
         let mut placed = placed_of(alloc, first, ours)?;
