@@ -98,16 +98,23 @@ const BOTH: Map = Map {
     at: Point { x: 10, y: 5 },
 };
 
+/// A map after which the other leaves 64 bits.
+const FAR: Map = Map {
+    flip: false,
+    turn: Turn::R0,
+    at: Point { x: i64::MAX, y: 0 },
+};
+
+/// Whether the maps, one after the other, are the one that is both, and none where they leave 64 bits.
+fn are_composed() -> bool {
+    FLIP_AND_RISE.then(&TURN_AND_GO) == Some(BOTH)
+        && BOTH.place(Point { x: 3, y: 1 }) == Some(Point { x: 9, y: 2 })
+        && FAR.then(&TURN_AND_GO).is_none()
+}
+
 #[test]
 fn map_composition(rt: HostRuntime) {
-    assert!(rt; FLIP_AND_RISE.then(&TURN_AND_GO) == Some(BOTH));
-    assert!(rt; BOTH.place(Point { x: 3, y: 1 }) == Some(Point { x: 9, y: 2 }));
-    let far = Map {
-        flip: false,
-        turn: Turn::R0,
-        at: Point { x: i64::MAX, y: 0 },
-    };
-    assert!(rt; far.then(&TURN_AND_GO) == None);
+    assert!(rt; are_composed());
 }
 
 #[test]
@@ -149,13 +156,17 @@ const HALF_TURN: Map = Map {
 
 const LAST: i64 = i64::MAX - 1;
 
+/// Whether the ring begins at the upper end of 64 bits, and covers the last square there alone.
+fn is_at_end(ring: &Ring) -> bool {
+    ring.points().first().copied() == Some(Point { x: LAST, y: 0 })
+        && ring.covers(Square { x: LAST, y: -1 })
+        && !ring.covers(Square { x: LAST, y: 0 })
+        && !ring.covers(Square { x: LAST - 1, y: -1 })
+}
+
 #[test]
 fn edge_of_range(rt: HostRuntime) -> Result<(), Fail> {
-    let placed = edge_placed(rt.alloc(), ORIGIN, &HALF_TURN)?;
-    assert!(rt; placed.points().first().copied() == Some(Point { x: LAST, y: 0 }));
-    assert!(rt; placed.covers(Square { x: LAST, y: -1 }));
-    assert!(rt; !placed.covers(Square { x: LAST, y: 0 }));
-    assert!(rt; !placed.covers(Square { x: LAST - 1, y: -1 }));
+    assert!(rt; is_at_end(&edge_placed(rt.alloc(), ORIGIN, &HALF_TURN)?));
     Ok(())
 }
 

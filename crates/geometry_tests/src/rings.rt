@@ -132,14 +132,18 @@ fn fourth_of_comb(rings: &Rings) -> Option<Point> {
     }
 }
 
+/// Whether the rings are two, of 6 and of 8 points, the second as the comb.
+fn are_ell_and_comb(rings: &Rings) -> bool {
+    rings.len() == 2
+        && length(rings, 0) == 6
+        && length(rings, 1) == 8
+        && fourth_of_comb(rings) == Some(Point { x: 6, y: 6 })
+        && rings.get(2).is_none()
+}
+
 #[test]
 fn rings_in_one_piece(rt: HostRuntime) -> Result<(), Fail> {
-    let alloc = rt.alloc();
-    let rings = ell_and_comb(alloc)?;
-    assert!(rt; rings.len() == 2);
-    assert!(rt; length(&rings, 0) == 6 && length(&rings, 1) == 8);
-    assert!(rt; fourth_of_comb(&rings) == Some(Point { x: 6, y: 6 }));
-    assert!(rt; rings.get(2).is_none());
+    assert!(rt; are_ell_and_comb(&ell_and_comb(rt.alloc())?));
     Ok(())
 }
 
@@ -198,22 +202,34 @@ fn are_two(rings: &Rings, listed: &[Ring]) -> bool {
         && RingList::ring(rings, 1) == RingList::ring(&listed, 1)
 }
 
+/// Whether both lists have two rings, and the rings eight points.
+fn are_two_of_eight(rings: &Rings, listed: &[Ring]) -> bool {
+    are_two(rings, listed) && rings.points().len() == 8 && !rings.is_empty()
+}
+
 #[test]
 fn a_slice_of_rings(rt: HostRuntime) -> Result<(), Fail> {
-    let rings = two_in_one_piece(rt.alloc())?;
-    assert!(rt; are_two(&rings, &two_rectangles(rt.alloc())?));
-    assert!(rt; rings.points().len() == 8 && !rings.is_empty());
+    let listed = two_rectangles(rt.alloc())?;
+    assert!(rt; are_two_of_eight(&two_in_one_piece(rt.alloc())?, &listed));
     Ok(())
+}
+
+/// Whether these are the same as other rings.
+fn are_same(rings: &Rings, others: Result<Rings, Fail>) -> Result<bool, Fail> {
+    Ok(others?.is_same(rings))
+}
+
+/// Whether two rectangles are the same as these rings, and neither no rings nor the L and the comb.
+fn are_two_alone(alloc: Global, two: &Rings) -> Result<bool, Fail> {
+    let is_two = are_same(two, two_in_one_piece(alloc))?;
+    let is_other = are_same(two, Ok(Rings::new(alloc)))? || are_same(two, ell_and_comb(alloc))?;
+    Ok(is_two && !is_other)
 }
 
 #[test]
 fn rings_that_are_the_same(rt: HostRuntime) -> Result<(), Fail> {
-    let alloc = rt.alloc();
-    let two = two_in_one_piece(alloc)?;
-    assert!(rt; two_in_one_piece(alloc)?.is_same(&two));
-    assert!(rt; !two.is_same(&Rings::new(alloc)));
-    assert!(rt; !two.is_same(&ell_and_comb(alloc)?));
-    Ok(())
+    let two = two_in_one_piece(rt.alloc())?;
+    holds(are_two_alone(rt.alloc(), &two))
 }
 
 /// The third point of the rectangle from `LOW` on.
@@ -222,21 +238,28 @@ fn third_point(alloc: Global, high: Point) -> Result<Option<Point>, AllocError> 
     Ok(one.points().get(2).copied())
 }
 
+const HIGH: Point = Point { x: 2, y: 9 };
+
+const LOWEST: Point = Point {
+    x: i64::MIN,
+    y: i64::MIN,
+};
+
+const HIGHEST: Point = Point {
+    x: i64::MAX,
+    y: i64::MAX,
+};
+
+/// Whether points are moved as far as 64 bits go.
+fn are_moved() -> bool {
+    LOW.offset(5, 7) == Some(HIGH)
+        && LOW.offset(u64::MAX, 0).is_none()
+        && LOWEST.offset(u64::MAX, u64::MAX) == Some(HIGHEST)
+}
+
 #[test]
 fn corners_of_rectangles(rt: HostRuntime) -> Result<(), Fail> {
-    let high = Point { x: 2, y: 9 };
-    assert!(rt; LOW.offset(5, 7) == Some(high));
-    assert!(rt; third_point(rt.alloc(), high)? == Some(high));
-    assert!(rt; LOW.offset(u64::MAX, 0).is_none());
-    let lowest = Point {
-        x: i64::MIN,
-        y: i64::MIN,
-    };
-    let highest = Point {
-        x: i64::MAX,
-        y: i64::MAX,
-    };
-    assert!(rt; lowest.offset(u64::MAX, u64::MAX) == Some(highest));
+    assert!(rt; third_point(rt.alloc(), HIGH)? == Some(HIGH) && are_moved());
     Ok(())
 }
 
@@ -247,11 +270,8 @@ fn is_before(x: i64, y: i64) -> bool {
 
 #[test]
 fn squares_in_order(rt: HostRuntime) {
-    assert!(rt; is_before(9, 3));
-    assert!(rt; is_before(2, 4));
-    assert!(rt; !is_before(3, 4));
-    assert!(rt; !is_before(4, 4));
-    assert!(rt; !is_before(-9, 5));
+    assert!(rt; is_before(9, 3) && is_before(2, 4));
+    assert!(rt; !(is_before(3, 4) || is_before(4, 4) || is_before(-9, 5)));
 }
 
 /// The L and the comb, and the L once more, flipped and risen.
