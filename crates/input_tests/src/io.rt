@@ -136,13 +136,23 @@ fn want(failures: u32, room: u64, n: usize) -> Result<(), Missing>
     buffer.want(&mut reader, room, n)
 }
 
+/// Whether a buffer answers as it should where no read fails.
+fn is_right_of_whole() -> bool {
+    want(0, 4, 4) == Ok(())
+        && want(0, 9, 5) == Err(Missing::Ended)
+        && want(0, 3, 4) == Err(Missing::Limit)
+        && want(0, 4, 5) == Err(Missing::Ended)
+}
+
+/// Whether it does where a read fails after the bytes.
+fn is_right_of_failing() -> bool {
+    want(1, 3, 4) == Err(Missing::Limit)
+        && want(1, 9, 4) == Ok(())
+        && want(1, 9, 5) == Err(Missing::Failed)
+}
+
 #[test]
 fn wants_bytes_within_a_limit(rt: HostRuntime) {
-    assert!(rt; want(0, 4, 4) == Ok(()));
-    assert!(rt; want(0, 9, 5) == Err(Missing::Ended));
-    assert!(rt; want(0, 3, 4) == Err(Missing::Limit));
-    assert!(rt; want(0, 4, 5) == Err(Missing::Ended));
-    assert!(rt; want(1, 3, 4) == Err(Missing::Limit));
-    assert!(rt; want(1, 9, 4) == Ok(()));
-    assert!(rt; want(1, 9, 5) == Err(Missing::Failed));
+    assert!(rt; is_right_of_whole());
+    assert!(rt; is_right_of_failing());
 }
