@@ -5,13 +5,13 @@ use lvl_corners::{
 };
 use lvl_grid::{Ring, Rings};
 use lvl_names::Layer;
-use std::alloc::{AllocError, Global};
+use std::alloc::Global;
 use std::test::Fail;
 
 /// The rectangle of a text, by its lower left and its upper right corner.
 fn rectangle(alloc: Global, text: &str) -> Result<Ring, Fail> {
     let (low, high) = cut(text, " ");
-    Ring::rectangle(alloc, point(low)?, point(high)?).map_err(Fail::from)
+    Ok(Ring::rectangle(alloc, point(low)?, point(high)?)?)
 }
 
 fn push_rectangle(alloc: Global, rings: &mut Rings, text: &str) -> Result<(), Fail> {
@@ -58,31 +58,7 @@ fn layer(layer: u32) -> Layer {
 /// How many corners there are, and the digest.
 fn digest_text(alloc: Global, digest: &LayerDigest) -> Result<String, Fail> {
     let sha256 = hex(alloc, &digest.sha256)?;
-    format!(in alloc; "{} {sha256}", digest.corners).map_err(Fail::from)
-}
-
-/// What is below a number, and what is from there on.
-fn below_and_from(at: i64) -> (Span, Span) {
-    let below = Span {
-        from: None,
-        below: Some(at),
-    };
-    let from = Span {
-        from: Some(at),
-        below: None,
-    };
-    (below, from)
-}
-
-fn push_strips(
-    alloc: Global,
-    hash: &mut LayerHash,
-    rings: &Rings,
-    at: i64,
-) -> Result<(), AllocError> {
-    let (left, right) = below_and_from(at);
-    hash.push(alloc, rings, left)?;
-    hash.push(alloc, rings, right)
+    Ok(format!(in alloc; "{} {sha256}", digest.corners)?)
 }
 
 /// The digest of what the rings cover, in a strip left of an abscissa and one from there on.
@@ -93,7 +69,16 @@ fn digest_of(
     at: i64,
 ) -> Result<Option<LayerDigest>, Fail> {
     let mut hash = LayerHash::new(alloc, layer)?;
-    push_strips(alloc, &mut hash, rings, at)?;
+    let left = Span {
+        from: None,
+        below: Some(at),
+    };
+    let right = Span {
+        from: Some(at),
+        below: None,
+    };
+    hash.push(alloc, rings, left)?;
+    hash.push(alloc, rings, right)?;
     Ok(hash.finish())
 }
 
@@ -115,46 +100,20 @@ fn row_is_listed(alloc: Global, layers: &mut Vec<DigestedLayer>, row: &str) -> R
     Ok(digest_text(alloc, &digest)?.as_str() == want)
 }
 
-/// Lists the Layer of each row, or fails if one hasn't its digest.
-fn list_rows(alloc: Global, layers: &mut Vec<DigestedLayer>) -> Result<(), Fail> {
-    for row in LAYERS.lines() {
-        if !row_is_listed(alloc, layers, row)? {
-            return Err(Fail::new(row));
-        }
-    }
-    Ok(())
-}
-
-fn mask_text(alloc: Global, layers: &[DigestedLayer]) -> Result<String, Fail> {
-    hex(alloc, &mask_sha256(alloc, layers)?)
-}
-
 #[test]
 fn digests_of_layers(rt: HostRuntime) -> Result<(), Fail> {
-    let mut layers = Vec::new(rt.alloc());
-    list_rows(rt.alloc(), &mut layers)?;
-    let mask = mask_text(rt.alloc(), &layers)?;
-    assert!(rt; mask.as_str() == MASK, "{mask}");
-    Ok(())
-}
-
-/// Pushes the columns from x = -5 to x = 7, each in two parts. What is gathered right of a column is dropped.
-fn push_parts(
-    alloc: Global,
-    hash: &mut LayerHash,
-    rings: &Rings,
-    at: i64,
-) -> Result<(), AllocError> {
-    let (low, high) = below_and_from(at);
-    for x in -5..8 {
-        let end = hash.push_part(alloc, rings, x, 8, low, 2)?;
-        hash.push_part(alloc, rings, x, end, high, 2)?;
-        hash.clear_gathered();
+    let alloc = rt.alloc();
+    let mut layers = Vec::new(alloc);
+    for row in LAYERS.lines() {
+        assert!(rt; row_is_listed(alloc, &mut layers, row)?, "{row}");
     }
+    let mask = hex(alloc, &mask_sha256(alloc, &layers)?)?;
+    assert_eq!(rt; mask.as_str(), MASK);
     Ok(())
 }
 
-/// The digest of what the rings cover in these columns.
+/// The digest of what the rings cover from x = -5 to x = 7, column by column, each in two parts. What is
+/// gathered right of a column is dropped.
 fn digest_by_parts(
     alloc: Global,
     layer: Layer,
@@ -162,26 +121,34 @@ fn digest_by_parts(
     at: i64,
 ) -> Result<Option<LayerDigest>, Fail> {
     let mut hash = LayerHash::new(alloc, layer)?;
-    push_parts(alloc, &mut hash, rings, at)?;
-    Ok(hash.finish())
-}
-
-/// Whether the digest by parts is the one by strips, wherever the columns are cut.
-fn are_parts_whole(alloc: Global, rings: &Rings) -> Result<bool, Fail> {
-    let whole = digest_of(alloc, layer(3), rings, 3)?;
-    for at in -6..11 {
-        if digest_by_parts(alloc, layer(3), rings, at)? != whole {
-            return Ok(false);
-        }
+    let low = Span {
+        from: None,
+        below: Some(at),
+    };
+    let high = Span {
+        from: Some(at),
+        below: None,
+    };
+    for x in -5..8 {
+        let end = hash.push_part(alloc, rings, x, 8, low, 2)?;
+        hash.push_part(alloc, rings, x, end, high, 2)?;
+        hash.clear_gathered();
     }
-    Ok(whole.is_some())
+    Ok(hash.finish())
 }
 
 #[test]
 fn digest_of_parts(rt: HostRuntime) -> Result<(), Fail> {
     let alloc = rt.alloc();
     let rings = rectangles(alloc, "0,0 4,9; 2,3 7,5; 2,3 7,5; -5,-5 0,0")?;
-    assert!(rt; are_parts_whole(alloc, &rings)?);
+    let whole = digest_of(alloc, layer(3), &rings, 3)?;
+    assert!(rt; whole.is_some());
+    for at in -6..11 {
+        assert!(rt;
+            digest_by_parts(alloc, layer(3), &rings, at)? == whole,
+            "{at}"
+        );
+    }
     assert!(rt; digest_by_parts(alloc, layer(3), &Rings::new(alloc), 0)?.is_none());
     Ok(())
 }

@@ -21,7 +21,7 @@ fn ring(alloc: Global, corners: &str) -> Result<Ring, Fail> {
     for word in corners.split_whitespace() {
         points.push(point(word)?)?;
     }
-    Ring::new(points).map_err(Fail::from)
+    Ok(Ring::new(points)?)
 }
 
 /// Appends the ring of these corners, if there are any.
