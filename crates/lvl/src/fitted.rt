@@ -15,21 +15,27 @@ use std::alloc::{AllocError, Global};
 /// columns that compare them, the points of both sides then take about 50 megabytes.
 const LEAST_BUDGET: usize = 600_000;
 
-/// The number of shapes in the cells of a library, where two references count as one shape.
+/// The number of shapes in the cells of a library.
 pub(crate) fn shapes_of(fitted: &Fitted) -> usize {
     let mut shapes: usize = 0;
     for cell in fitted.checked().cells() {
-        let references = cell.references.len() / 2;
-        shapes = shapes
-            .saturating_add(cell.shapes.len())
-            .saturating_add(references);
+        shapes = shapes.saturating_add(cell.shapes.len());
     }
     shapes
 }
 
+/// The number of references in the cells of a library.
+pub(crate) fn references_of(fitted: &Fitted) -> usize {
+    let mut references: usize = 0;
+    for cell in fitted.checked().cells() {
+        references = references.saturating_add(cell.references.len());
+    }
+    references
+}
+
 /// The greatest number of points that the rings of one side have in a strip of files with this
-/// number of shapes. Strips look at all shapes and references, so they grow with the files: a strip
-/// takes about a fifth of what the shapes take.
+/// number of shapes. Each strip looks at all shapes, so strips grow with the files: a strip takes
+/// about a fifth of what the shapes take.
 pub(crate) fn most_points(shapes: usize) -> usize {
     LEAST_BUDGET.saturating_add(shapes / 4)
 }
