@@ -241,7 +241,13 @@ fn memory_of_moved_rings(rt: HostRuntime) -> Result<(), Fail> {
 fn bands(alloc: Global) -> Result<Vec<Ring>, Fail> {
     let mut rings = Vec::new(alloc);
     for y in 0..1000 {
-        let (low, high) = (Point { x: y, y }, Point { x: 2000, y: y.saturating_add(1) });
+        let (low, high) = (
+            Point { x: y, y },
+            Point {
+                x: 2000,
+                y: y.saturating_add(1),
+            },
+        );
         rings.push(Ring::rectangle(alloc, low, high)?)?;
     }
     Ok(rings)
