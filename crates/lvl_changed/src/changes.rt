@@ -1,13 +1,11 @@
 //! Where two libraries may draw differently, and their comparison only there.
 ghost use Rattle.std.specs.Prelude.{IfOk, IfSome, IfNone};
 ghost use Rattle.lvl_columns.specs.Windows.{IsShown};
-ghost use Rattle.lvl_grid.specs.declared.point.Square.{Square as GridSquare};
-ghost use Rattle.lvl_names.specs.declared.layer.Layer.{Layer as PlainLayer};
 ghost use Rattle.lvl_compare.specs.Pairs.{ours, theirs};
 ghost use Rattle.lvl_compare.specs.Tops.{DrawSame, IsFirstDifference};
-ghost use Rattle.lvl_changed.specs.Changed.{DrawSameBut, IsChange};
+ghost use Rattle.lvl_changed.specs.Changed.{DrawSameBut};
 
-use lvl_compare::{Pair, difference_in_windows, difference_on_layers, hull_of};
+use lvl_compare::{Pair, difference_in_windows, difference_on_layers};
 use lvl_grid::{Square, Window};
 use lvl_names::Layer;
 use lvl_region::Side;
@@ -20,24 +18,6 @@ pub struct Changes {
     pub windows: Vec<Window>,
     /// Layers of the first library, and of the second as they are mapped; None if it may be any.
     pub layers: Option<Vec<Layer>>,
-}
-
-impl Changes {
-    /// The changes in one window, which has all of theirs.
-    pub(crate) fn in_one_window(self, alloc: Global) -> Result<Changes, AllocError>
-        ensures { IfOk result (λ one. (layer : PlainLayer) (s : GridSquare)
-            → IsChange self layer s → IsChange one layer s) }
-    {
-        let Some(hull) = hull_of(&self.windows) else {
-            return Ok(self);
-        };
-        let mut windows = Vec::new(alloc);
-        windows.push(hull)?;
-        Ok(Changes {
-            windows,
-            layers: self.layers,
-        })
-    }
 }
 
 /// The first square that only one of two layouts draws, if they draw the same but for the changes.

@@ -38,17 +38,16 @@ fn are_small(windows: &[Window], pair: &Pair<'_>) -> bool {
     sum <= all / 2
 }
 
-/// Whether the changes are on few Layers.
-fn are_on_few_layers(changes: &Changes) -> bool {
+/// Whether it is likely to pay to compare only these changes.
+fn pays(changes: &Changes, pair: &Pair<'_>) -> bool {
     match &changes.layers {
-        Some(layers) => layers.len() <= FEW_LAYERS,
-        None => false,
+        Some(layers) if layers.len() <= FEW_LAYERS => true,
+        _ => are_small(&changes.windows, pair),
     }
 }
 
 /// Where the layouts may differ, or None if it isn't likely to pay to search for that, or to compare
-/// only what is there. Changes all over the layout are in one window, which is cut where both draw
-/// much: each window by itself is looked for in all of both.
+/// only what is there.
 fn changes_to_compare(alloc: Global, pair: &Pair<'_>) -> Result<Option<Changes>, AllocError>
     ensures { IfOk result (λ found. IfSome found (λ changes.
         DrawSameBut changes (ours pair.now) (theirs pair.now))) }
@@ -59,13 +58,10 @@ fn changes_to_compare(alloc: Global, pair: &Pair<'_>) -> Result<Option<Changes>,
     let Some(changes) = changed(alloc, pair.first, pair.second, pair.view)? else {
         return Ok(None);
     };
-    if are_small(&changes.windows, pair) {
-        return Ok(Some(changes));
-    }
-    if !are_on_few_layers(&changes) {
+    if !pays(&changes, pair) {
         return Ok(None);
     }
-    Ok(Some(changes.in_one_window(alloc)?))
+    Ok(Some(changes))
 }
 
 /// The first Layer, and on it the first square, by `y` and then `x`, that only one of two layouts
@@ -73,9 +69,9 @@ fn changes_to_compare(alloc: Global, pair: &Pair<'_>) -> Result<Option<Changes>,
 /// second are mapped by the view, and if the view has a window, only its squares are compared.
 ///
 /// If cells are placed often enough for it to pay, only what [`changed`] finds is compared: its
-/// windows, and on its Layers only if these are few. If the windows are more than half of the layout,
-/// all of it is compared on these Layers or, unless they are few, on all: see
-/// [`difference_by_strips`], which also explains `most`. Fails only if out of memory.
+/// windows, and on its Layers only if these are few. Otherwise, or if the windows are more than half
+/// of the layout and the Layers aren't few, everything is: see [`difference_by_strips`], which also
+/// explains `most`. Fails only if out of memory.
 pub fn difference_by_changes(
     alloc: Global,
     first: &Fitted,
