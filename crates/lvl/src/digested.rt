@@ -7,7 +7,7 @@ ghost use Rattle.lvl_corners.specs.Masks.{AreDigests};
 ghost use Rattle.lvl.specs.Digested.{IsMaskDigest};
 ghost use Rattle.lvl.specs.Hashes.{AreDigestsOn};
 
-use crate::fitted::{most_points, references_of, shapes_of};
+use crate::fitted::{most_points, shapes_of};
 use crate::hashes::hash_layers;
 use crate::layout::Head;
 use lvl_corners::{DigestedLayer, mask_sha256};
@@ -54,9 +54,7 @@ fn push_group(
         → AreDigestsOn (TopCovers fitted.now) done digested.old.items
         → AreDigestsOn (TopCovers fitted.now) (done ++ layers.now) digested.new.items) }
 {
-    let references = references_of(fitted);
-    // Each strip walks through all references, so two of them count as one shape.
-    let most = most_points(shapes_of(fitted).saturating_add(references / 2));
+    let most = most_points(shapes_of(fitted));
     for hash in hash_layers(alloc, fitted, layers, most)? {
         let layer = hash.layer();
         if let Some(digest) = hash.finish() {

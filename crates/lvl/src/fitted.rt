@@ -24,15 +24,6 @@ pub(crate) fn shapes_of(fitted: &Fitted) -> usize {
     shapes
 }
 
-/// The number of references in the cells of a library.
-pub(crate) fn references_of(fitted: &Fitted) -> usize {
-    let mut references: usize = 0;
-    for cell in fitted.checked().cells() {
-        references = references.saturating_add(cell.references.len());
-    }
-    references
-}
-
 /// The greatest number of points that the rings of one side have in a strip of files with this
 /// number of shapes. Each strip looks at all shapes, so strips grow with the files: a strip takes
 /// about a fifth of what the shapes take.
