@@ -39,6 +39,7 @@ random:
 	@tools/packed.py --count 50 --seed $(SEED)
 	@tools/digests.py --count 10 --seed $(SEED)
 	@tools/heads.py --count 100 --seed $(SEED)
+	@tools/placed.py --count 200 --seed $(SEED)
 
 # A hierarchy that KLayout writes as GDSII and as OASIS, compared. Not part of the gate.
 klayout:
