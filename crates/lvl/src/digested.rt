@@ -70,7 +70,7 @@ fn digested_layers(alloc: Global, fitted: &Fitted) -> Result<Vec<DigestedLayer>,
 {
     let layers = fitted.layers(alloc)?;
     let size = GROUP.max(layers.len().div_ceil(MOST_GROUPS));
-    let mut digested = Vec::new(alloc);
+    let mut digested = Vec::with_capacity(alloc, layers.len())?;
     let mut start = 0;
     while start < layers.len() {
         let end = start.saturating_add(size).min(layers.len());
