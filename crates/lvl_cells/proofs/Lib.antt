@@ -21,5 +21,7 @@ pub mod Moving
 pub mod Spanned
 pub mod Outlined
 pub mod FewSpans
+pub mod Keepings
+pub mod Stored
 pub mod Placed
 pub mod Listing

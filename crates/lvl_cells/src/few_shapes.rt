@@ -74,22 +74,22 @@ pub(crate) fn are_few(points: usize) -> bool {
     points <= MOST_POINTS
 }
 
-/// Takes room for this number of items more, and for a quarter of those that the list has.
-fn reserve_quarter<T>(list: &mut Vec<T>, more: usize) -> Result<(), AllocError>
+/// Takes room for this number of items more, or for an eighth of those that the list has, if it is full.
+fn reserve_eighth<T>(list: &mut Vec<T>, more: usize) -> Result<(), AllocError>
     ensures { list.new.items ≡ list.old.items }
 {
     if list.capacity() - list.len() < more {
-        list.reserve_exact(more.max(list.len() / 4))?;
+        list.reserve_exact(more.max(list.len() / 8))?;
     }
     Ok(())
 }
 
 /// Appends an item. If there is no memory for it, the item is dropped, and the list stays as it was.
-fn push_quarter<T: Drop>(list: &mut Vec<T>, item: T) -> Result<(), AllocError>
+fn push_eighth<T: Drop>(list: &mut Vec<T>, item: T) -> Result<(), AllocError>
     ensures added { OnOk result (list.new.items ≡ list.old.items ++ item ∷ []) }
     ensures kept { OnErr result (list.new.items ≡ list.old.items) }
 {
-    reserve_quarter(list, 1)?;
+    reserve_eighth(list, 1)?;
     push_item(list, item)
 }
 
@@ -147,7 +147,7 @@ fn keep_points(points: &mut Vec<Point>, ring: &[Point]) -> Result<KeptRing, Allo
 {
     let begin = kept_index(points.len())?;
     let end = point_end(begin, ring.len())?;
-    reserve_quarter(points, ring.len())?;
+    reserve_eighth(points, ring.len())?;
     points.extend_from_slice(ring)?;
     Ok(KeptRing {
         begin,
@@ -165,7 +165,7 @@ fn keep_rectangle(points: &mut Vec<Point>, kept: &Rectangle) -> Result<KeptRing,
 {
     let begin = kept_index(points.len())?;
     let end = point_end(begin, 1)?;
-    push_quarter(points, kept.diagonal)?;
+    push_eighth(points, kept.diagonal)?;
     Ok(KeptRing {
         begin,
         end,
@@ -296,7 +296,7 @@ impl FewShapes {
             shifts: kept_index(number as usize)?,
             along_y: kept.along_y,
         };
-        push_quarter(&mut self.spans, span)?;
+        push_eighth(&mut self.spans, span)?;
         Ok(())
     }
 

@@ -53,6 +53,7 @@ mod order;
 mod outline;
 mod outlines;
 mod placements;
+mod placings;
 mod reference;
 mod reference_lists;
 mod references;

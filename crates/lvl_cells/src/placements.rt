@@ -4,34 +4,23 @@ ghost use Rattle.lvl_grid.specs.Turn.{shifted, FitsPoint};
 ghost use Rattle.lvl_cells.specs.inside.Beside.{borrowed_shifts};
 ghost use Rattle.lvl_cells.specs.inside.Placings.{placement_by};
 
-use crate::lists::push_lean;
+use crate::placings::{Placing, Placings};
 use crate::shape_lists::{kept_count, number_of_owned};
-use lvl_grid::{Map, Point, Turn};
+use lvl_grid::Map;
 use lvl_names::Offsets;
 use std::alloc::{AllocError, Global};
 use std::marker::Model;
 
-/// A placement as it is stored: the index of what is placed, how it is placed, and the number of its
-/// list of shifts, which is 0 for the zero shift alone, and any other one more than an index of
-/// [`Placements`].
-#[derive(Clone, Copy)]
-pub(crate) struct Placing {
-    pub at: Point,
-    pub key: u32,
-    pub shifts: u32,
-    pub flip: bool,
-    pub turn: Turn,
-}
-
 /// A list of placements. What is placed is known by its index in a list that the owner keeps, its
 /// key: [`crate::References`] has a list of names.
 ///
-/// A placement has no allocation of its own. It takes 32 bytes if its shifts are those of the
-/// placement before, or the zero shift alone; other lists of shifts are kept beside it.
+/// A placement has no allocation of its own. It takes 24 bytes if it has a single place, or the key and
+/// the shifts of the placement before; another key with a list of shifts takes 8 more, and a list that isn't
+/// the one before is kept beside it.
 #[derive(Drop)]
 pub struct Placements {
     shifts: Vec<Offsets>,
-    placings: Vec<Placing>,
+    placings: Placings,
 }
 
 impl Model for Placements {
@@ -41,9 +30,9 @@ impl Model for Placements {
 
     ghost Value = { List PlainPlacement };
 
-    ghost view = { λ p. map (placement_in p.shifts.items) p.placings.items };
+    ghost view = { λ p. map (placement_in p.shifts.items) p.placings };
 
-    ghost invariant = { λ p. All (IsPlacing p.shifts.items) p.placings.items };
+    ghost invariant = { λ p. All (IsPlacing p.shifts.items) p.placings };
 }
 
 impl Placements {
@@ -53,7 +42,7 @@ impl Placements {
     {
         Placements {
             shifts: Vec::new(alloc),
-            placings: Vec::new(alloc),
+            placings: Placings::new(alloc),
         }
     }
 
@@ -69,7 +58,7 @@ impl Placements {
         requires { j < length self.now }
         ensures { IfSome (slice_get self.now j) (λ p. result ≡ p.key) }
     {
-        self.placings[j].key as usize
+        self.placings.get(j).key as usize
     }
 
     /// The placement at this index, and its shifts, or None for the zero shift alone. Each of its
@@ -79,7 +68,7 @@ impl Placements {
         ensures value { slice_get self.now j ≡ Some (placement_by result.0 (borrowed_shifts result.1)) }
         ensures fits { All (λ e. FitsPoint (shifted result.0.at e)) (borrowed_shifts result.1) }
     {
-        let placing = self.placings[j];
+        let placing = self.placings.get(j);
         match placing.shifts {
             0 => (placing, None),
             number => (placing, Some(&self.shifts[number as usize - 1])),
@@ -103,7 +92,7 @@ impl Placements {
             flip: by.flip,
             turn: by.turn,
         };
-        push_lean(&mut self.placings, placing)?;
+        self.placings.push(placing)?;
         Ok(())
     }
 }

@@ -15,7 +15,7 @@ use std::marker::Model;
 /// The references of a cell in file order.
 ///
 /// An empty list allocates nothing. A single reference keeps no list for the zero shift alone. Of
-/// several, a reference takes 32 bytes if its name and its shifts are those of the reference before,
+/// several, a reference takes 24 bytes if its name and its shifts are those of the reference before,
 /// or if it has a single place; a name and a list of shifts that aren't are kept beside it.
 #[derive(Drop)]
 pub struct References {

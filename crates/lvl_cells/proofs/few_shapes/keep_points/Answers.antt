@@ -15,7 +15,7 @@ returns-clause-kept c =
     let kept : KeptRing =
     record { begin = c.in_ok-begin.begin; end = c.in_ok-end.end; along_y = false; by = origin } in
     let all : c.extend_from_slice.new.self.items ≡ c.args.points.now.items ++ c.args.ring.now =
-    c.in_ok-extend_from_slice.ensures.items ∙ ap (λ ps. ps ++ c.args.ring.now) c.reserve_quarter.ensures in
+    c.in_ok-extend_from_slice.ensures.items ∙ ap (λ ps. ps ++ c.args.ring.now) c.reserve_eighth.ensures in
     let begin : kept.begin ≡ length c.args.points.now.items =
     c.in_ok-begin.ensures ∙ (c.len.ensures ∙ c.args.points.now.ok.0) in
     let end : kept.end ≡ length c.args.points.now.items + length c.args.ring.now =

@@ -17,7 +17,7 @@ returns-clause-kept c =
     let begin : kept.begin ≡ length c.args.points.now.items =
     c.in_ok-begin.ensures ∙ (c.len.ensures ∙ c.args.points.now.ok.0) in
     let end : kept.end ≡ length c.args.points.now.items + 1 = omega (arith, begin, c.in_ok-end.ensures) in
-    subst (λ ps. IsKeptRing ps kept (rectangle_at c.args.kept.now)) (sym c.in_ok-push_quarter.ensures.added)
+    subst (λ ps. IsKeptRing ps kept (rectangle_at c.args.kept.now)) (sym c.in_ok-push_eighth.ensures.added)
     (appended c.args.points.now.items (c.args.kept.now.diagonal ∷ []) (rectangle_at c.args.kept.now) kept
     (record {
       ring = rectangle_ring c.args.kept.now.diagonal c.args.kept.now.along_y;

@@ -4,7 +4,7 @@ use Rattle.lvl_cells.specs.inside.Spans.{HasNumber}
 use Rattle.lvl_cells.proofs.FewSpans.{AreFewSpans, AreMore, few_in, one_more, refused, still}
 use Rattle.lvl_cells.proofs.Spanned.{always_err, goes_on_same}
 use Rattle.lvl_cells.proofs.few_shapes.FewShapes.push_ring.Goals as goal
-use Rattle.lvl_cells.proofs.few_shapes.FewShapes.push_ring.Goals.{In_ok-push_quarter}
+use Rattle.lvl_cells.proofs.few_shapes.FewShapes.push_ring.Goals.{In_ok-push_eighth}
 
 pub invariant_of-self : goal.invariant_of-self
 invariant_of-self c =
@@ -37,22 +37,22 @@ returns-in_err-kept_index-clause-kept c =
     (refused _ _ _ _ c.self.inside.spans.items c.args.self.now c.ring_of.ensures.before
     c.number_of.ensures.before c.self.invariant c.self.view_is)
 
-pub invariant_of-self-in_err-push_quarter : goal.invariant_of-self-in_err-push_quarter
-invariant_of-self-in_err-push_quarter c =
+pub invariant_of-self-in_err-push_eighth : goal.invariant_of-self-in_err-push_eighth
+invariant_of-self-in_err-push_eighth c =
     subst (AreFewSpans c.ring_of.new.points.items c.number_of.new.kept.items)
-    (sym c.in_err-push_quarter.ensures.kept)
+    (sym c.in_err-push_eighth.ensures.kept)
     (still _ _ _ _ c.self.inside.spans.items c.ring_of.ensures.before c.number_of.ensures.before
     c.self.invariant)
 
-pub returns-in_err-push_quarter-clause-kept : goal.returns-in_err-push_quarter-clause-kept
-returns-in_err-push_quarter-clause-kept c =
-    always_err c.from_residual-in_err-push_quarter.result
+pub returns-in_err-push_eighth-clause-kept : goal.returns-in_err-push_eighth-clause-kept
+returns-in_err-push_eighth-clause-kept c =
+    always_err c.from_residual-in_err-push_eighth.result
     (ap (few_in c.ring_of.new.points.items c.number_of.new.kept.items)
-    c.in_err-push_quarter.ensures.kept
+    c.in_err-push_eighth.ensures.kept
     ∙ refused _ _ _ _ c.self.inside.spans.items c.args.self.now c.ring_of.ensures.before
     c.number_of.ensures.before c.self.invariant c.self.view_is)
 
-abbrev span : (c : In_ok-push_quarter) → FewSpan
+abbrev span : (c : In_ok-push_eighth) → FewSpan
 span c = record {
   layer = c.args.layer;
   by = c.in_ok-kept.kept.by;
@@ -62,7 +62,7 @@ span c = record {
   along_y = c.in_ok-kept.kept.along_y;
 }
 
-more : (c : In_ok-push_quarter)
+more : (c : In_ok-push_eighth)
     → AreMore c.ring_of.new.points.items c.number_of.new.kept.items c.self.inside.spans.items (span c)
     c.args.ring.now c.args.shifts.now c.args.self.now
 more c =
@@ -76,10 +76,10 @@ more c =
 pub invariant_of-self-2 : goal.invariant_of-self-2
 invariant_of-self-2 c =
     subst (AreFewSpans c.ring_of.new.points.items c.number_of.new.kept.items)
-    (sym c.in_ok-push_quarter.ensures.added) (more c).are
+    (sym c.in_ok-push_eighth.ensures.added) (more c).are
 
 pub returns-clause-added : goal.returns-clause-added
 returns-clause-added c =
     ap (few_in c.ring_of.new.points.items c.number_of.new.kept.items)
-    c.in_ok-push_quarter.ensures.added
+    c.in_ok-push_eighth.ensures.added
     ∙ (more c).is

@@ -1,33 +1,37 @@
-use Rattle.std.proofs.Common.{refl, sym, subst, ap, ◌∙◌}
-use Rattle.lvl_cells.specs.declared.placements.Placing.{Placing}
-use Rattle.lvl_cells.proofs.Placed.{ArePlacings, AreMore, placements_in, one_more, refused, still}
+use Rattle.std.proofs.Common.{All, map, refl, sym, subst, ap, ◌∙◌}
+use Rattle.lvl_cells.specs.declared.placings.Placing.{Placing}
+use Rattle.lvl_cells.specs.inside.Placings.{placement_by, placement_in, IsPlacing}
+use Rattle.lvl_cells.proofs.Keepings.{all_same, all_still, one_more_stored, AreMoreStored}
+use Rattle.lvl_cells.proofs.Placed.{placements_last}
 use Rattle.lvl_cells.proofs.Spanned.{always_err}
-use Rattle.lvl_cells.proofs.placements.Placements.push.Goals.{In_ok-push_lean}
+use Rattle.lvl_cells.proofs.placements.Placements.push.Goals.{In_ok-push}
 use Rattle.lvl_cells.proofs.placements.Placements.push.Goals as goal
 
 pub invariant_of-self : goal.invariant_of-self
 invariant_of-self c =
-    still _ _ c.self.inside.placings.items c.number_of_owned.ensures.before c.self.invariant
+    all_still IsPlacing placement_in placements_last _ _ c.self.inside.placings c.number_of_owned.ensures.before
+    c.self.invariant
 
 pub returns-in_err-number-clause-kept : goal.returns-in_err-number-clause-kept
 returns-in_err-number-clause-kept c =
     always_err c.from_residual-in_err-number.result
-    (refused _ _ c.self.inside.placings.items c.args.self.now c.number_of_owned.ensures.before c.self.invariant
-    c.self.view_is)
+    (all_same IsPlacing placement_in placements_last _ _ c.self.inside.placings c.number_of_owned.ensures.before
+    c.self.invariant ∙ c.self.view_is)
 
-pub invariant_of-self-in_err-push_lean : goal.invariant_of-self-in_err-push_lean
-invariant_of-self-in_err-push_lean c =
-    subst (ArePlacings c.number_of_owned.new.kept.items) (sym c.in_err-push_lean.ensures.kept)
-    (still _ _ c.self.inside.placings.items c.number_of_owned.ensures.before c.self.invariant)
+pub invariant_of-self-in_err-push : goal.invariant_of-self-in_err-push
+invariant_of-self-in_err-push c =
+    subst (All (IsPlacing c.number_of_owned.new.kept.items)) (sym c.in_err-push.ensures.kept)
+    (all_still IsPlacing placement_in placements_last _ _ c.self.inside.placings c.number_of_owned.ensures.before
+    c.self.invariant)
 
-pub returns-in_err-push_lean-clause-kept : goal.returns-in_err-push_lean-clause-kept
-returns-in_err-push_lean-clause-kept c =
-    always_err c.from_residual-in_err-push_lean.result
-    (ap (placements_in c.number_of_owned.new.kept.items) c.in_err-push_lean.ensures.kept
-    ∙ refused _ _ c.self.inside.placings.items c.args.self.now c.number_of_owned.ensures.before c.self.invariant
-    c.self.view_is)
+pub returns-in_err-push-clause-kept : goal.returns-in_err-push-clause-kept
+returns-in_err-push-clause-kept c =
+    always_err c.from_residual-in_err-push.result
+    (ap (map (placement_in c.number_of_owned.new.kept.items)) c.in_err-push.ensures.kept
+    ∙ (all_same IsPlacing placement_in placements_last _ _ c.self.inside.placings c.number_of_owned.ensures.before
+    c.self.invariant ∙ c.self.view_is))
 
-abbrev placing : (c : In_ok-push_lean) → Placing
+abbrev placing : (c : In_ok-push) → Placing
 placing c = record {
   at = c.args.by.at;
   key = c.in_ok-key.key;
@@ -36,20 +40,21 @@ placing c = record {
   turn = c.args.by.turn;
 }
 
-more : (c : In_ok-push_lean)
-    → AreMore c.number_of_owned.new.kept.items c.self.inside.placings.items (placing c) c.args.shifts c.args.self.now
+more : (c : In_ok-push)
+    → AreMoreStored IsPlacing placement_in c.number_of_owned.new.kept.items c.self.inside.placings (placing c)
+    c.args.self.now (placement_by (placing c) c.args.shifts)
 more c =
-    one_more c.self.inside.shifts.items c.number_of_owned.new.kept.items c.self.inside.placings.items (placing c)
-    c.args.shifts c.args.self.now c.number_of_owned.ensures.before c.self.invariant c.self.view_is
-    c.in_ok-number.ensures.number c.requires
+    let number = c.in_ok-number.ensures.number in
+    one_more_stored IsPlacing placement_in placements_last c.self.inside.shifts.items c.number_of_owned.new.kept.items
+    c.self.inside.placings (placing c) c.args.self.now (placement_by (placing c) c.args.shifts)
+    c.number_of_owned.ensures.before c.self.invariant c.self.view_is
+    (record { shifts = number.within; fits = rw number.is c.requires }) (rw number.is refl)
 
 pub invariant_of-self-2 : goal.invariant_of-self-2
 invariant_of-self-2 c =
-    subst (ArePlacings c.number_of_owned.new.kept.items)
-    (sym c.in_ok-push_lean.ensures.added) (more c).are
+    subst (All (IsPlacing c.number_of_owned.new.kept.items)) (sym c.in_ok-push.ensures.added) (more c).are
 
 pub returns-clause-added : goal.returns-clause-added
 returns-clause-added c =
-    ap (placements_in c.number_of_owned.new.kept.items)
-    c.in_ok-push_lean.ensures.added
+    ap (map (placement_in c.number_of_owned.new.kept.items)) c.in_ok-push.ensures.added
     ∙ ((more c).is ∙ rw c.in_ok-key.ensures.0 refl)
