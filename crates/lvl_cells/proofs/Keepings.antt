@@ -1,8 +1,9 @@
 -- Lists of what is stored over what is kept beside it: they stay valid and mean the same after more is kept.
-use Rattle.std.proofs.Common.{◌≡◌, List, [], ◌∷◌, ◌++◌, map, All, refl, ap, ◌∙◌}
+use Rattle.std.proofs.Common.{◌≡◌, List, [], ◌∷◌, ◌++◌, map, All, refl, sym, ap, subst, ◌∙◌}
 use Rattle.std.proofs.lemmas.List.{map-append}
 use Rattle.std.proofs.lemmas.List.Elements.{All-head, All-push, All-tail, All-weaker}
 use Rattle.lvl_cells.specs.inside.Spans.{IsPrefixOf}
+use Rattle.lvl_cells.proofs.Spanned.{goes_on_same}
 
 -- each stored item stays valid and means the same after more is kept
 pub record IsLasting {K S V : Type 0} (Is : List K → S → Type 0) (means : List K → S → V) : Type 0 where
@@ -41,3 +42,10 @@ one_more_stored Is means lasts kept kept' stored s items item on h e valid is = 
       ∙ (ap (λ vs. vs ++ means kept' s ∷ []) (all_same Is means lasts kept kept' stored on h ∙ e)
       ∙ ap (λ v. items ++ v ∷ []) is);
 }
+
+-- what the stored items meant is where it was, after more is kept
+pub begins_same : {K S V : Type 0} (Is : List K → S → Type 0) (means : List K → S → V) → IsLasting Is means
+    → (kept kept' : List K) (stored : List S) (items : List V) → IsPrefixOf kept kept' → All (Is kept) stored
+    → map (means kept) stored ≡ items → IsPrefixOf items (map (means kept') stored)
+begins_same Is means lasts kept kept' stored items on h e =
+    subst (IsPrefixOf items) (sym (all_same Is means lasts kept kept' stored on h ∙ e)) (goes_on_same items)

@@ -22,6 +22,5 @@ pub mod Spanned
 pub mod Outlined
 pub mod FewSpans
 pub mod Keepings
-pub mod Stored
 pub mod Placed
 pub mod Listing

@@ -1,14 +1,13 @@
 -- Placements as they are stored, and references to names: they stay the same after more is kept, and one more.
-use Rattle.std.proofs.Common.{◌≡◌, ◌<◌, ℕ, get_or, List, [], ◌∷◌, ◌++◌, map, length, All, refl, sym, ap}
+use Rattle.std.proofs.Common.{◌≡◌, ◌<◌, ℕ, Bool, true, false, get_or, List, [], ◌∷◌, ◌++◌, map, length, All, refl, sym, ap}
 use Rattle.std.proofs.Common.{subst, arith, ◌∙◌}
 use Rattle.std.proofs.lemmas.List.{get_or-take, length-append, map-append}
 use Rattle.std.proofs.lemmas.List.Elements.{All-head, All-tail, All-weaker}
-use Rattle.lvl_grid.specs.declared.point.Point.{Point}
-use Rattle.lvl_cells.specs.declared.placings.Placing.{Placing}
 use Rattle.lvl_cells.specs.Cells.{PlainPlacement, PlainReference, reference_to}
-use Rattle.lvl_cells.specs.inside.Placings.{placement_in, IsAt, IsPlacing}
+use Rattle.lvl_cells.specs.inside.Placings.{once, placement_in, repeated_in, target_in, HasIndex, IsAt, IsPlacing}
+use Rattle.lvl_cells.specs.inside.Placings.{IsRepeated, KeyAtShifts}
 use Rattle.lvl_names.specs.Shifts.{one_place}
-use Rattle.lvl_cells.specs.inside.Spans.{numbered, IsPrefixOf}
+use Rattle.lvl_cells.specs.inside.Spans.{IsPrefixOf}
 use Rattle.std.proofs.lemmas.Option.{get_or_from_slice_get}
 use Rattle.lvl_cells.proofs.Indexes.{push_last}
 use Rattle.lvl_cells.proofs.Keepings.{IsLasting}
@@ -30,20 +29,34 @@ at_last old new item i is e =
           ∙ get_or_from_slice_get (old ++ item ∷ []) (length old) item [] (push_last old item);
     })
 
-shifts_same : (kept kept' : List (List Point)) (p : Placing) → IsPrefixOf kept kept' → IsPlacing kept p
-    → numbered kept' p.shifts ≡ numbered kept p.shifts
-shifts_same kept kept' p on h = number_same one_place kept kept' p.shifts [] on h.shifts
+index_still : (kept kept' : List KeyAtShifts) (is_repeated : Bool) (index : ℕ) → IsPrefixOf kept kept'
+    → HasIndex kept is_repeated index → HasIndex kept' is_repeated index
+index_still kept kept' true index on h = omega (arith, h, no_fewer kept kept' on)
+index_still kept kept' false index on h = tt
 
--- a placing stays valid and means the same placement after more lists of shifts are kept
+target_same : (kept kept' : List KeyAtShifts) (is_repeated : Bool) (index : ℕ) → IsPrefixOf kept kept'
+    → HasIndex kept is_repeated index → target_in kept' is_repeated index ≡ target_in kept is_repeated index
+target_same kept kept' true index on h =
+    sym (get_or-take (length kept) kept' index (once index) h) ∙ ap (λ ks. get_or ks index (once index)) on
+target_same kept kept' false index on h = refl
+
+-- a placement stays the same after more keys are kept
 pub placements_last : IsLasting IsPlacing placement_in
 placements_last = record {
   still =
-      λ kept kept' p on h.
+      λ kept kept' s on h.
       record {
-        shifts = omega (arith, h.shifts, no_fewer kept kept' on);
-        fits = rw (shifts_same kept kept' p on h) h.fits;
+        index = index_still kept kept' s.is_repeated s.index on h.index;
+        fits = rw (target_same kept kept' s.is_repeated s.index on h.index) h.fits;
       };
-  same = λ kept kept' p on h. rw (shifts_same kept kept' p on h) refl;
+  same = λ kept kept' s on h. rw (target_same kept kept' s.is_repeated s.index on h.index) refl;
+}
+
+-- a key stays the same, with its shifts, after more lists are kept
+pub repeated_last : IsLasting IsRepeated repeated_in
+repeated_last = record {
+  still = λ lists lists' r on h. omega (arith, h, no_fewer lists lists' on);
+  same = λ lists lists' r on h. rw (number_same one_place lists lists' r.shifts [] on h) refl;
 }
 
 -- the keys of the placements are indexes of names
