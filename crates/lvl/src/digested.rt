@@ -7,7 +7,7 @@ ghost use Rattle.lvl_corners.specs.Masks.{AreDigests};
 ghost use Rattle.lvl.specs.Digested.{IsMaskDigest};
 ghost use Rattle.lvl.specs.Hashes.{AreDigestsOn};
 
-use crate::fitted::{most_points, shapes_of};
+use crate::fitted::{most_points, shapes_and_references_of};
 use crate::hashes::hash_layers;
 use crate::layout::Head;
 use lvl_corners::{DigestedLayer, mask_sha256};
@@ -54,7 +54,7 @@ fn push_group(
         → AreDigestsOn (TopCovers fitted.now) done digested.old.items
         → AreDigestsOn (TopCovers fitted.now) (done ++ layers.now) digested.new.items) }
 {
-    let most = most_points(shapes_of(fitted));
+    let most = most_points(shapes_and_references_of(fitted));
     for hash in hash_layers(alloc, fitted, layers, most)? {
         let layer = hash.layer();
         if let Some(digest) = hash.finish() {

@@ -24,6 +24,16 @@ pub(crate) fn shapes_of(fitted: &Fitted) -> usize {
     shapes
 }
 
+/// The number of shapes in the cells of a library, where two references count as one: a digest looks at all of
+/// the top's for each strip, so strips grow with them too.
+pub(crate) fn shapes_and_references_of(fitted: &Fitted) -> usize {
+    let mut references: usize = 0;
+    for cell in fitted.checked().cells() {
+        references = references.saturating_add(cell.references.len());
+    }
+    shapes_of(fitted).saturating_add(references / 2)
+}
+
 /// The greatest number of points that the rings of one side have in a strip of files with this
 /// number of shapes. Each strip looks at all shapes, so strips grow with the files: a strip takes
 /// about a fifth of what the shapes take.

@@ -4,26 +4,7 @@ use Rattle.std.proofs.Common.{sym, append_assoc}
 use Rattle.std.specs.Io.KnownBytes.{Appends, Keeps}
 use Rattle.std.proofs.KnownBytes.{Appends-trans}
 use Rattle.lvl_report.specs.Writing.{AppendsBeginning}
-
--- a beginning of the first part is a beginning of the whole
-pub begins : (old new : Option (List ℕ)) (a b : List ℕ) → AppendsBeginning old new a
-    → AppendsBeginning old new (a ++ b)
-begins old new a b h = record {
-  front = h.front;
-  rest = h.rest ++ b;
-  split = ap (λ l. l ++ b) h.split ∙ append_assoc h.front h.rest b;
-  appended = h.appended;
-}
-
--- the first part whole, and then a beginning of the second
-pub begins_later : (old mid new : Option (List ℕ)) (a b : List ℕ) → Appends old mid a → AppendsBeginning mid new b
-    → AppendsBeginning old new (a ++ b)
-begins_later old mid new a b whole h = record {
-  front = a ++ h.front;
-  rest = h.rest;
-  split = ap (λ l. a ++ l) h.split ∙ sym (append_assoc a h.front h.rest);
-  appended = Appends-trans _ _ _ _ _ whole h.appended;
-}
+use Rattle.lvl_report.proofs.Writing.{begins, begins_later}
 
 -- known bytes stay the same
 pub keeps_same : (a : Option (List ℕ)) → Keeps a a
@@ -53,11 +34,3 @@ in_third old mid late new x y a b c first second whole too h =
     let Q : List ℕ → Type 0 = λ l. Appends mid late l in
     begins_later old late new (a ++ b) c
     (Appends-trans old mid late a b (subst P first whole) (subst Q second too)) h
-
-pub on_err : {T E : Type 0} (P : Type 0) (r : Result T E) → P → OnErr r P
-on_err P (Ok x) h = tt
-on_err P (Err e) h = h
-
-pub on_err_map : {T E : Type 0} (P Q : Type 0) (r : Result T E) → (P → Q) → OnErr r P → OnErr r Q
-on_err_map P Q (Ok x) f h = tt
-on_err_map P Q (Err e) f h = f h

@@ -8,7 +8,7 @@ use Rattle.lvl_io.specs.declared.Failure.{Failure}
 use Rattle.lvl_report.specs.Writing.{AppendsBeginning}
 use Rattle.lvl_job.specs.Ends.{IsSaid}
 use Rattle.lvl_job.specs.inside.Steps.{IsSaidBy, Says, Speaking}
-use Rattle.lvl_job.proofs.Saying.{begins_later}
+use Rattle.lvl_report.proofs.Writing.{begins_later}
 
 -- two texts, one after the other
 pub says_then : (text more : List ℕ) (a b c : Speaking) → Says text a b → Says more b c → Says (text ++ more) a c

@@ -12,26 +12,9 @@ use crate::files::OpenFault;
 use itoa::Buffer;
 use lvl_io::{Failure, Write};
 use lvl_profile::Ignore;
-use lvl_report::Hint;
+use lvl_report::{Hint, write_all};
 use lvl_text::{ignore_fault, view_fault};
 use lvl_view::ViewFault;
-
-/// Writes the whole text. It fails at the first error of any kind, or if a write takes nothing of
-/// some bytes; a beginning of the text was then written.
-fn write_all<E: Write>(err: &mut E, text: &[u8]) -> Result<(), Failure>
-    ensures whole { OnOk result (Appends (E.contents err.old) (E.contents err.new) text.now) }
-    ensures begun { OnErr result (AppendsBeginning (E.contents err.old) (E.contents err.new) text.now) }
-    ensures errors { CountsFailure (E.write_errors err.old) (E.write_errors err.new) (failed result) }
-{
-    let mut rest = text;
-    while !rest.is_empty() {
-        match err.write(rest) {
-            Ok(0) | Err(Failure) => return Err(Failure),
-            Ok(taken) => rest = &rest[taken..],
-        }
-    }
-    Ok(())
-}
 
 /// Whether all that was to be written to standard error so far was written. After a write has failed, nothing more
 /// is written.

@@ -4,3 +4,4 @@ pub mod Decimals
 pub mod Ending
 pub mod Lining
 pub mod Naming
+pub mod Writing

@@ -1,7 +1,9 @@
 //! The text of a digest.
-ghost use Rattle.std.specs.Prelude.{◌≡◌, ◌++◌, OnOk, IfOk};
+ghost use Rattle.std.specs.Prelude.{◌≡◌, ◌++◌, codes, OnOk, IfOk};
 ghost use Rattle.lvl_corners.specs.Masks.{mask_lines};
-ghost use Rattle.lvl_report.specs.Texts.{digested_text, mask_text, text_of_digested};
+ghost use Rattle.lvl_report.specs.Texts.{digested_text, line, mask_text, refusal_text, text_of_digested};
+ghost use Rattle.lvl_report.specs.inside.Parts.{parts_text};
+ghost use Rattle.lvl_text.specs.Gds.{hex};
 
 use crate::text::{push_front, push_refusal};
 use lvl::{Digested, DigestedLayer, MaskDigest, Refusal, layer_line};
@@ -21,14 +23,21 @@ fn push_layer_digests(alloc: Global, text: &mut Vec<u8>, layers: &[DigestedLayer
     Ok(())
 }
 
+/// Appends the line of the mask.
+fn push_mask_line(text: &mut Vec<u8>, sha256: &[u8; 32]) -> io::Result<()>
+    ensures { OnOk result (text.new.items ≡ text.old.items ++ line (codes "mask sha256 " ++ hex sha256.now)) }
+{
+    write!(text, "mask sha256 ")?;
+    push_hex(text, sha256)?;
+    writeln!(text)
+}
+
 /// Appends the digest of a mask.
 fn push_mask_digest(alloc: Global, text: &mut Vec<u8>, mask: &MaskDigest) -> io::Result<()>
     ensures { OnOk result (text.new.items ≡ text.old.items ++ mask_text mask.now) }
 {
     push_layer_digests(alloc, text, &mask.layers)?;
-    write!(text, "mask sha256 ")?;
-    push_hex(text, &mask.sha256)?;
-    writeln!(text)
+    push_mask_line(text, &mask.sha256)
 }
 
 /// Appends the digest of a layout.
@@ -66,5 +75,56 @@ pub fn form_digest(alloc: Global, answer: &Result<Digested, Refusal>) -> Result<
     match push_digest_answer(alloc, &mut text, answer) {
         Ok(()) => Ok(text),
         Err(_) => Err(AllocError),
+    }
+}
+
+/// The text of a digest in three parts: what comes before the lines of the Layers, the Layers, and what
+/// comes after their lines. A refusal is all before.
+#[derive(Drop)]
+pub(crate) struct Parts<'a> {
+    pub before: Vec<u8>,
+    pub layers: &'a [DigestedLayer],
+    pub after: Vec<u8>,
+}
+
+/// The parts of the text of a digest.
+fn parts_of_digested(alloc: Global, digested: &Digested) -> io::Result<Parts<'_>>
+    ensures { IfOk result (λ parts. parts_text parts ≡ digested_text digested.now) }
+{
+    let mut before = Vec::new(alloc);
+    let mut after = Vec::new(alloc);
+    push_front(&mut before, &digested.head, &digested.top)?;
+    push_mask_line(&mut after, &digested.mask.sha256)?;
+    Ok(Parts {
+        before,
+        layers: &digested.mask.layers,
+        after,
+    })
+}
+
+/// The parts of the text of a refusal.
+fn parts_of_refusal(alloc: Global, refusal: &Refusal) -> io::Result<Parts<'static>>
+    ensures { IfOk result (λ parts. parts_text parts ≡ line (refusal_text refusal.now)) }
+{
+    let mut before = Vec::new(alloc);
+    push_refusal(&mut before, refusal)?;
+    writeln!(before)?;
+    Ok(Parts {
+        before,
+        layers: &[],
+        after: Vec::new(alloc),
+    })
+}
+
+/// The parts of what [`form_digest`] makes. It fails only if it is out of memory.
+pub(crate) fn digest_parts(
+    alloc: Global,
+    answer: &Result<Digested, Refusal>,
+) -> io::Result<Parts<'_>>
+    ensures { IfOk result (λ parts. parts_text parts ≡ text_of_digested answer.now) }
+{
+    match answer {
+        Ok(digested) => parts_of_digested(alloc, digested),
+        Err(refusal) => parts_of_refusal(alloc, refusal),
     }
 }

@@ -25,6 +25,7 @@ pub use digest::form_digest;
 pub use hint::Hint;
 pub use list::form_list;
 pub use outcome::Outcome;
+pub use output::write_all;
 pub use runs::{
     run, run_cells, run_digest, run_measured, run_show, run_show_with, run_view, run_view_with,
     run_why, run_with,
@@ -35,6 +36,7 @@ pub use text::{form, form_shown};
 mod beside;
 mod digest;
 mod hint;
+mod lines;
 mod list;
 mod outcome;
 mod output;

@@ -1,4 +1,4 @@
-//! Writes the whole text of an answer, and returns how the run ends.
+//! Writes the text of an answer, and returns how the run ends.
 ghost use Rattle.std.specs.Prelude.{◌≡◌, ◌++◌, OnOk, OnErr, IfOk, IfErr, Err, None};
 ghost use Rattle.std.specs.Io.KnownBytes.{Appends, Keeps};
 ghost use Rattle.lvl_io.specs.Bytes.{CountsFailure};
@@ -11,7 +11,8 @@ ghost use Rattle.lvl_report.specs.Steps.{IsDifferenceSaid};
 ghost use Rattle.lvl_report.specs.Writing.{AppendsBeginning, is_output};
 
 use crate::beside::{line_beside, line_beside_one};
-use crate::digest::form_digest;
+use crate::digest::digest_parts;
+use crate::lines::put_parts;
 use crate::list::form_list;
 use crate::outcome::{Outcome, outcome_of, shown_outcome};
 use crate::output::put;
@@ -158,13 +159,13 @@ pub(crate) fn tell_digest<W: Write>(
     ensures errors { CountsFailure (W.write_errors out.old) (W.write_errors out.new) (is_output result) }
     ensures same { W.lent out.new ≡ W.lent out.old }
 {
-    let Ok(text) = form_digest(alloc, answer) else {
+    let Ok(parts) = digest_parts(alloc, answer) else {
         return Err(RunFault::OutOfMemory);
     };
     let Ok(line) = line_beside_one(alloc, answer) else {
         return Err(RunFault::OutOfMemory);
     };
-    put(out, &text)?;
+    put_parts(out, &parts)?;
     Ok(shown_outcome(profile, answer, line))
 }
 

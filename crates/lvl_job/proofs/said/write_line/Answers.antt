@@ -1,4 +1,5 @@
-use Rattle.lvl_job.proofs.Saying.{in_first, in_second, in_third, on_err, on_err_map}
+use Rattle.lvl_report.proofs.Writing.{on_err, on_err_map}
+use Rattle.lvl_job.proofs.Saying.{in_first, in_second, in_third}
 use Rattle.lvl_job.proofs.said.write_line.Goals as goal
 
 pub returns-in_err-write_all-clause-begun : goal.returns-in_err-write_all-clause-begun

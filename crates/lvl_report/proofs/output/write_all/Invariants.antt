@@ -1,6 +1,6 @@
 use Rattle.std.proofs.Common.{◌≡◌, length}
 use Rattle.lvl_report.specs.Writing.{AppendsBeginning}
-use Rattle.lvl_report.proofs.output.put.Given as goal
+use Rattle.lvl_report.proofs.output.write_all.Given as goal
 
 -- a beginning of the text was written, and no write failed
 abbrev pub invariant-loop-rest : goal.invariant-loop-rest

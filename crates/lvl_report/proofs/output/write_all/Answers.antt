@@ -2,7 +2,7 @@ use Rattle.std.proofs.Common.{◌≡◌, ℕ, List, refl, take, drop, length, �
 use Rattle.std.proofs.Common.{take-append-drop, rules}
 use Rattle.std.proofs.lemmas.List.{take_rest}
 use Rattle.std.proofs.KnownBytes.{Appends-nil, Appends-trans}
-use Rattle.lvl_report.proofs.output.put.Goals as goal
+use Rattle.lvl_report.proofs.output.write_all.Goals as goal
 
 pub loop-rest-init : goal.loop-rest-init
 loop-rest-init g c = record {

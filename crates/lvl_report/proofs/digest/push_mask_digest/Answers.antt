@@ -1,9 +1,0 @@
-use Rattle.std.proofs.Common.{append_assoc, rules}
-use Rattle.std.proofs.lemmas.Result.{IfOk-equal}
-use Rattle.lvl_report.proofs.digest.push_mask_digest.Goals as goal
-
-pub returns : goal.returns
-returns c =
-    IfOk-equal _ _ _ _ c.writeln.ensures.bytes
-    (rw (c.in_ok-push_hex.ensures, c.in_ok-write.ensures.bytes, c.in_ok-push_layer_digests.ensures)
-    (simp (append_assoc, c.deref.ensures.value) (search rules)))
