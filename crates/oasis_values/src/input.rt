@@ -3,9 +3,13 @@ ghost use Rattle.std.specs.Prelude.{◌≡◌, ◌-◌, ◌≤◌, false, true, 
 
 use crate::fault::ValueFault;
 use crate::find::{find_byte, find_integer};
+use crate::integer::{Leading, scan_integer};
 use lvl_io::{Buffer, Read};
 use lvl_profile::Profile;
 use std::mem;
+
+/// The greatest number of bytes of an integer that is read where its caller stands, without a call.
+const MOST_IN_PLACE: usize = 4;
 
 /// Reads values from a reader, one at a time. It reads from the reader only when it needs a byte and has
 /// none ahead.
@@ -122,7 +126,29 @@ impl<R: Read> Input<R> {
     /// byte above 1 (own rule). If padding is ignored, the integer may have 256 bytes, and
     /// `IntegerTooLarge` is reported at the first byte with which it is 2^64 or more, or at the 256th if
     /// that doesn't end it.
+    #[inline(always)]
     pub fn unsigned(&mut self) -> Result<u64, ValueFault>
+        ensures reads { Reads R.remaining R.read_errors R.lent IsUnsigned self.old self.new (as_breach result) }
+        ensures none { Refutes R.remaining IsUnsigned self.old (as_breach result) }
+        ensures at { OnErr result (input_offset self.new ≡ input_offset self.old) }
+    {
+        if !self.failed {
+            let room = self.profile.limits.file - self.offset;
+            let hand = self.ahead.ahead();
+            let most = hand.len().min(room as usize);
+            let first = most.min(MOST_IN_PLACE);
+            if let Leading::Whole(value, len) = scan_integer(&self.profile, &hand[..first]) {
+                self.ahead.skip(len);
+                self.offset += len as u64;
+                return Ok(value);
+            }
+        }
+        self.find_unsigned()
+    }
+
+    // An unsigned integer of any number of bytes, by a call.
+    #[inline(never)]
+    fn find_unsigned(&mut self) -> Result<u64, ValueFault>
         ensures reads { Reads R.remaining R.read_errors R.lent IsUnsigned self.old self.new (as_breach result) }
         ensures none { Refutes R.remaining IsUnsigned self.old (as_breach result) }
         ensures at { OnErr result (input_offset self.new ≡ input_offset self.old) }
