@@ -46,6 +46,7 @@ fn height_of(rectangle: &Rectangle, width: u64) -> Option<u64>
 
 impl Modal {
     /// The values of a rectangle, unless it breaches a rule.
+    #[inline(always)]
     fn resolve_rectangle(&self, rectangle: &Rectangle) -> Result<Resolved, FigureRule>
         ensures ok { IfOk result (λ v. (earlier : List ARecord) → StandsFor self.now earlier
             → IsResolved earlier rectangle.now v) }
@@ -107,6 +108,7 @@ impl Modal {
     }
 
     // Moves the repetition of a record into the modal variable. Mostly there is none.
+    #[inline(always)]
     fn repeat(&mut self, repetition: &mut Option<Repetition>)
         ensures { self.new ≡ record self.old {
           is_repeated = is_some repetition.old;
