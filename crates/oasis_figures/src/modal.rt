@@ -97,6 +97,7 @@ impl Modal {
     {
         match next {
             Record::Rectangle(rectangle) => self.take_rectangle(rectangle),
+            Record::Placement(placement) => self.take_placement(placement),
             _ => self.take_moved(alloc, ignore, mem::replace(next, Record::Pad)),
         }
     }
@@ -115,7 +116,7 @@ impl Modal {
             Record::Rectangle(mut rectangle) => self.take_rectangle(&mut rectangle),
             Record::Polygon(polygon) => self.take_polygon(alloc, polygon),
             Record::Path(path) => self.take_path(alloc, ignore, path),
-            Record::Placement(placement) => self.take_placement(placement),
+            Record::Placement(mut placement) => self.take_placement(&mut placement),
             Record::Text(repetition) => self.take_text(repetition),
             Record::XyAbsolute => self.take_mode(false),
             Record::XyRelative => self.take_mode(true),

@@ -109,7 +109,7 @@ impl Modal {
 
     // Moves the repetition of a record into the modal variable. Mostly there is none.
     #[inline(always)]
-    fn repeat(&mut self, repetition: &mut Option<Repetition>)
+    pub(crate) fn repeat(&mut self, repetition: &mut Option<Repetition>)
         ensures { self.new ≡ record self.old {
           is_repeated = is_some repetition.old;
           repetition = option_or (listed repetition.old) self.old.repetition;

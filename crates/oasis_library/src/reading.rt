@@ -84,7 +84,7 @@ impl Reading {
         &self.order
     }
 
-    /// Takes the next record, unless it breaches a rule. What it has is moved, and what is left in `next` means nothing.
+    /// Takes the next record, unless it breaches a rule. Its lists are moved; what is left in `next` means nothing.
     pub(crate) fn take(
         &mut self,
         alloc: Global,

@@ -78,8 +78,8 @@ fn read_in<R: Read>(
     }
 }
 
-/// Reads the next record, and writes it to `record`. Its id is tested before more is read, and each field when it is read. A block is
-/// read as it is packed.
+/// Reads the next record, and writes it to `record`. Its id is tested before more is read, and each field when it
+/// is read. A block is read as it is packed.
 pub fn read_next<R: Read>(
     input: &mut Input<R>,
     alloc: Global,
