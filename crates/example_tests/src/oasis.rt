@@ -44,7 +44,8 @@ fn records(rt: HostRuntime) -> Result<(), Fail> {
     let mut input = Input::new(Pieces::new(RECTANGLE, usize::MAX), Profile::STANDARD);
     let id = read_id(&mut input)?;
     let kind = RecordType::of(id.value, input.profile())?;
-    let record = read_fields(&mut input, alloc, kind, id.len, false)?;
+    let mut record = Record::Pad;
+    read_fields(&mut input, alloc, kind, id.len, false, &mut record)?;
     assert!(rt; matches!(record, Record::Rectangle(_)));
     Ok(())
 }
@@ -54,16 +55,18 @@ fn rectangle(alloc: Global) -> Result<Record, Fail> {
     let mut input = Input::new(Pieces::new(RECTANGLE, usize::MAX), Profile::STANDARD);
     let id = read_id(&mut input)?;
     let kind = RecordType::of(id.value, input.profile())?;
-    Ok(read_fields(&mut input, alloc, kind, id.len, false)?)
+    let mut record = Record::Pad;
+    read_fields(&mut input, alloc, kind, id.len, false, &mut record)?;
+    Ok(record)
 }
 
 #[test]
 fn figures(rt: HostRuntime) -> Result<(), Fail> {
     let alloc = rt.alloc();
-    let record = rectangle(alloc)?;
+    let mut record = rectangle(alloc)?;
     let mut modal = Modal::new();
-    let drawn = modal.take(alloc, Ignore::NOTHING, record)?;
-    assert!(rt; matches!(drawn, Some(DrawnRecord::Ring(_, _))));
+    let drawn = modal.take(alloc, Ignore::NOTHING, &mut record)?;
+    assert!(rt; matches!(drawn, Some(DrawnRecord::Rectangle(_, _, _))));
     Ok(())
 }
 
@@ -74,10 +77,11 @@ fn streams(rt: HostRuntime) -> Result<(), Fail> {
     let mut input = Input::new(Pieces::new(&bytes, usize::MAX), Profile::STANDARD);
     let mut order = Order::new();
     read_first(&mut input)?;
-    let start = read_next(&mut input, alloc, &order)?;
-    order.pass(&start);
-    let cell = read_next(&mut input, alloc, &order)?;
-    assert!(rt; matches!(cell, Record::Cell(_)));
+    let mut record = Record::Pad;
+    read_next(&mut input, alloc, &order, &mut record)?;
+    order.pass(&record);
+    read_next(&mut input, alloc, &order, &mut record)?;
+    assert!(rt; matches!(record, Record::Cell(_)));
     Ok(())
 }
 

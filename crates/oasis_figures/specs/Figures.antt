@@ -25,7 +25,8 @@ use Rattle.oasis_figures.specs.Modal.{modal, layer_set, datatype_set, width_set,
 use Rattle.oasis_figures.specs.Modal.{repetition_of, geometry}
 use Rattle.oasis_figures.specs.Modal.{cell_set, polygon_set, half_width_set, path_set, start_set, end_set, placement}
 use Rattle.oasis_figures.specs.declared.drawn.DrawnRecord.{DrawnRecord}
-use Rattle.oasis_figures.specs.declared.drawn.DrawnRecord.TheVariants.{Ring, Rings, Placement as Placing}
+use Rattle.oasis_figures.specs.declared.drawn.DrawnRecord.TheVariants.{Rectangle as Corners, Ring, Rings}
+use Rattle.oasis_figures.specs.declared.drawn.DrawnRecord.TheVariants.{Placement as Placing}
 
 -- the value of a variable; 0 if it is undefined
 abbrev pub number : Option ℕ → ℕ
@@ -159,6 +160,8 @@ in_rings s = record { layer = s.layer; figure = figure_rings s.figure; shifts = 
 -- the shapes in what `take` returns, at these shifts
 abbrev pub shapes_in : List Point → Option DrawnRecord → List (PlainShape PlainRings)
 shapes_in shifts None = []
+shapes_in shifts (Some (Corners layer low high)) =
+    record { layer = layer; figure = rectangle_between low high ∷ []; shifts = shifts } ∷ []
 shapes_in shifts (Some (Ring layer ring)) = record { layer = layer; figure = ring ∷ []; shifts = shifts } ∷ []
 shapes_in shifts (Some (Rings layer rs)) = record { layer = layer; figure = rs.items; shifts = shifts } ∷ []
 shapes_in shifts (Some (Placing by)) = []
@@ -166,6 +169,7 @@ shapes_in shifts (Some (Placing by)) = []
 -- the placement in what `take` returns, of this cell at these shifts
 abbrev pub placements_in : CellRef → List Point → Option DrawnRecord → List Placed
 placements_in cell shifts None = []
+placements_in cell shifts (Some (Corners layer low high)) = []
 placements_in cell shifts (Some (Ring layer ring)) = []
 placements_in cell shifts (Some (Rings layer rs)) = []
 placements_in cell shifts (Some (Placing by)) =
@@ -179,6 +183,7 @@ pub record IsDrawn (earlier : List Record) (r : Record) (d : Option DrawnRecord)
 -- if a cell is placed, its place at each of these shifts fits in 64 signed bits
 abbrev pub PlacesFit : List Point → Option DrawnRecord → Type 0
 PlacesFit shifts None = Unit {0}
+PlacesFit shifts (Some (Corners layer low high)) = Unit {0}
 PlacesFit shifts (Some (Ring layer ring)) = Unit {0}
 PlacesFit shifts (Some (Rings layer rs)) = Unit {0}
 PlacesFit shifts (Some (Placing by)) = All (λ e. FitsPoint (shifted by.at e)) shifts

@@ -11,8 +11,8 @@
 //! use oasis_figures::{DrawnRecord, Modal};
 //!
 //! let mut modal = Modal::new();
-//! let drawn = modal.take(alloc, Ignore::NOTHING, record)?;
-//! assert!(rt; matches!(drawn, Some(DrawnRecord::Ring(_, _))));
+//! let drawn = modal.take(alloc, Ignore::NOTHING, &mut record)?;
+//! assert!(rt; matches!(drawn, Some(DrawnRecord::Rectangle(_, _, _))));
 //! ```
 #![tactic(auto)]
 

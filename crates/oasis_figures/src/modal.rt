@@ -18,6 +18,7 @@ use lvl_profile::Ignore;
 use lvl_refusal::Cause;
 use oasis_records::{CellRef, Record};
 use std::alloc::Global;
+use std::mem;
 
 /// The modal variables, with the values that the records since CELL have set (SEMI P39, "Modal
 /// variables").
@@ -71,7 +72,7 @@ impl Modal {
 
     /// Takes the next record after CELL, and returns what it draws, in grid steps, at each of
     /// [`Modal::shifts`]; `None` if it draws nothing (SEMI P39, "Modal variables", and the section of each
-    /// record).
+    /// record). Its lists are moved into the variables; what is left in `next` means nothing.
     ///
     /// If the record breaches a [`FigureRule`], the first of them in their order is returned. After that,
     /// and after a failed allocation, the variables are as they were. If points of paths that equal the one
@@ -80,25 +81,42 @@ impl Modal {
         &mut self,
         alloc: Global,
         ignore: Ignore,
-        next: Record,
+        next: &mut Record,
     ) -> Result<Option<DrawnRecord>, Cause<FigureRule>>
         ensures drawn { IfOk result (λ drawn. (earlier : List ARecord) → StandsFor self.old earlier
-            → IsDrawn earlier next drawn) }
+            → IsDrawn earlier next.old drawn) }
         ensures places { IfOk result (λ drawn. (earlier : List ARecord) → StandsFor self.old earlier
-            → PlacesFit (shifts_of earlier next) drawn) }
+            → PlacesFit (shifts_of earlier next.old) drawn) }
         ensures kept { OnOk result ((earlier : List ARecord) → StandsFor self.old earlier
-            → StandsFor self.new (next ∷ earlier)) }
+            → StandsFor self.new (next.old ∷ earlier)) }
         ensures none { OnOk result ((earlier : List ARecord) → StandsFor self.old earlier
-            → BreachesNone ignore earlier next) }
+            → BreachesNone ignore earlier next.old) }
         ensures refused { IfErr result (λ e. Says e (λ rule. (earlier : List ARecord) → StandsFor self.old earlier
-            → Breaches ignore earlier next rule)) }
+            → Breaches ignore earlier next.old rule)) }
         ensures same { OnErr result (self.new ≡ self.old) }
     {
         match next {
-            Record::Rectangle(rectangle) => self.take_rectangle(alloc, rectangle),
+            Record::Rectangle(rectangle) => self.take_rectangle(rectangle),
+            Record::Placement(placement) => self.take_placement(placement),
+            _ => self.take_moved(alloc, ignore, mem::replace(next, Record::Pad)),
+        }
+    }
+
+    // Takes the next record, which was moved.
+    #[inline(never)]
+    fn take_moved(
+        &mut self,
+        alloc: Global,
+        ignore: Ignore,
+        next: Record,
+    ) -> Result<Option<DrawnRecord>, Cause<FigureRule>>
+        ensures { Takes ignore self.old next result self.new }
+    {
+        match next {
+            Record::Rectangle(mut rectangle) => self.take_rectangle(&mut rectangle),
             Record::Polygon(polygon) => self.take_polygon(alloc, polygon),
             Record::Path(path) => self.take_path(alloc, ignore, path),
-            Record::Placement(placement) => self.take_placement(placement),
+            Record::Placement(mut placement) => self.take_placement(&mut placement),
             Record::Text(repetition) => self.take_text(repetition),
             Record::XyAbsolute => self.take_mode(false),
             Record::XyRelative => self.take_mode(true),

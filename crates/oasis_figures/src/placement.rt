@@ -11,7 +11,7 @@ ghost use Rattle.oasis_figures.specs.inside.Taking.{Takes};
 use crate::drawn::DrawnRecord;
 use crate::modal::Modal;
 use crate::position::moved;
-use crate::repetition::{after, all_fit_at, is_known};
+use crate::repetition::{all_fit_at, is_known};
 use crate::rule::FigureRule;
 use crate::variable::Variable;
 use lvl_grid::{Map, Turn};
@@ -111,19 +111,19 @@ impl Modal {
         })
     }
 
-    /// Takes a PLACEMENT.
+    /// Takes a PLACEMENT. Its cell and its repetition are moved into the modal variables.
     pub(crate) fn take_placement(
         &mut self,
-        placement: Placement,
+        placement: &mut Placement,
     ) -> Result<Option<DrawnRecord>, Cause<FigureRule>>
-        ensures { (ignore : Ignored) → Takes ignore self.old (a_placement placement) result self.new }
+        ensures { (ignore : Ignored) → Takes ignore self.old (a_placement placement.old) result self.new }
     {
-        let by = self.resolve_placement(&placement)?;
-        let repetition = placement.position.repetition;
+        let by = self.resolve_placement(placement)?;
         self.placement = by.at;
-        self.cell = placement.cell.or(self.cell.take());
-        self.is_repeated = repetition.is_some();
-        self.repetition = after(repetition, self.repetition.take());
+        if placement.cell.is_some() {
+            self.cell = placement.cell.take();
+        }
+        self.repeat(&mut placement.position.repetition);
         Ok(Some(DrawnRecord::Placement(by)))
     }
 }

@@ -1,5 +1,7 @@
-//! RECTANGLE: the ring of its corners.
-ghost use Rattle.std.specs.Prelude.{◌≡◌, Some, List, IfOk, IfErr, if◌then◌else◌};
+//! RECTANGLE: two of its corners.
+ghost use Rattle.std.specs.Prelude.{◌≡◌, Some, List, IfOk, IfErr, if◌then◌else◌, is_some};
+ghost use Rattle.std.specs.Option.{option_or};
+ghost use Rattle.oasis_figures.specs.Modal.{listed};
 ghost use Rattle.lvl_profile.specs.declared.ignore.Ignore.{Ignore as Ignored};
 ghost use Rattle.oasis_records.specs.declared.record.Record.{Record as ARecord};
 ghost use Rattle.oasis_figures.specs.Keeping.{StandsFor};
@@ -14,11 +16,11 @@ use crate::position::moved;
 use crate::repetition::{after, is_known};
 use crate::rule::FigureRule;
 use crate::variable::Variable;
-use lvl_grid::{Point, Ring};
+use lvl_grid::Point;
 use lvl_names::Layer;
 use lvl_refusal::Cause;
 use oasis_records::Rectangle;
-use std::alloc::Global;
+use oasis_values::Repetition;
 
 /// A rectangle whose values are known.
 #[derive(Clone, Copy)]
@@ -44,6 +46,7 @@ fn height_of(rectangle: &Rectangle, width: u64) -> Option<u64>
 
 impl Modal {
     /// The values of a rectangle, unless it breaches a rule.
+    #[inline(always)]
     fn resolve_rectangle(&self, rectangle: &Rectangle) -> Result<Resolved, FigureRule>
         ensures ok { IfOk result (λ v. (earlier : List ARecord) → StandsFor self.now earlier
             → IsResolved earlier rectangle.now v) }
@@ -86,24 +89,43 @@ impl Modal {
         })
     }
 
-    /// Takes a RECTANGLE.
+    /// Takes a RECTANGLE. Its repetition is moved into the modal variable.
+    #[inline(always)]
     pub(crate) fn take_rectangle(
         &mut self,
-        alloc: Global,
-        rectangle: Rectangle,
+        rectangle: &mut Rectangle,
     ) -> Result<Option<DrawnRecord>, Cause<FigureRule>>
-        ensures { (ignore : Ignored) → Takes ignore self.old (a_rectangle rectangle) result self.new }
+        ensures { (ignore : Ignored) → Takes ignore self.old (a_rectangle rectangle.old) result self.new }
     {
-        let values = self.resolve_rectangle(&rectangle)?;
-        let ring = Ring::rectangle(alloc, values.low, values.high)?;
-        let repetition = rectangle.position.repetition;
+        let values = self.resolve_rectangle(rectangle)?;
         self.geometry = values.low;
         self.layer = Some(values.layer);
         self.datatype = Some(values.datatype);
         self.width = Some(values.width);
         self.height = Some(values.height);
+        self.repeat(&mut rectangle.position.repetition);
+        Ok(Some(DrawnRecord::Rectangle(values.on, values.low, values.high)))
+    }
+
+    // Moves the repetition of a record into the modal variable. Mostly there is none.
+    #[inline(always)]
+    pub(crate) fn repeat(&mut self, repetition: &mut Option<Repetition>)
+        ensures { self.new ≡ record self.old {
+          is_repeated = is_some repetition.old;
+          repetition = option_or (listed repetition.old) self.old.repetition;
+        } }
+    {
         self.is_repeated = repetition.is_some();
+        if self.is_repeated {
+            self.keep(repetition.take());
+        }
+    }
+
+    // Keeps the shifts of a repetition, if it has its own.
+    #[inline(never)]
+    fn keep(&mut self, repetition: Option<Repetition>)
+        ensures { self.new ≡ record self.old { repetition = option_or (listed repetition) self.old.repetition } }
+    {
         self.repetition = after(repetition, self.repetition.take());
-        Ok(Some(DrawnRecord::Ring(values.on, ring)))
     }
 }

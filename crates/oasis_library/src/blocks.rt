@@ -18,6 +18,7 @@ use oasis_records::Record;
 use oasis_stream::{OasisKind, read_inside};
 use oasis_values::{Input, ValueFault};
 use std::alloc::Global;
+use std::mem;
 
 /// A refusal with a rule of blocks, as one of the file.
 fn of_block(refusal: Cause<BlockRule>) -> Cause<OasisKind>
@@ -60,12 +61,13 @@ fn take_inside(
     ensures room { OnOk result (reading.new.room ≡ reading.old.room) }
 {
     let profile = input.profile();
+    let mut record = Record::Pad;
     'records: while input.offset() < count {
-        let record = match read_inside(input, alloc, reading.order()) {
-            Ok(record) => record,
+        match read_inside(input, alloc, reading.order(), &mut record) {
+            Ok(()) => {}
             Err(refusal) => return Err(in_block(refusal)),
-        };
-        reading.take(alloc, profile, record)?;
+        }
+        reading.take(alloc, profile, &mut record)?;
     }
     Ok(())
 }
@@ -99,8 +101,32 @@ fn take_block(
 }
 
 /// Takes the next record, or the records inside if it is a block, unless it breaches a rule. Those inside are read from
-/// `inside`.
+/// `inside`. What is left in `next` means nothing.
 pub(crate) fn take_next(
+    alloc: Global,
+    reading: &mut Reading,
+    inside: &mut Input<Unpacked>,
+    next: &mut Record,
+    profile: Profile,
+) -> Result<(), Cause<OasisKind>>
+    requires { (is : List Item) × HasRead profile reading.old is }
+    ensures refused { IfErr result (λ e. Says e (λ kind.
+        (is : List Item) → HasRead profile reading.old is → Breaches profile is (item next.old) (cause kind))) }
+    ensures kept { OnOk result ((is : List Item) → HasRead profile reading.old is
+        → IsKept profile is next.old reading.new) }
+{
+    match next {
+        Record::Block(_) => {
+            let moved = mem::replace(next, Record::Pad);
+            take_moved(alloc, reading, inside, moved, profile)
+        }
+        _ => reading.take(alloc, profile, next),
+    }
+}
+
+// Takes the next record, which was moved.
+#[inline(never)]
+fn take_moved(
     alloc: Global,
     reading: &mut Reading,
     inside: &mut Input<Unpacked>,
@@ -115,6 +141,6 @@ pub(crate) fn take_next(
 {
     match next {
         Record::Block(packed) => take_block(alloc, reading, inside, packed, profile),
-        next => reading.take(alloc, profile, next),
+        mut other => reading.take(alloc, profile, &mut other),
     }
 }

@@ -1,6 +1,7 @@
 //! A cell whose records are being read.
 ghost use Rattle.std.specs.Prelude.{◌≡◌, ◌++◌, ◌∷◌, [], All, OnOk, List, Some};
 ghost use Rattle.lvl_grid.specs.Turn.{FitsPoint, shifted};
+ghost use Rattle.lvl_grid.specs.Winding.{IsRing, rectangle_between};
 ghost use Rattle.oasis_records.specs.declared.record.Record.{Record};
 ghost use Rattle.oasis_figures.specs.declared.drawn.DrawnRecord.TheVariants.{Placement as APlacement};
 ghost use Rattle.oasis_library.specs.inside.Kept.{begun, placed, target_ref};
@@ -8,7 +9,7 @@ ghost use Rattle.oasis_library.specs.inside.Taken.{IsTaken, grown};
 
 use crate::placement::{PlacedCells, Target};
 use lvl_cells::Shapes;
-use lvl_grid::Map;
+use lvl_grid::{Map, Point};
 use lvl_names::Offsets;
 use oasis_figures::{DrawnRecord, Modal};
 use oasis_records::CellRef;
@@ -38,6 +39,22 @@ impl Model for Drawing {
     } };
 }
 
+// The corners of a rectangle: lower left, lower right, upper right, upper left.
+fn corners(low: Point, high: Point) -> [Point; 4]
+    ensures corners { result ≡ rectangle_between low high }
+    ensures ring { IsRing (rectangle_between low high) }
+{
+    let lower_right = Point {
+        x: high.x,
+        y: low.y,
+    };
+    let upper_left = Point {
+        x: low.x,
+        y: high.y,
+    };
+    [low, lower_right, high, upper_left]
+}
+
 impl Drawing {
     /// A cell that has no shapes or placements yet.
     pub(crate) fn new(alloc: Global, name: Target) -> Drawing
@@ -62,6 +79,11 @@ impl Drawing {
             → self.new ≡ grown earlier r self.old) }
     {
         match drawn {
+            Some(DrawnRecord::Rectangle(layer, low, high)) => {
+                let ring = corners(low, high);
+                self.shapes.push_ring(layer, &ring, modal.shifts())?;
+                Ok(())
+            }
             Some(DrawnRecord::Ring(layer, ring)) => {
                 self.shapes.push_ring(layer, ring.points(), modal.shifts())?;
                 Ok(())

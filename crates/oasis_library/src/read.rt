@@ -165,14 +165,15 @@ fn read_records<R: Read>(
         Err(kind) => return Err(refuse(0, kind)),
     }
     let mut inside = Input::new(Unpacked::new(alloc), profile);
+    let mut record = Record::Pad;
     for _ in 0..u64::MAX {
         let offset = input.offset();
-        let record = match read_next(input, alloc, reading.order()) {
-            Ok(record) => record,
+        match read_next(input, alloc, reading.order(), &mut record) {
+            Ok(()) => {}
             Err(refusal) => return Err(refused_at(offset, refusal)),
-        };
+        }
         let is_end = is_end(&record);
-        match take_next(alloc, reading, &mut inside, record, profile) {
+        match take_next(alloc, reading, &mut inside, &mut record, profile) {
             Ok(()) => {}
             Err(refusal) => return Err(refused_at(offset, refusal)),
         }

@@ -84,25 +84,25 @@ impl Reading {
         &self.order
     }
 
-    /// Takes the next record, unless it breaches a rule.
+    /// Takes the next record, unless it breaches a rule. Its lists are moved; what is left in `next` means nothing.
     pub(crate) fn take(
         &mut self,
         alloc: Global,
         profile: Profile,
-        next: Record,
+        next: &mut Record,
     ) -> Result<(), Cause<OasisKind>>
         requires { (rs : List ARecord) × Holds self.old rs }
         ensures refused { IfErr result (λ e. Says e (λ kind.
-            (rs : List ARecord) → Holds self.old rs → RecordBreaches profile rs next kind)) }
+            (rs : List ARecord) → Holds self.old rs → RecordBreaches profile rs next.old kind)) }
         ensures kept { OnOk result
-            ((rs : List ARecord) → Holds self.old rs → Holds self.new (rs ++ next ∷ [])) }
-        ensures none { OnOk result ((rs : List ARecord) → Holds self.old rs → KeepsRules profile rs next) }
+            ((rs : List ARecord) → Holds self.old rs → Holds self.new (rs ++ next.old ∷ [])) }
+        ensures none { OnOk result ((rs : List ARecord) → Holds self.old rs → KeepsRules profile rs next.old) }
         ensures room { OnOk result (self.new.room ≡ self.old.room) }
     {
-        self.order.pass(&next);
-        self.head.pass(&next);
-        of_name(self.names.take(alloc, &next))?;
-        if let Record::Cell(name) = &next {
+        self.order.pass(next);
+        self.head.pass(next);
+        of_name(self.names.take(alloc, next))?;
+        if let Record::Cell(name) = next {
             self.modal = Modal::new();
             self.cells.begin(alloc, name)?;
             return Ok(());

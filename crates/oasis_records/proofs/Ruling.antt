@@ -1,5 +1,5 @@
 -- Calls one after another, if the first has rules of records.
-use Rattle.std.proofs.Common.{◌≡◌, ℕ, Bool, false, List, Result, Ok, Err, sym, subst}
+use Rattle.std.proofs.Common.{◌≡◌, ℕ, Bool, false, List, Result, Ok, Err, refl, sym, ap, subst}
 use Rattle.std.specs.Prelude.{Option}
 use Rattle.std.specs.Borrow.{GName}
 use Rattle.lvl_io.proofs.Spelling.{breached_none, front_only}
@@ -14,6 +14,7 @@ use Rattle.oasis_values.specs.declared.fault.ValueFault.{ValueFault}
 use Rattle.oasis_values.specs.declared.input.Input.{Input}
 use Rattle.oasis_values.proofs.Reading.{reads_err, reads_then, reads_nothing, reads_seen, reads_seen_err}
 use Rattle.oasis_records.specs.Rules.{of_fault, reported, reported_breach, plain, obeyed, Must, UnlessRuled, AndThen}
+use Rattle.oasis_records.specs.Rules.{written}
 use Rattle.oasis_records.specs.Rules.{Denies}
 use Rattle.oasis_records.specs.declared.fault.RecordFault.{RecordFault}
 use Rattle.oasis_records.specs.declared.fault.RecordFault.TheVariants.{Value, Rule}
@@ -56,12 +57,44 @@ pub reads_go : {R A B : Type 0} {remaining : R → Option (List ℕ)} {errors : 
     → Reads remaining errors lent (AndThen S T) old new r
 reads_go T p q = reads_then (UnlessRuled T) p q
 
+-- a value that was written to a place, as part of another one
+pub reads_in : {R A B : Type 0} {remaining : R → Option (List ℕ)} {errors : R → ℕ} {lent : R → List GName}
+    {S : Spelling A} {old new : Input R} (show : A → B) (r : Result (Unit {0}) (Cause ValueFault)) (x : A)
+    → Reads remaining errors lent S old new (written r x)
+    → Reads remaining errors lent (Seen show S) old new (written r (show x))
+reads_in show (Ok u) x p = reads_seen show p
+reads_in show (Err e) x p = reads_seen_err show p
+
 -- no rule of records was tested
 pub reads_plain : {R A : Type 0} {remaining : R → Option (List ℕ)} {errors : R → ℕ} {lent : R → List GName}
     {S : Spelling A} {old new : Input R} (r : Result A (Cause ValueFault))
     → Reads remaining errors lent S old new r → Reads remaining errors lent (Seen Ok S) old new (plain r)
 reads_plain (Ok x) p = reads_seen Ok p
 reads_plain (Err e) p = reads_seen_err Ok p
+
+-- a value that was written to a place is there without a rule of records
+reported_written : {A : Type 0} (answer : Result (Unit {0}) (Cause ValueFault))
+    (result : Result (Unit {0}) (Cause RecordFault)) (x : A) → reported result ≡ plain answer
+    → reported (written result x) ≡ plain (written answer x)
+reported_written (Ok u) (Ok v) x e = refl
+reported_written (Ok u) (Err OutOfMemory) x e = absurd (cc)
+reported_written (Ok u) (Err (Breach (Value f))) x e = absurd (cc)
+reported_written (Ok u) (Err (Breach (Rule k))) x e = absurd (cc)
+reported_written (Err a) (Ok v) x e = absurd (cc)
+reported_written (Err a) (Err OutOfMemory) x e = let q : OutOfMemory ≡ a = cc in ap Err q
+reported_written (Err a) (Err (Breach (Value f))) x e = let q : Breach f ≡ a = cc in ap Err q
+reported_written (Err a) (Err (Breach (Rule k))) x e = absurd (cc)
+
+-- no rule of records was tested, and the value was written to a place
+pub reads_plain_in : {R A : Type 0} {remaining : R → Option (List ℕ)} {errors : R → ℕ} {lent : R → List GName}
+    {S : Spelling A} {old new : Input R} (answer : Result (Unit {0}) (Cause ValueFault))
+    (result : Result (Unit {0}) (Cause RecordFault)) (x : A) → reported result ≡ plain answer
+    → Reads remaining errors lent S old new (written answer x)
+    → Reads remaining errors lent (Seen Ok S) old new (reported (written result x))
+reads_plain_in {remaining = remaining} {errors = errors} {lent = lent} {S = S} {old = old} {new = new} answer result x e
+    p =
+    subst (Reads remaining errors lent (Seen Ok S) old new) (sym (reported_written answer result x e))
+    (reads_plain (written answer x) p)
 
 -- if a rule is breached, no bytes that agree spell a value
 pub reads_denies : {R A : Type 0} {remaining : R → Option (List ℕ)} {errors : R → ℕ} {lent : R → List GName}

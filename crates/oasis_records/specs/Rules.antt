@@ -35,6 +35,11 @@ abbrev pub plain : {A : Type 0} → Result A (Cause ValueFault) → Result (Resu
 plain (Ok x) = Ok (Ok x)
 plain (Err e) = Err e
 
+-- the result of a call that writes its value to a place, where x is afterwards
+abbrev pub written : {A E : Type 0} → Result (Unit {0}) E → A → Result A E
+written (Ok u) x = Ok x
+written (Err e) x = Err e
+
 -- the value if the rule is kept, else the rule
 abbrev pub obeyed : {A : Type 0} → Bool → A → RecordRule → Result A RecordRule
 obeyed true x k = Ok x

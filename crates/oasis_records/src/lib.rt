@@ -1,6 +1,6 @@
 //! Reads the records of an OASIS file, one at a time (SEMI P39 OASIS 1.0).
 //!
-//! A record is returned as it is in the file: a field that isn't there is `None`, and no modal
+//! A record is written to a place of the caller, as it is in the file: a field that isn't there is `None`, and no modal
 //! variable is looked up. [`read_magic`] reads the magic string at the beginning of a file,
 //! [`read_id`] the id of a record, and [`read_fields`] its fields; [`RecordType::of`] gives the
 //! type for an id.
@@ -16,7 +16,8 @@
 //! let mut input = Input::new(Pieces::new(RECTANGLE, usize::MAX), Profile::STANDARD);
 //! let id = read_id(&mut input)?;
 //! let kind = RecordType::of(id.value, input.profile())?;
-//! let record = read_fields(&mut input, alloc, kind, id.len, false)?;
+//! let mut record = Record::Pad;
+//! read_fields(&mut input, alloc, kind, id.len, false, &mut record)?;
 //! assert!(rt; matches!(record, Record::Rectangle(_)));
 //! ```
 #![tactic(auto)]

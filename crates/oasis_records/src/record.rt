@@ -1,9 +1,9 @@
 //! Records.
-ghost use Rattle.std.specs.Prelude.{◌≡◌, false};
+ghost use Rattle.std.specs.Prelude.{◌≡◌, ◌≢◌, false};
 ghost use Rattle.oasis_values.specs.Input.{has_failed};
 ghost use Rattle.oasis_values.specs.Reads.{Reads};
 ghost use Rattle.oasis_records.specs.Records.{AreFields};
-ghost use Rattle.oasis_records.specs.Rules.{reported, Denies};
+ghost use Rattle.oasis_records.specs.Rules.{reported, written, Denies};
 
 use crate::block::read_block;
 use crate::cell::{CellName, CellRef, read_cell, read_cell_name, read_numbered_name};
@@ -49,8 +49,8 @@ pub enum Record {
     Block(Block),
 }
 
-/// Reads the fields of a record of that type, after its id, which has `id_len` bytes. The offsets of tables
-/// are in END if `has_offsets_at_end` is set, as START says.
+/// Reads the fields of a record of that type, after its id, which has `id_len` bytes, and writes the record to
+/// `record`. The offsets of tables are in END if `has_offsets_at_end` is set, as START says.
 ///
 /// Each field is tested when it is read. The id must have been read before, so the input hasn't failed.
 pub fn read_fields<R: Read>(
@@ -59,24 +59,66 @@ pub fn read_fields<R: Read>(
     kind: RecordType,
     id_len: u64,
     has_offsets_at_end: bool,
-) -> Result<Record, Cause<RecordFault>>
+    record: &mut Record,
+) -> Result<(), Cause<RecordFault>>
     requires { has_failed input.old ≡ false }
     ensures reads { Reads R.remaining R.read_errors R.lent
-        (AreFields has_offsets_at_end id_len kind) input.old input.new (reported result) }
-    ensures none { Denies R.remaining (AreFields has_offsets_at_end id_len kind) input.old (reported result) }
+        (AreFields has_offsets_at_end id_len kind) input.old input.new (reported (written result record.new)) }
+    ensures none { Denies R.remaining (AreFields has_offsets_at_end id_len kind) input.old
+        (reported (written result record.new)) }
 {
-    fields_of(input, alloc, kind, id_len, has_offsets_at_end)
+    fields_of(input, alloc, kind, id_len, has_offsets_at_end, record)
 }
 
-// Reads the fields of a record of that type.
+// Reads the fields of a record of that type. A rectangle is read in place, the others are copied once.
+#[inline(always)]
 fn fields_of<R: Read>(
     input: &mut Input<R>,
     alloc: Global,
     kind: RecordType,
     id_len: u64,
     has_offsets_at_end: bool,
-) -> Result<Record, Cause<RecordFault>>
+    record: &mut Record,
+) -> Result<(), Cause<RecordFault>>
     requires { has_failed input.old ≡ false }
+    ensures reads { Reads R.remaining R.read_errors R.lent
+        (AreFields has_offsets_at_end id_len kind) input.old input.new (reported (written result record.new)) }
+{
+    match kind {
+        RecordType::Rectangle => read_rectangle(input, alloc, record),
+        _ => copy_fields(input, alloc, kind, id_len, has_offsets_at_end, record),
+    }
+}
+
+// Reads the fields of a record of that type, which isn't a rectangle, and copies the record.
+#[inline(never)]
+fn copy_fields<R: Read>(
+    input: &mut Input<R>,
+    alloc: Global,
+    kind: RecordType,
+    id_len: u64,
+    has_offsets_at_end: bool,
+    record: &mut Record,
+) -> Result<(), Cause<RecordFault>>
+    requires live { has_failed input.old ≡ false }
+    requires other { kind ≢ RecordType.Rectangle }
+    ensures reads { Reads R.remaining R.read_errors R.lent
+        (AreFields has_offsets_at_end id_len kind) input.old input.new (reported (written result record.new)) }
+{
+    *record = other_fields(input, alloc, kind, id_len, has_offsets_at_end)?;
+    Ok(())
+}
+
+// Reads the fields of a record of that type, which isn't a rectangle.
+fn other_fields<R: Read>(
+    input: &mut Input<R>,
+    alloc: Global,
+    kind: RecordType,
+    id_len: u64,
+    has_offsets_at_end: bool,
+) -> Result<Record, Cause<RecordFault>>
+    requires live { has_failed input.old ≡ false }
+    requires other { kind ≢ RecordType.Rectangle }
     ensures reads { Reads R.remaining R.read_errors R.lent
         (AreFields has_offsets_at_end id_len kind) input.old input.new (reported result) }
 {
@@ -105,7 +147,7 @@ fn fields_of<R: Read>(
         RecordType::XyRelative => Ok(Record::XyRelative),
         RecordType::Placement => of_values(read_turned(input, alloc)),
         RecordType::ScaledPlacement => of_values(read_scaled(input, alloc)),
-        RecordType::Rectangle => read_rectangle(input, alloc),
+        RecordType::Rectangle => unreachable!(),
         RecordType::Polygon => read_polygon(input, alloc),
         RecordType::Path => read_path(input, alloc),
         RecordType::Block => read_block(input, alloc),

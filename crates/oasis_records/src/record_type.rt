@@ -55,6 +55,7 @@ impl RecordType {
     /// The type of records with this id (SEMI P39, "Records"). It is `Unsupported` except for 0 to 4, 13 to
     /// 18 and 20 to 22, and for those that are ignored: 11, 12, 30 and 31 as names, 5, 6 and 19 as texts, 7
     /// to 10, 28 and 29 as properties, and for 34, a block, if the profile unpacks blocks.
+    #[inline(always)]
     pub fn of(id: u64, profile: Profile) -> Result<RecordType, RecordRule>
         ensures { result ≡ record_type profile id }
     {

@@ -16,7 +16,7 @@ use Rattle.oasis_values.specs.declared.input.Input.{Input}
 use Rattle.oasis_values.proofs.Reading.{reads_then, reads_nothing, reads_seen, reads_seen_err, reads_fault}
 use Rattle.oasis_records.specs.Records.{record_type}
 use Rattle.oasis_records.specs.Magic.{IsMagic}
-use Rattle.oasis_records.specs.Rules.{reported, reported_breach}
+use Rattle.oasis_records.specs.Rules.{reported, reported_breach, written}
 use Rattle.oasis_records.specs.Sizes.{Sized}
 use Rattle.oasis_records.specs.declared.fault.RecordFault.{RecordFault}
 use Rattle.oasis_records.specs.declared.fault.RecordFault.TheVariants.{Value, Rule}
@@ -37,13 +37,13 @@ use Rattle.oasis_stream.proofs.Items.{typed_said}
 -- a record that was read, as an item of the file
 pub reads_recorded : {R : Type 0} {remaining : R → Option (List ℕ)} {errors : R → ℕ} {lent : R → List GName}
     {S : Spelling (Result Record RecordRule)} {old new : Input R}
-    (r : Result Record (Cause RecordFault))
-    → Reads remaining errors lent S old new (reported r) → Reads remaining errors lent (Seen of_record S) old new
-    (reported_record (of_fault r))
-reads_recorded (Ok x) p = reads_seen of_record p
-reads_recorded (Err OutOfMemory) p = reads_seen_err of_record p
-reads_recorded (Err (Breach (Value f))) p = reads_seen_err of_record p
-reads_recorded (Err (Breach (Rule k))) p = reads_seen of_record p
+    (r : Result (Unit {0}) (Cause RecordFault)) (x : Record)
+    → Reads remaining errors lent S old new (reported (written r x))
+    → Reads remaining errors lent (Seen of_record S) old new (reported_record (written (of_fault r) x))
+reads_recorded (Ok u) x p = reads_seen of_record p
+reads_recorded (Err OutOfMemory) x p = reads_seen_err of_record p
+reads_recorded (Err (Breach (Value f))) x p = reads_seen_err of_record p
+reads_recorded (Err (Breach (Rule k))) x p = reads_seen of_record p
 
 -- the rule that an id breaches isn't one of values
 abbrev IsJudged : Result RecordType OasisKind → Type 0

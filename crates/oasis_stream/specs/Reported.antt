@@ -26,7 +26,7 @@ abbrev pub kind_of : RecordFault → OasisKind
 kind_of (OfValue f) = Value f
 kind_of (Rule k) = OfRecord k
 
-abbrev pub of_fault : Result Record (Cause RecordFault) → Result Record (Cause OasisKind)
+abbrev pub of_fault : {A : Type 0} → Result A (Cause RecordFault) → Result A (Cause OasisKind)
 of_fault (Ok r) = Ok r
 of_fault (Err OutOfMemory) = Err OutOfMemory
 of_fault (Err (Breach f)) = Err (Breach (kind_of f))

@@ -19,10 +19,11 @@
 //! let mut input = Input::new(Pieces::new(&bytes, usize::MAX), Profile::STANDARD);
 //! let mut order = Order::new();
 //! read_first(&mut input)?;
-//! let start = read_next(&mut input, alloc, &order)?;
-//! order.pass(&start);
-//! let cell = read_next(&mut input, alloc, &order)?;
-//! assert!(rt; matches!(cell, Record::Cell(_)));
+//! let mut record = Record::Pad;
+//! read_next(&mut input, alloc, &order, &mut record)?;
+//! order.pass(&record);
+//! read_next(&mut input, alloc, &order, &mut record)?;
+//! assert!(rt; matches!(record, Record::Cell(_)));
 //! ```
 #![tactic(auto)]
 

@@ -2,6 +2,7 @@
 ghost use Rattle.std.specs.Prelude.{◌≡◌, List, [], Ok, false, true};
 ghost use Rattle.oasis_values.specs.Input.{has_failed};
 ghost use Rattle.oasis_values.specs.Reads.{Reads};
+ghost use Rattle.oasis_records.specs.Rules.{written};
 ghost use Rattle.oasis_records.specs.declared.record.Record.{Record as Item};
 ghost use Rattle.oasis_stream.specs.Next.{IsTyped, IsNext, IsItem};
 ghost use Rattle.oasis_stream.specs.Reported.{reported_record, of_fault, reported_magic, of_magic_fault};
@@ -15,12 +16,12 @@ use oasis_records::{Record, RecordFault, RecordType, read_fields, read_id, read_
 use oasis_values::Input;
 use std::alloc::Global;
 
-// A record, or a fault as one of the file.
-fn of_record(answer: Result<Record, Cause<RecordFault>>) -> Result<Record, Cause<OasisKind>>
+// That a record was read, or a fault as one of the file.
+fn of_record(answer: Result<(), Cause<RecordFault>>) -> Result<(), Cause<OasisKind>>
     ensures { result ≡ of_fault answer }
 {
     match answer {
-        Ok(record) => Ok(record),
+        Ok(()) => Ok(()),
         Err(Cause::Breach(RecordFault::Value(fault))) => {
             Err(Cause::Breach(OasisKind::Value(fault)))
         }
@@ -38,12 +39,13 @@ fn read_typed<R: Read>(
     kind: RecordType,
     id_len: u64,
     has_offsets_at_end: bool,
-) -> Result<Record, Cause<OasisKind>>
+    record: &mut Record,
+) -> Result<(), Cause<OasisKind>>
     requires { has_failed input.old ≡ false }
-    ensures reads { Reads R.remaining R.read_errors R.lent
-        (IsTyped has_offsets_at_end id_len (Ok kind)) input.old input.new (reported_record result) }
+    ensures reads { Reads R.remaining R.read_errors R.lent (IsTyped has_offsets_at_end id_len (Ok kind)) input.old
+        input.new (reported_record (written result record.new)) }
 {
-    of_record(read_fields(input, alloc, kind, id_len, has_offsets_at_end))
+    of_record(read_fields(input, alloc, kind, id_len, has_offsets_at_end, record))
 }
 
 // Reads the next record, inside a block or not.
@@ -52,9 +54,11 @@ fn read_in<R: Read>(
     alloc: Global,
     order: &Order,
     inside: bool,
-) -> Result<Record, Cause<OasisKind>>
+    record: &mut Record,
+) -> Result<(), Cause<OasisKind>>
     ensures reads { (rs : List Item) → HasReached order.now rs
-        → Reads R.remaining R.read_errors R.lent (IsNext inside rs) input.old input.new (reported_record result) }
+        → Reads R.remaining R.read_errors R.lent (IsNext inside rs) input.old input.new
+        (reported_record (written result record.new)) }
 {
     let id = match read_id(input) {
         Ok(id) => id,
@@ -62,22 +66,31 @@ fn read_in<R: Read>(
     };
     let profile = input.profile();
     match order.type_of(id.value, profile, inside) {
-        Ok(kind) => read_typed(input, alloc, kind, id.len, order.has_offsets_at_end()),
+        Ok(kind) => read_typed(
+            input,
+            alloc,
+            kind,
+            id.len,
+            order.has_offsets_at_end(),
+            record,
+        ),
         Err(kind) => Err(Cause::Breach(kind)),
     }
 }
 
-/// Reads the next record. Its id is tested before more is read, and each field when it is read. A block is
-/// read as it is packed.
+/// Reads the next record, and writes it to `record`. Its id is tested before more is read, and each field when it
+/// is read. A block is read as it is packed.
 pub fn read_next<R: Read>(
     input: &mut Input<R>,
     alloc: Global,
     order: &Order,
-) -> Result<Record, Cause<OasisKind>>
+    record: &mut Record,
+) -> Result<(), Cause<OasisKind>>
     ensures reads { (rs : List Item) → HasReached order.now rs
-        → Reads R.remaining R.read_errors R.lent (IsNext false rs) input.old input.new (reported_record result) }
+        → Reads R.remaining R.read_errors R.lent (IsNext false rs) input.old input.new
+        (reported_record (written result record.new)) }
 {
-    read_in(input, alloc, order, false)
+    read_in(input, alloc, order, false, record)
 }
 
 /// Reads the next record inside a block. It is neither START nor END nor another block; all else is as in
@@ -86,11 +99,13 @@ pub fn read_inside<R: Read>(
     input: &mut Input<R>,
     alloc: Global,
     order: &Order,
-) -> Result<Record, Cause<OasisKind>>
+    record: &mut Record,
+) -> Result<(), Cause<OasisKind>>
     ensures reads { (rs : List Item) → HasReached order.now rs
-        → Reads R.remaining R.read_errors R.lent (IsNext true rs) input.old input.new (reported_record result) }
+        → Reads R.remaining R.read_errors R.lent (IsNext true rs) input.old input.new
+        (reported_record (written result record.new)) }
 {
-    read_in(input, alloc, order, true)
+    read_in(input, alloc, order, true, record)
 }
 
 // A magic string that was read, or a fault as one of the file.

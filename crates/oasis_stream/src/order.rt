@@ -97,6 +97,7 @@ impl Order {
 
     /// The type of the next record by its id under the profile, inside a block or not, or the rule that the id
     /// breaches.
+    #[inline(always)]
     pub fn type_of(&self, id: u64, profile: Profile, inside: bool) -> Result<RecordType, OasisKind>
         ensures { (rs : List Read) → HasReached self.now rs → result ≡ type_after inside profile rs id }
     {

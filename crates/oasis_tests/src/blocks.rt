@@ -17,9 +17,13 @@ use std::test::Fail;
 /// The record of a block, after its id.
 fn block_of(alloc: Global, bytes: &[u8]) -> (Result<Record, Cause<RecordFault>>, u64) {
     let mut input = Input::new(Pieces::new(bytes, 1), Profile::STANDARD);
-    let record = read_fields(&mut input, alloc, RecordType::Block, 1, false);
+    let mut record = Record::Pad;
+    let answer = read_fields(&mut input, alloc, RecordType::Block, 1, false, &mut record);
     let offset = input.offset();
-    (record, offset)
+    match answer {
+        Ok(()) => (Ok(record), offset),
+        Err(refusal) => (Err(refusal), offset),
+    }
 }
 
 /// The letter `a`, packed, and a byte after it.
@@ -66,10 +70,13 @@ fn in_a_cell() -> Order {
 fn next(alloc: Global, bytes: &[u8], inside: bool) -> Result<Record, Cause<OasisKind>> {
     let mut input = Input::new(Pieces::new(bytes, 1), Profile::STANDARD);
     let order = in_a_cell();
+    let mut record = Record::Pad;
     if inside {
-        return read_inside(&mut input, alloc, &order);
+        read_inside(&mut input, alloc, &order, &mut record)?;
+    } else {
+        read_next(&mut input, alloc, &order, &mut record)?;
     }
-    read_next(&mut input, alloc, &order)
+    Ok(record)
 }
 
 fn is_unexpected(record: &Result<Record, Cause<OasisKind>>, wanted: u64) -> bool {

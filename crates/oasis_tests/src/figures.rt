@@ -22,8 +22,9 @@ fn next<R: Read>(input: &mut Input<R>, alloc: Global) -> Result<Option<Record>, 
     let Ok(kind) = RecordType::of(id.value, input.profile()) else {
         return Ok(None);
     };
-    match read_fields(input, alloc, kind, id.len, false) {
-        Ok(record) => Ok(Some(record)),
+    let mut record = Record::Pad;
+    match read_fields(input, alloc, kind, id.len, false, &mut record) {
+        Ok(()) => Ok(Some(record)),
         Err(Cause::OutOfMemory) => Err(AllocError),
         Err(Cause::Breach(_)) => Ok(None),
     }
@@ -36,10 +37,10 @@ fn take_next<R: Read>(
     alloc: Global,
     drawn: &mut Option<DrawnRecord>,
 ) -> Result<bool, Cause<FigureRule>> {
-    let Some(record) = next(input, alloc)? else {
+    let Some(mut record) = next(input, alloc)? else {
         return Ok(false);
     };
-    *drawn = modal.take(alloc, input.profile().ignore, record)?;
+    *drawn = modal.take(alloc, input.profile().ignore, &mut record)?;
     Ok(true)
 }
 
@@ -92,6 +93,10 @@ fn drawn_text(
     got: &Result<Option<DrawnRecord>, Cause<FigureRule>>,
 ) -> Result<String, AllocError> {
     match got {
+        Ok(Some(DrawnRecord::Rectangle(on, low, high))) => {
+            let ring = Ring::rectangle(alloc, *low, *high)?;
+            rings_text(alloc, *on, slice::from_ref(&ring))
+        }
         Ok(Some(DrawnRecord::Ring(on, ring))) => rings_text(alloc, *on, slice::from_ref(ring)),
         Ok(Some(DrawnRecord::Rings(on, rings))) => rings_text(alloc, *on, rings),
         Ok(Some(DrawnRecord::Placement(map))) => map_text(alloc, map),

@@ -133,7 +133,11 @@ fn next<R: Read>(
         Err(fault) => return Err(Cause::Breach(RecordFault::Value(fault))),
     };
     match RecordType::of(id.value, under(ignore)) {
-        Ok(kind) => read_fields(input, alloc, kind, id.len, false),
+        Ok(kind) => {
+            let mut record = Record::Pad;
+            read_fields(input, alloc, kind, id.len, false, &mut record)?;
+            Ok(record)
+        }
         Err(rule) => Err(Cause::Breach(RecordFault::Rule(rule))),
     }
 }

@@ -28,7 +28,11 @@ fn next<R: Read>(input: &mut Input<R>, alloc: Global) -> Option<Record> {
     let Ok(kind) = RecordType::of(id.value, input.profile()) else {
         return None;
     };
-    read_fields(input, alloc, kind, id.len, false).ok()
+    let mut record = Record::Pad;
+    match read_fields(input, alloc, kind, id.len, false, &mut record) {
+        Ok(()) => Some(record),
+        Err(_) => None,
+    }
 }
 
 fn is_start(start: &Start) -> bool {

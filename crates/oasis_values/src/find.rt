@@ -102,6 +102,7 @@ pub(crate) fn find_byte<R: Read>(
 }
 
 // Finds the unsigned integer at the front. Mostly it is in hand as a whole.
+#[inline(always)]
 pub(crate) fn find_integer<R: Read>(
     reader: &mut R,
     ahead: &mut Buffer<4096>,
@@ -119,7 +120,7 @@ pub(crate) fn find_integer<R: Read>(
 {
     let hand = ahead.ahead();
     let most = hand.len().min(room as usize);
-    if let Leading::Whole(value, len) = scan_integer(*profile, &hand[..most]) {
+    if let Leading::Whole(value, len) = scan_integer(profile, &hand[..most]) {
         return Ok(Found { value, len });
     }
     read_integer(reader, ahead, room, profile)
@@ -146,7 +147,7 @@ fn read_integer<R: Read>(
     'integer: loop {
         let hand = ahead.ahead();
         let most = hand.len().min(room as usize);
-        match scan_integer(*profile, &hand[..most]) {
+        match scan_integer(profile, &hand[..most]) {
             Leading::Whole(value, len) => return Ok(Found { value, len }),
             Leading::TooLarge(_) => return Err(ValueFault::IntegerTooLarge),
             Leading::Unfinished => want_more(reader, ahead, room, most)?,

@@ -1,11 +1,15 @@
 //! The input: single bytes and unsigned integers, of which all other values consist.
-ghost use Rattle.std.specs.Prelude.{◌≡◌, ◌-◌, ◌≤◌, false, true, Some, IfOk, OnErr};
+ghost use Rattle.std.specs.Prelude.{◌≡◌, ◌-◌, ◌≤◌, false, true, None, Ok, Some, IfOk, IfSome, OnErr};
 
 use crate::fault::ValueFault;
 use crate::find::{find_byte, find_integer};
+use crate::integer::{Leading, scan_integer};
 use lvl_io::{Buffer, Read};
 use lvl_profile::Profile;
 use std::mem;
+
+/// The greatest number of bytes of an integer that is read where its caller stands, without a call.
+const MOST_IN_PLACE: usize = 4;
 
 /// Reads values from a reader, one at a time. It reads from the reader only when it needs a byte and has
 /// none ahead.
@@ -122,7 +126,49 @@ impl<R: Read> Input<R> {
     /// byte above 1 (own rule). If padding is ignored, the integer may have 256 bytes, and
     /// `IntegerTooLarge` is reported at the first byte with which it is 2^64 or more, or at the 256th if
     /// that doesn't end it.
+    #[inline(always)]
     pub fn unsigned(&mut self) -> Result<u64, ValueFault>
+        ensures reads { Reads R.remaining R.read_errors R.lent IsUnsigned self.old self.new (as_breach result) }
+        ensures none { Refutes R.remaining IsUnsigned self.old (as_breach result) }
+        ensures at { OnErr result (input_offset self.new ≡ input_offset self.old) }
+    {
+        // One byte is most often enough, and is tested for with the fewest instructions.
+        if let Some(value) = self.in_hand(1) {
+            return Ok(value);
+        }
+        if let Some(value) = self.in_hand(MOST_IN_PLACE) {
+            return Ok(value);
+        }
+        self.find_unsigned()
+    }
+
+    // The unsigned integer at the front, if it is in hand as a whole and has at most `most` bytes.
+    #[inline(always)]
+    fn in_hand(&mut self, most: usize) -> Option<u64>
+        ensures reads { IfSome result (λ value.
+            Reads R.remaining R.read_errors R.lent IsUnsigned self.old self.new (Ok value)) }
+        ensures kept { result ≡ None → self.new ≡ self.old }
+    {
+        if self.failed {
+            return None;
+        }
+        let room = self.profile.limits.file - self.offset;
+        let hand = self.ahead.ahead();
+        let within = hand.len().min(room as usize);
+        let first = within.min(most);
+        match scan_integer(&self.profile, &hand[..first]) {
+            Leading::Whole(value, len) => {
+                self.ahead.skip(len);
+                self.offset += len as u64;
+                Some(value)
+            }
+            _ => None,
+        }
+    }
+
+    // An unsigned integer of any number of bytes, by a call.
+    #[inline(never)]
+    fn find_unsigned(&mut self) -> Result<u64, ValueFault>
         ensures reads { Reads R.remaining R.read_errors R.lent IsUnsigned self.old self.new (as_breach result) }
         ensures none { Refutes R.remaining IsUnsigned self.old (as_breach result) }
         ensures at { OnErr result (input_offset self.new ≡ input_offset self.old) }

@@ -31,8 +31,9 @@ pub enum Leading {
 }
 
 // What the bytes begin with.
-pub(crate) fn scan_integer(profile: Profile, bytes: &[u8]) -> Leading
-    ensures { Leads profile result bytes.now }
+#[inline(always)]
+pub(crate) fn scan_integer(profile: &Profile, bytes: &[u8]) -> Leading
+    ensures { Leads profile.now result bytes.now }
 {
     let mut value = 0_u64;
     let mut unit = 1_u64;
@@ -52,12 +53,14 @@ pub(crate) fn scan_integer(profile: Profile, bytes: &[u8]) -> Leading
 
 // What the bytes begin with, if nine that continue make `value` and the tenth isn't 0 or 1: with padding it may
 // still be an integer.
-fn scan_long(profile: Profile, bytes: &[u8], value: u64) -> Leading
+#[cold]
+#[inline(never)]
+fn scan_long(profile: &Profile, bytes: &[u8], value: u64) -> Leading
     requires long { 9 < length bytes.now }
     requires continues { Continues (take 9 bytes.now) }
     requires value { value ≡ groups (take 9 bytes.now) }
     requires above { 1 < get_or bytes.now 9 0 }
-    ensures { Leads profile result bytes.now }
+    ensures { Leads profile.now result bytes.now }
 {
     let digit = bytes[MOST_BYTES - 1] % CONTINUES;
     if digit > 1 {
@@ -70,12 +73,12 @@ fn scan_long(profile: Profile, bytes: &[u8], value: u64) -> Leading
 }
 
 // What the bytes begin with, if ten that continue make `value`: only zero groups may follow.
-fn scan_padding(profile: Profile, bytes: &[u8], value: u64) -> Leading
-    requires padded { most_bytes profile ≡ 256 }
+fn scan_padding(profile: &Profile, bytes: &[u8], value: u64) -> Leading
+    requires padded { most_bytes profile.now ≡ 256 }
     requires long { 10 ≤ length bytes.now }
     requires continues { Continues (take 10 bytes.now) }
     requires value { value ≡ groups (take 10 bytes.now) }
-    ensures { Leads profile result bytes.now }
+    ensures { Leads profile.now result bytes.now }
 {
     for at in MOST_BYTES..bytes.len() {
         let byte = bytes[at];

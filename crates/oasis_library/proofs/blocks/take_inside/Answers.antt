@@ -48,8 +48,8 @@ returns-in_err-take-clause-refused c =
     let p = c.in-Ok.ensures.reads (rs ++ to.records) (subst (λ o. HasReached o (rs ++ to.records)) (sym c.order.ensures)
     to.holds.order) in
     inside_breached (input_profile c.args.input.now) rs ys (λ more. Holds c.records.reading (rs ++ more)) to
-    c.in-Ok.record f c.records.invariant.live c.records.invariant.profile p
-    (subst (λ (i : Profile). RecordBreaches i (rs ++ to.records) c.in-Ok.record f) c.profile-profile.ensures
+    c.read_inside.new.record f c.records.invariant.live c.records.invariant.profile p
+    (subst (λ (i : Profile). RecordBreaches i (rs ++ to.records) c.read_inside.new.record f) c.profile-profile.ensures
     (b (rs ++ to.records) to.holds)))
     c.in_err-take.ensures.refused c.from_residual.ensures
 
@@ -64,7 +64,7 @@ records-preserved c =
       profile = q.profiles ∙ c.records.invariant.profile;
       to = λ rs ys h k.
           let to = c.records.invariant.to rs ys h k in
-          let r = c.in-Ok.record in
+          let r = c.read_inside.new.record in
           let y = c.take.new.self in
           let p = c.in-Ok.ensures.reads (rs ++ to.records)
           (subst (λ o. HasReached o (rs ++ to.records)) (sym c.order.ensures) to.holds.order) in
@@ -84,7 +84,7 @@ records-smaller c =
     let q = c.in-Ok.ensures.reads (w.0 ++ here.records)
     (subst (λ o. HasReached o (w.0 ++ here.records)) (sym c.order.ensures) here.holds.order) in
     let more = inside_takes (input_profile c.args.input.now) w.0 _ (λ more. Holds c.records.reading (w.0 ++ more)) here
-    c.in-Ok.record c.records.invariant.live c.records.invariant.profile q in
+    c.read_inside.new.record c.records.invariant.live c.records.invariant.profile q in
     omega (arith, more, c.records-test.true, c.offset.ensures)
 
 pub returns-clause-whole : goal.returns-clause-whole

@@ -54,7 +54,7 @@ returns-in-Err-take_next-clause-refused g c = λ xs k.
     let p = c.in-Ok-read_next.ensures.reads rs (subst (λ o. HasReached o rs) (sym c.order.ensures)
     to.holds.0.holds.order) in
     rw (c.refused_at-in-Err-take_next.ensures, c.offset-offset.ensures)
-    (take_refused (input_profile c.args.input.now) xs c.loop.reading c.in-Ok-read_next.record to
+    (take_refused (input_profile c.args.input.now) xs c.loop.reading c.read_next.new.record to
     c.in-Err-take_next.refusal c.loop.invariant.live c.loop.invariant.profile p
     (rw c.profile-profile.ensures at c.in-Err-take_next.ensures.refused))
 
@@ -69,7 +69,7 @@ returns-in-Err-take_next-clause-reads g c =
     subst (λ b. CountsFailure before after b)
     (sym (is_read_err (Unit {0}) c.refused_at-in-Err-take_next.result
     ∙ ap is_refusal_read c.refused_at-in-Err-take_next.ensures
-    ∙ take_unread (input_profile c.args.input.now) c.loop.reading c.in-Ok-read_next.record c.offset-offset.result
+    ∙ take_unread (input_profile c.args.input.now) c.loop.reading c.read_next.new.record c.offset-offset.result
     c.in-Err-take_next.refusal (c.loop.invariant.items, c.loop.invariant.holds) refused))
     (q.counted ∙ c.loop.invariant.errors)
 
@@ -78,7 +78,7 @@ returns-then-is_end-clause-whole g c = λ xs k.
     let P = input_profile c.args.input.now in
     let to = c.loop.invariant.read_to xs k in
     let rs = records to.records in
-    let r = c.in-Ok-read_next.record in
+    let r = c.read_next.new.record in
     let y = c.take_next.new.reading in
     let p = c.in-Ok-read_next.ensures.reads rs (subst (λ o. HasReached o rs) (sym c.order.ensures)
     to.holds.0.holds.order) in
@@ -91,7 +91,7 @@ returns-then-is_end-clause-whole g c = λ xs k.
 pub loop-preserved : goal.loop-preserved
 loop-preserved g c =
     let P = input_profile c.args.input.now in
-    let r = c.in-Ok-read_next.record in
+    let r = c.read_next.new.record in
     let y = c.take_next.new.reading in
     let next = λ (rs : List Record) (reached : HasReached c.loop.reading.order rs).
     c.in-Ok-read_next.ensures.reads rs (subst (λ o. HasReached o rs) (sym c.order.ensures) reached) in

@@ -1,4 +1,4 @@
-use Rattle.oasis_records.proofs.Ruling.{reads_go, reads_plain, reads_stop}
+use Rattle.oasis_records.proofs.Ruling.{reads_go, reads_plain_in, reads_stop}
 use Rattle.oasis_records.proofs.Shapes.{rectangle_of_code}
 use Rattle.std.proofs.Common.{Ok}
 use Rattle.std.proofs.lemmas.Result.{err_from_is_err_and}
@@ -15,5 +15,8 @@ returns-in_err-info g c =
 
 pub returns : goal.returns
 returns g c =
-    rw c.of_values.ensures
-    (record { reads = reads_go _ c.in_ok-info.ensures.reads (reads_plain _ c.rectangle_of.ensures.reads) })
+    record {
+      reads = reads_go _ c.in_ok-info.ensures.reads
+          (reads_plain_in c.rectangle_in.result c.of_values.result c.rectangle_in.new.record c.of_values.ensures
+          c.rectangle_in.ensures.reads);
+    }

@@ -27,8 +27,8 @@ returns-then-byte-lt-CONTINUES c =
     c.from-digit.ensures in
     let is = more_groups c.args.bytes.now c.loop-at.at c.loop-at.value c.loop-at.unit c.from-digit.result
     c.loop-at-test.true c.loop-at.invariant.value c.loop-at.invariant.unit c.from-digit.ensures in
-    whole_front c.args.profile c.args.bytes.now c.loop-at.at _ c.loop-at-test.true
-    (omega (arith, c.loop-at.invariant.few, (few_bytes c.args.profile).0)) c.loop-at.invariant.continues is fits
+    whole_front c.args.profile.now c.args.bytes.now c.loop-at.at _ c.loop-at-test.true
+    (omega (arith, c.loop-at.invariant.few, (few_bytes c.args.profile.now).0)) c.loop-at.invariant.continues is fits
     c.if-byte-lt-CONTINUES.true
 
 pub loop-at-preserved : goal.loop-at-preserved

@@ -5,5 +5,5 @@ use Rattle.oasis_figures.proofs.modal.Modal.take_placement.Goals as goal
 
 pub returns-in_err-by : goal.returns-in_err-by
 returns-in_err-by c = λ ignore.
-    takes_refused ignore c.args.self.now (a_placement c.args.placement) c.from_residual.result
+    takes_refused ignore c.args.self.now (a_placement c.args.placement.now) c.from_residual.result
     (Breach c.in_err-by.field-0.0) c.from_residual.ensures (c.in_err-by.ensures.err ignore)

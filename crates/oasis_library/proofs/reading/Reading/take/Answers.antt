@@ -9,7 +9,7 @@ use Rattle.oasis_library.proofs.reading.Reading.take.Goals as goal
 
 pub returns-in-Cell-clause-kept : goal.returns-in-Cell-clause-kept
 returns-in-Cell-clause-kept c = λ rs h.
-    cell_goes c.args.self.now _ rs c.args.next c.in-Cell.name c.in-Cell.is h c.pass.ensures
+    cell_goes c.args.self.now _ rs c.args.next.now c.in-Cell.name c.in-Cell.is h c.pass.ensures
     (name_ok c.take.result c.of_name.result c.in_ok-of_name.field-0 c.of_name.ensures c.in_ok-of_name.was
     c.take.ensures.kept (names_in rs) h.names)
     c.new.ensures c.in_ok-begin.ensures c.pass-2.ensures.unit c.pass-2.ensures.validation
@@ -22,8 +22,8 @@ pub add-requires : goal.add-requires
 add-requires c =
     let w = c.requires in (
       since_cell w.0,
-      c.args.next,
-      (figure_ok c.args.profile.ignore c.args.self.now.modal c.take-2.new.self c.args.next c.take-2.result
+      c.args.next.now,
+      (figure_ok c.args.profile.ignore c.args.self.now.modal c.take-2.new.self c.args.next.now c.take-2.result
           c.of_figure.result
           c.in_ok-drawn.drawn c.of_figure.ensures c.in_ok-drawn.was
           (record {
@@ -37,7 +37,7 @@ add-requires c =
 pub returns : goal.returns
 returns c =
     let holds = λ (rs : List Record) (h : Holds c.args.self.now rs).
-    figure_ok c.args.profile.ignore c.args.self.now.modal c.take-2.new.self c.args.next c.take-2.result
+    figure_ok c.args.profile.ignore c.args.self.now.modal c.take-2.new.self c.args.next.now c.take-2.result
     c.of_figure.result c.in_ok-drawn.drawn
     c.of_figure.ensures c.in_ok-drawn.was
     (record {
@@ -49,10 +49,10 @@ returns c =
     record {
       refused = tt;
       kept = λ rs h.
-          other_goes c.args.self.now _ rs c.args.next (is_other c.args.next c.in_default.not-Cell) h c.pass.ensures
+          other_goes c.args.self.now _ rs c.args.next.now (is_other c.args.next.now c.in_default.not-Cell) h c.pass.ensures
           (name_ok c.take.result c.of_name.result c.in_ok-of_name.field-0 c.of_name.ensures c.in_ok-of_name.was
           c.take.ensures.kept (names_in rs) h.names)
-          (holds rs h).0.stands (c.in_ok-add.ensures (since_cell rs) c.args.next (holds rs h).0) c.pass-2.ensures.unit
+          (holds rs h).0.stands (c.in_ok-add.ensures (since_cell rs) c.args.next.now (holds rs h).0) c.pass-2.ensures.unit
           c.pass-2.ensures.validation;
       none = λ rs h. (
         name_ok c.take.result c.of_name.result c.in_ok-of_name.field-0 c.of_name.ensures c.in_ok-of_name.was

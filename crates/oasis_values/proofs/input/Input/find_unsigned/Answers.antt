@@ -3,7 +3,7 @@ use Rattle.lvl_io.proofs.Spelling.{breached_none}
 use Rattle.oasis_values.specs.Numbers.{IsUnsigned}
 use Rattle.oasis_values.proofs.Found.{reads_found, reads_stopped}
 use Rattle.oasis_values.proofs.Integers.{unsigned_code}
-use Rattle.oasis_values.proofs.input.Input.unsigned.Goals as goal
+use Rattle.oasis_values.proofs.input.Input.find_unsigned.Goals as goal
 
 pub returns-in-Ok : goal.returns-in-Ok
 returns-in-Ok g c = record {
