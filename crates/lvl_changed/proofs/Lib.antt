@@ -22,3 +22,4 @@ pub mod Unchanged
 pub mod Leaving
 pub mod Tops
 pub mod Rowing
+pub mod Apart

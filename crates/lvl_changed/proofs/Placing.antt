@@ -142,7 +142,7 @@ places_none pairs ours theirs k f r all none found has l s out =
     )
 
 -- whether there is a partner or not
-partner_alike : (pairs : List LayerPair) (ours theirs : List (PlainCell Rings)) (k : ℕ) (f : Found)
+pub partner_alike : (pairs : List LayerPair) (ours theirs : List (PlainCell Rings)) (k : ℕ) (f : Found)
     (r : PlainReference) (all : Area) (o : Option ℕ) → f.partner ≡ o → IsFound pairs ours theirs k f
     → ((e : Point) → Contains r.shifts e → HasImages (map_at r e) f.area all)
     → AlikeOutside all (PlacedCover ours (placed k r)) (IsMoved pairs (PlacedCover theirs (partner_placed o r)))

@@ -11,3 +11,4 @@ pub mod Areas
 pub mod Drawing
 pub mod Rows
 pub mod InStep
+pub mod Alone

@@ -96,6 +96,9 @@ fn through(checked: &Checked, array: &Array) -> Result<Option<Array>, AllocError
 fn in_order(array: Array) -> Array
     ensures { IsRebased array result }
 {
+    if array.shifts.is_single() {
+        return array;
+    }
     let Some((least, shifts)) = rebased(&array.shifts) else {
         return array;
     };

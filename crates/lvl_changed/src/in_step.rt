@@ -17,7 +17,7 @@ use lvl_compare::Pair;
 use std::alloc::AllocError;
 
 /// Whether an array places the partner that was found, at the places of another array.
-fn places_partner(array: &Array, found: &Found, other: &Array) -> bool
+pub(crate) fn places_partner(array: &Array, found: &Found, other: &Array) -> bool
     ensures partner { IsTrue result → found.now.partner ≡ Some other.now.cell }
     ensures places { IsTrue result → as_reference other.now ≡ as_reference array.now }
 {

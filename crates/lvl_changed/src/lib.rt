@@ -32,6 +32,7 @@ pub use difference::difference_by_changes;
 pub use pays::pays_by_cells;
 
 mod alike;
+mod alone;
 mod area;
 mod arrays;
 mod cells;
@@ -56,5 +57,6 @@ mod rows;
 mod shapes;
 mod shifts;
 mod spots;
+mod table;
 mod whole;
 mod windows;

@@ -44,10 +44,9 @@ fn has_no_square(window: Window) -> bool
     window.x0 >= window.x1 || window.y0 >= window.y1
 }
 
-/// The number of squares of a window, at most `u128::MAX`.
+/// The number of squares of a window.
 fn area(window: Window) -> u128 {
-    let width = u128::from(window.x0.abs_diff(window.x1));
-    width.saturating_mul(u128::from(window.y0.abs_diff(window.y1)))
+    u128::from(window.x0.abs_diff(window.x1)) * u128::from(window.y0.abs_diff(window.y1))
 }
 
 /// The number of squares that two windows get if they are joined.

@@ -294,3 +294,17 @@ improved_found a b P (Some at) h =
       | inl none ↦ absurd cc
       | inr new ↦ record { shown = new.shown; alone = new.alone; least = h.alike }
     ]
+
+-- what is known precedes all differences of a part, and so of a smaller one
+pub past_within : (a b : Draws) (P Q : Part) (known : Option Difference) → ((l : Layer) (q : Square) → Q l q → P l q)
+    → IsImproved a b P known known → IsImproved a b Q known known
+past_within a b P Q None within h = record {
+  alike = λ l s part early. h.alike l s (within l s part) early;
+  new = tt;
+  kept = λ e. e;
+}
+past_within a b P Q (Some at) within h = record {
+  alike = λ l s part early. h.alike l s (within l s part) early;
+  new = inl refl;
+  kept = λ e. e;
+}

@@ -1,6 +1,7 @@
 //! Comparison of two libraries in a window, part by part, so that only what is drawn in one part is
 //! in memory.
 ghost use Rattle.std.specs.Prelude.{◌≡◌, ◌≤◌, ◌+◌, ◌*◌, ◌<ℤ◌, ◌↔◌, IsTrue, IfOk, IfSome};
+ghost use Rattle.lvl_grid.specs.declared.point.Square.{Square as GridSquare};
 ghost use Rattle.lvl_grid.specs.Clip.{IsInWindow};
 ghost use Rattle.lvl_columns.specs.Windows.{window_of};
 ghost use Rattle.lvl_compare.specs.inside.Strips.{AreHalves, Precedes, IsFoundIn, IsImproved, IsLeast, rows_to};
@@ -128,6 +129,33 @@ fn rows_before(
     } else {
         rows_up_to(*window, last_row(window, known.1))
     }
+}
+
+/// Whether the window has no squares.
+fn has_no_square(window: &Window) -> bool
+    ensures { IsTrue result → (s : GridSquare) → ¬ IsInWindow window.now s }
+{
+    window.x0 >= window.x1 || window.y0 >= window.y1
+}
+
+/// Whether no square of a window may come before what is known, on the Layers of a group.
+pub(crate) fn is_past(
+    alloc: Global,
+    pair: &Pair<'_>,
+    group: &Group,
+    window: &Window,
+    found: Option<Difference>,
+) -> Result<bool, AllocError>
+    requires { AreListed pair.now group.now }
+    ensures { IfOk result (λ past. IsTrue past → IsImproved (ours pair.now) (theirs pair.now)
+        (on group.now.span (IsInWindow window.now)) found found) }
+{
+    let Some(known) = found else {
+        return Ok(false);
+    };
+    let lesser = group.part(alloc, pair, group.span.up_to(known.0))?;
+    let rows = rows_before(alloc, pair.view, &lesser, window, &known);
+    Ok(has_no_square(&rows))
 }
 
 /// The first difference of two layouts on the Layers of a group within a window, if it precedes what

@@ -6,3 +6,6 @@ returns-in_default c = not_moved c.args.array
 
 pub returns-in_default-moved : goal.returns-in_default-moved
 returns-in_default-moved c = not_moved c.args.array
+
+pub returns-then-is_single : goal.returns-then-is_single
+returns-then-is_single c = not_moved c.args.array

@@ -1,8 +1,8 @@
-use Rattle.std.proofs.Common.{◌≡◌, ◌<◌, ℕ, List, Some, length, slice_get, take, sym, subst, ◌∙◌, arith}
+use Rattle.std.proofs.Common.{◌≡◌, ℕ, List, Some, slice_get, take, subst, arith}
 use Rattle.std.proofs.lemmas.Grind.{common_steps}
 use Rattle.std.proofs.lemmas.Option.{gets}
 use Rattle.lvl_cells.specs.Cells.{PlainCell, Rings}
-use Rattle.lvl_cells.specs.Checks.{HasReference, Settled}
+use Rattle.lvl_cells.specs.Checks.{Settled}
 use Rattle.lvl_view.specs.declared.map.LayerPair.{LayerPair}
 use Rattle.lvl_view.specs.Moved.{IsMoved}
 use Rattle.lvl_changed.specs.declared.area.Area.{Area}
@@ -10,17 +10,10 @@ use Rattle.lvl_changed.specs.declared.arrays.Array.{Array}
 use Rattle.lvl_changed.specs.declared.found.Found.{Found}
 use Rattle.lvl_changed.specs.inside.Arrays.{IsArrayOf}
 use Rattle.lvl_changed.specs.inside.Placements.{ReferencesCover}
+use Rattle.lvl_changed.proofs.Apart.{reference_of}
 use Rattle.lvl_changed.proofs.Moving.{alike_wider}
 use Rattle.lvl_changed.proofs.Placing.{same_more}
 use Rattle.lvl_changed.proofs.in_step.hold_same_at.Goals as goal
-
--- the cell at an index has the reference that some cell there has
-reference_of : (cells : List (PlainCell Rings)) (i j : ℕ) (c : PlainCell Rings) → HasReference cells i j
-    → slice_get cells i ≡ Some c → j < length c.references
-reference_of cells i j c has at =
-    let both : Some has.0 ≡ Some c = sym has.1 ∙ at in
-    let one : has.0 ≡ c = cc in
-    subst (λ (d : PlainCell Rings). j < length d.references) one has.2
 
 pub returns-clause-more : goal.returns-clause-more
 returns-clause-more c = λ same known before x y at there.

@@ -13,8 +13,8 @@ use Rattle.lvl_compare.proofs.together.difference_together.Goals as goal
 pub loop-window-init : goal.loop-window-init
 loop-window-init c = none_seen _ _ _ _ c.args.known
 
-pub difference_within-requires-clause-lists : goal.difference_within-requires-clause-lists
-difference_within-requires-clause-lists c =
+pub difference_before-requires-clause-lists : goal.difference_before-requires-clause-lists
+difference_before-requires-clause-lists c =
     let pair : Pair = c.args.pair.now in
     let ws : List Window = c.args.windows.now in
     let i = c.loop-window.window-index in
@@ -35,8 +35,8 @@ loop-window-preserved c =
     let is : c.shared-part.result ≡ seen_of pair.view.now.window (get_or ws c.loop-window.window-index none) =
     rw c.window.ensures at c.shared-part.ensures in
     subst (λ us. IsImproved (ours pair) (theirs pair) (on c.args.group.now.span (seen_in pair us)) c.args.known
-    c.in_ok-end.end.found) (sym (take_more ws c.loop-window.window-index none c.loop-window-test.true))
-    (window_more _ _ _ _ _ _ _ c.args.known c.loop-window.found _ is c.loop-window.invariant c.in_ok-end.ensures.found)
+    c.in_ok-found.found) (sym (take_more ws c.loop-window.window-index none c.loop-window-test.true))
+    (window_more _ _ _ _ _ _ _ c.args.known c.loop-window.found _ is c.loop-window.invariant c.in_ok-found.ensures)
 
 pub returns : goal.returns
 returns c =
