@@ -19,18 +19,17 @@ use crate::found::Found;
 use crate::in_step::{places_partner, reference_count};
 use crate::layers::Layers;
 use crate::placed::Placed;
-use crate::table::{Table, key_of, table_of};
+use crate::table::{Counterparts, key_of};
 use lvl_compare::Pair;
 use lvl_flat::Fitted;
 use lvl_view::View;
 use std::alloc::{AllocError, Global};
 
-/// Whether cell `theirs` has a reference, to which the table leads, that places the partner that was found
-/// at the places of the array.
+/// Whether reference `hint` of cell `theirs` places the partner that was found at the places of the array.
 fn has_same(
     pair: &Pair<'_>,
     theirs: usize,
-    table: &Table,
+    hint: Option<usize>,
     array: &Array,
     found: &Found,
 ) -> Result<bool, AllocError>
@@ -40,10 +39,7 @@ fn has_same(
         → PlacedCover pair.now.second.now.cells (partner_placed found.now.partner (as_reference array.now)) layer s
         → ReferencesCover pair.now.second.now.cells d.references layer s) }
 {
-    let Some(cell) = found.partner else {
-        return Ok(false);
-    };
-    let Some(k) = table.find(key_of(cell, array)) else {
+    let Some(k) = hint else {
         return Ok(false);
     };
     if k >= reference_count(pair.second.checked(), theirs) {
@@ -53,13 +49,13 @@ fn has_same(
     Ok(places_partner(array, found, &other))
 }
 
-/// Whether cell `ours` has a reference, to which the table leads, that places what the other array does,
-/// with the partner in place of its cell. If so, adds the area that was found for this cell, at each place.
+/// Whether reference `hint` of cell `ours` places what the other array does, with the partner in place of its
+/// cell. If so, adds the area that was found for this cell, at each place.
 fn hold_same_as(
     area: &mut Area,
     pair: &Pair<'_>,
     ours: usize,
-    table: &Table,
+    hint: Option<usize>,
     other: &Array,
     known: &[Option<Found>],
 ) -> Result<bool, AllocError>
@@ -71,7 +67,7 @@ fn hold_same_as(
         → ReferencesCover pair.now.first.now.cells c.references layer s) }
     ensures kept { OnOk result (Grows area.old area.new) }
 {
-    let Some(j) = table.find(key_of(other.cell, other)) else {
+    let Some(j) = hint else {
         return Ok(false);
     };
     if j >= reference_count(pair.first.checked(), ours) {
@@ -97,14 +93,14 @@ fn push_alone(
     drawn: &[Option<Layers>],
     view: &View,
     array: Array,
-    table: &Table,
+    may_have_arrays: bool,
 ) -> Result<(), AllocError>
     requires { AreDrawnOn library.now.cells drawn.now }
     ensures added { OnOk result (AddsOutside area.new view.now.pairs library.now.cells
         (all_places placed.old) (all_places placed.new) array) }
     ensures kept { OnOk result (Grows area.old area.new) }
 {
-    if table.has_arrays || !array.shifts.is_single() {
+    if may_have_arrays || !array.shifts.is_single() {
         return placed.push(array);
     }
     area.hold_array(library, drawn, view, &array)
@@ -115,12 +111,14 @@ fn push_alone(
 fn place_partner(
     area: &mut Area,
     placed: &mut Placed,
+    alloc: Global,
     pair: &Pair<'_>,
     theirs: usize,
     drawn: &[Option<Layers>],
     array: Array,
+    j: usize,
     found: &Found,
-    table: &Table,
+    counterparts: &mut Counterparts<'_>,
 ) -> Result<(), AllocError>
     requires theirs { theirs < length pair.now.second.now.cells }
     requires drawn { AreDrawnOn pair.now.second.now.cells drawn.now }
@@ -135,15 +133,25 @@ fn place_partner(
     ensures kept { OnOk result (Grows area.old area.new) }
 {
     area.hold_places(&found.area, &array)?;
-    if has_same(pair, theirs, table, &array, found)? {
-        return Ok(());
-    }
-    let Array { by, shifts, .. } = array;
     let Some(cell) = found.partner else {
         return Ok(());
     };
+    let hint = counterparts.find(alloc, key_of(cell, &array), j)?;
+    if has_same(pair, theirs, hint, &array, found)? {
+        return Ok(());
+    }
+    let may_have_arrays = counterparts.may_have_arrays();
+    let Array { by, shifts, .. } = array;
     let array = Array { cell, by, shifts };
-    push_alone(area, placed, pair.second, drawn, pair.view, array, table)
+    push_alone(
+        area,
+        placed,
+        pair.second,
+        drawn,
+        pair.view,
+        array,
+        may_have_arrays,
+    )
 }
 
 /// Adds what an array of the second library places, unless cell `ours` places the same with partners in place
@@ -151,12 +159,14 @@ fn place_partner(
 fn place_other(
     area: &mut Area,
     placed: &mut Placed,
+    alloc: Global,
     pair: &Pair<'_>,
     ours: usize,
     drawn: &[Option<Layers>],
     known: &[Option<Found>],
     array: Array,
-    table: &Table,
+    k: usize,
+    counterparts: &mut Counterparts<'_>,
 ) -> Result<(), AllocError>
     requires ours { ours < length pair.now.first.now.cells }
     requires drawn { AreDrawnOn pair.now.second.now.cells drawn.now }
@@ -168,10 +178,20 @@ fn place_other(
         (ReferencesCover pair.now.first.now.cells c.references layer s)) }
     ensures kept { OnOk result (Grows area.old area.new) }
 {
-    if hold_same_as(area, pair, ours, table, &array, known)? {
+    let hint = counterparts.find(alloc, key_of(array.cell, &array), k)?;
+    if hold_same_as(area, pair, ours, hint, &array, known)? {
         return Ok(());
     }
-    push_alone(area, placed, pair.second, drawn, pair.view, array, table)
+    let may_have_arrays = counterparts.may_have_arrays();
+    push_alone(
+        area,
+        placed,
+        pair.second,
+        drawn,
+        pair.view,
+        array,
+        may_have_arrays,
+    )
 }
 
 /// What the references of cell `ours` place, with partners in place of the cells, and cell `theirs` maybe
@@ -193,7 +213,7 @@ pub(crate) fn partners_alone(
     ensures kept { OnOk result (Grows area.old area.new) }
 {
     let count = reference_count(pair.first.checked(), ours);
-    let table = table_of(alloc, pair.second.checked(), theirs, None, count)?;
+    let mut counterparts = Counterparts::new(pair.second.checked(), theirs, None, count);
     let mut placed = Placed::none(alloc);
     for j in 0..count {
         let array = array_of(pair.first.checked(), ours, j)?;
@@ -201,7 +221,18 @@ pub(crate) fn partners_alone(
             area.hold_anywhere();
             return Ok(placed);
         };
-        place_partner(area, &mut placed, pair, theirs, drawn, array, found, &table)?;
+        place_partner(
+            area,
+            &mut placed,
+            alloc,
+            pair,
+            theirs,
+            drawn,
+            array,
+            j,
+            found,
+            &mut counterparts,
+        )?;
     }
     Ok(placed)
 }
@@ -225,11 +256,22 @@ pub(crate) fn others_alone(
     ensures kept { OnOk result (Grows area.old area.new) }
 {
     let count = reference_count(pair.second.checked(), theirs);
-    let table = table_of(alloc, pair.first.checked(), ours, Some(known), count)?;
+    let mut counterparts = Counterparts::new(pair.first.checked(), ours, Some(known), count);
     let mut placed = Placed::none(alloc);
     for k in 0..count {
         let array = array_of(pair.second.checked(), theirs, k)?;
-        place_other(area, &mut placed, pair, ours, drawn, known, array, &table)?;
+        place_other(
+            area,
+            &mut placed,
+            alloc,
+            pair,
+            ours,
+            drawn,
+            known,
+            array,
+            k,
+            &mut counterparts,
+        )?;
     }
     Ok(placed)
 }

@@ -12,7 +12,7 @@ use lvl_cells::Checked;
 use std::alloc::{AllocError, Global};
 use std::hash::{FoldHasher, Hasher};
 
-/// The greatest number of references of two cells together that are listed without a table.
+/// The greatest number of references of two cells together that are listed, and aren't looked for.
 const FEW: usize = 262_144;
 
 /// How many slots are looked at for a key, from its own on.
@@ -28,10 +28,10 @@ struct Slot {
 /// The references of a cell, each in the slot of its key or soon after it. Of those that place the same
 /// there is one.
 #[derive(Drop)]
-pub(crate) struct Table {
+struct Table {
     slots: Vec<Slot>,
-    /// Whether some reference has more than one place, or nothing is known of them.
-    pub has_arrays: bool,
+    /// Whether some reference has more than one place.
+    has_arrays: bool,
 }
 
 /// A number that arrays have in common that place this cell at the same places, and few others have.
@@ -60,14 +60,6 @@ fn part_of(key: u64) -> u32 {
 }
 
 impl Table {
-    /// A table that leads to no reference.
-    fn none(alloc: Global) -> Table {
-        Table {
-            slots: Vec::new(alloc),
-            has_arrays: true,
-        }
-    }
-
     /// An empty table with room for this number of references.
     fn with_room(alloc: Global, count: usize) -> Result<Table, AllocError> {
         let room = count.saturating_add(count / 2).saturating_add(MOST_TRIED);
@@ -114,7 +106,7 @@ impl Table {
     }
 
     /// The reference that a key leads to, by its index.
-    pub(crate) fn find(&self, key: u64) -> Option<usize> {
+    fn find(&self, key: u64) -> Option<usize> {
         let at = self.near(key)?;
         let next = self.slots[at].next;
         (next as usize).checked_sub(1)
@@ -132,29 +124,136 @@ fn cell_as(cell: usize, known: Option<&[Option<Found>]>) -> Option<usize> {
     }
 }
 
-/// A table of the references of a cell, with partners in place of the cells if these are given.
-pub(crate) fn table_of(
-    alloc: Global,
-    checked: &Checked,
+/// Finds references of a cell that place what those of another do, with partners in place of their cells if
+/// these are given: beside the last that was found, as far from the other end of the list, or by a table, which
+/// is made once neither is right.
+#[derive(Drop)]
+pub(crate) struct Counterparts<'a> {
+    checked: &'a Checked,
     cell: usize,
-    known: Option<&[Option<Found>]>,
+    known: Option<&'a [Option<Found>]>,
     others: usize,
-) -> Result<Table, AllocError>
-    requires { cell < length checked.now.cells }
-{
-    let count = reference_count(checked, cell);
-    if count.saturating_add(others) <= FEW {
-        return Ok(Table::none(alloc));
-    }
-    let mut table = Table::with_room(alloc, count)?;
-    for reference in 0..count {
-        let array = array_of(checked, cell, reference)?;
-        if !array.shifts.is_single() {
-            table.has_arrays = true;
+    last: usize,
+    table: Option<Table>,
+}
+
+impl<'a> Counterparts<'a> {
+    /// The references of a cell, among which those of `others` references are looked for.
+    pub(crate) fn new(
+        checked: &'a Checked,
+        cell: usize,
+        known: Option<&'a [Option<Found>]>,
+        others: usize,
+    ) -> Counterparts<'a> {
+        Counterparts {
+            checked,
+            cell,
+            known,
+            others,
+            last: 0,
+            table: None,
         }
-        if let Some(placed) = cell_as(array.cell, known) {
-            table.put(key_of(placed, &array), reference);
+    }
+
+    /// The number of references.
+    fn count(&self) -> usize {
+        if self.cell >= self.checked.cells().len() {
+            return 0;
+        }
+        reference_count(self.checked, self.cell)
+    }
+
+    /// What a reference places, by its index, unless the cell has none with this index.
+    fn array(&self, reference: usize) -> Result<Option<Array>, AllocError> {
+        if self.cell >= self.checked.cells().len() {
+            return Ok(None);
+        }
+        if reference >= reference_count(self.checked, self.cell) {
+            return Ok(None);
+        }
+        let array = array_of(self.checked, self.cell, reference)?;
+        Ok(Some(array))
+    }
+
+    /// The key of a reference, or None if its cell has no partner.
+    fn key_at(&self, reference: usize) -> Result<Option<u64>, AllocError> {
+        let Some(array) = self.array(reference)? else {
+            return Ok(None);
+        };
+        match cell_as(array.cell, self.known) {
+            Some(placed) => Ok(Some(key_of(placed, &array))),
+            None => Ok(None),
         }
     }
-    Ok(table)
+
+    /// Which references may have the key of one of the others, by its index.
+    fn guesses(&self, other: usize) -> [usize; 3] {
+        let mirrored = self.count().saturating_sub(other).saturating_sub(1);
+        [
+            self.last.saturating_add(1),
+            self.last.saturating_sub(1),
+            mirrored,
+        ]
+    }
+
+    /// The first of the guessed references with this key.
+    fn guessed(&self, key: u64, other: usize) -> Result<Option<usize>, AllocError> {
+        for reference in self.guesses(other) {
+            if self.key_at(reference)? == Some(key) {
+                return Ok(Some(reference));
+            }
+        }
+        Ok(None)
+    }
+
+    /// A table of all references.
+    fn table_of(&self, alloc: Global) -> Result<Table, AllocError> {
+        let mut table = Table::with_room(alloc, self.count())?;
+        for reference in 0..self.count() {
+            if let Some(array) = self.array(reference)? {
+                table.has_arrays |= !array.shifts.is_single();
+                if let Some(placed) = cell_as(array.cell, self.known) {
+                    table.put(key_of(placed, &array), reference);
+                }
+            }
+        }
+        Ok(table)
+    }
+
+    /// The reference with this key by the table, which is made if there is none.
+    fn listed(&mut self, alloc: Global, key: u64) -> Result<Option<usize>, AllocError> {
+        if self.table.is_none() {
+            self.table = Some(self.table_of(alloc)?);
+        }
+        match &self.table {
+            Some(table) => Ok(table.find(key)),
+            None => Ok(None),
+        }
+    }
+
+    /// A reference that may place what the other with this index and this key does.
+    pub(crate) fn find(
+        &mut self,
+        alloc: Global,
+        key: u64,
+        other: usize,
+    ) -> Result<Option<usize>, AllocError> {
+        if self.count().saturating_add(self.others) <= FEW {
+            return Ok(None);
+        }
+        let found = match self.guessed(key, other)? {
+            Some(reference) => Some(reference),
+            None => self.listed(alloc, key)?,
+        };
+        self.last = found.unwrap_or(self.last);
+        Ok(found)
+    }
+
+    /// Whether some reference has more than one place, or that isn't known.
+    pub(crate) fn may_have_arrays(&self) -> bool {
+        match &self.table {
+            Some(table) => table.has_arrays,
+            None => true,
+        }
+    }
 }

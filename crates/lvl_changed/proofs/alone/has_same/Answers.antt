@@ -12,7 +12,7 @@ returns c = λ same d at l s covers.
     let cells : List (PlainCell Rings) = c.args.pair.now.second.now.cells in
     let a : Array = c.args.array.now in
     let b : Array = c.in_ok-other.other in
-    let k : ℕ = c.in-Some-find.k in
+    let k : ℕ = c.in-Some.k in
     let is : IsArrayOf cells c.args.theirs k b =
     subst (λ (z : Settled). IsArrayOf z.cells c.args.theirs k b) c.checked-2.ensures.library c.in_ok-other.ensures in
     let there : HasReference cells c.args.theirs k =
