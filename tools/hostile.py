@@ -335,13 +335,14 @@ def layers_and_lists():
 def placements():
     """Placements by few bytes each, against the same of another cell, or in another order."""
     n = 5_000_000
-    def near(width, first=0, step=3):
+    def near(width, first=0, step=3, name="A"):
         steps = (b"\x11\x20" + signed(step) if step else b"\x11\0") * (n - 1)
-        places = placement("A", first), b"\x10", steps
-        return oas_file(oas_cell("A", rectangle(0, 0, width, 2)), oas_cell("TOP", *places))
+        places = placement(name, first), b"\x10", steps
+        return oas_file(oas_cell(name, rectangle(0, 0, width, 2)), oas_cell("TOP", *places))
     yield case("5,000,000 placements of 3 bytes", n, near(2))
     yield case("the same, against those of a wider square", 2 * n, near(2), near(3))
     yield case("the same, the other way round", 2 * n, near(2), near(2, 3 * (n - 1), -3))
+    yield case("the same, and of a cell of another name", 2 * n, near(2), near(2, 3 * (n - 1), -3, "B"))
     yield case("5,000,000 placements of 2 bytes, against those of a wider square", 2 * n, near(2, 0, 0), near(3, 0, 0))
     n = 3_000_000
     def in_turn(width):
