@@ -3,7 +3,8 @@
 //!
 //! [`run`] compares two files, [`run_view`] compares them under a view, [`run_why`] also says why
 //! they differ, [`run_measured`] compares only files whose grid steps agree, [`run_show`] shows
-//! one, [`run_digest`] hashes what one draws, and [`run_cells`] lists the cells of one. Each makes the whole text of the answer, writes
+//! one, [`run_digest`] hashes what one draws, and [`run_cells`] lists the cells of one. Each makes
+//! the whole text of the answer, but for the lines of a digest, which are written one by one, writes
 //! it, and returns a [`Status`], which gives the exit status of the program. The calls that take
 //! what is ignored return an [`Outcome`], which also has a [`Hint`] if something would mend a
 //! refusal. [`form`], [`form_shown`], [`form_digest`] and [`form_list`] only make the text.
