@@ -75,6 +75,25 @@ rises_to start [] j d h lt = absurd (omega (arith, lt))
 rises_to start (run ∷ runs) zero d h lt = h.0
 rises_to start (run ∷ runs) (suc j) d h lt = omega (arith, h.0, rises_to run.end runs j d h.1 (omega (arith, lt)))
 
+-- the target of reference j is that of a run that ends after it, if the run before doesn't
+pub target_in : (start : ℕ) (runs : List Run) (j k : ℕ) (d : Run) → Rises start runs → start ≤ j → k < length runs
+    → ((i : ℕ) → suc i ≡ k → (get_or runs i d).end ≤ j) → j < (get_or runs k d).end
+    → slice_get (spread start runs) (j - start) ≡ option_map (λ r. r.target) (slice_get runs k)
+target_in start [] j k d rises low lt before at = absurd (omega (arith, lt))
+target_in start (run ∷ runs) j zero d rises low lt before at =
+    replicated (run.end - start) run.target (spread run.end runs) (j - start) (omega (arith, at, low))
+target_in start (run ∷ runs) j (suc zero) d rises low lt before at =
+    let past : run.end ≤ j = before zero refl in
+    let split : j - start ≡ (run.end - start) + (j - run.end) = omega (arith, past, rises.0) in
+    rw split (past_replicated (run.end - start) run.target (spread run.end runs) (j - run.end)
+    ∙ target_in run.end runs j zero d rises.1 past (omega (arith, lt)) (λ i h. absurd (omega (arith, h))) at)
+target_in start (run ∷ runs) j (suc (suc k)) d rises low lt before at =
+    let last : (get_or runs k d).end ≤ j = before (suc k) refl in
+    let past : run.end ≤ j = omega (arith, last, rises_to run.end runs k d rises.1 (omega (arith, lt))) in
+    let split : j - start ≡ (run.end - start) + (j - run.end) = omega (arith, past, rises.0) in
+    rw split (past_replicated (run.end - start) run.target (spread run.end runs) (j - run.end)
+    ∙ target_in run.end runs j (suc k) d rises.1 past (omega (arith, lt)) (λ i h. before (suc i) (ap suc h)) at)
+
 pub rises_sorted : (start : ℕ) (runs : List Run) → Rises start runs → (i j : ℕ) (d : Run) → i ≤ j → j < length runs
     → (get_or runs i d).end ≤ (get_or runs j d).end
 rises_sorted start [] h i j d le lt = absurd (omega (arith, lt))

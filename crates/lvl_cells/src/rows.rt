@@ -1,6 +1,6 @@
 //! The targets of references as they are stored: for each cell a row of runs.
 ghost use Rattle.std.specs.Prelude.{◌≡◌, ◌<◌, ◌≤◌, ◌-◌, ◌++◌, ◌∷◌, [], ℕ, List, length, take, drop, slice_get, nat_le};
-ghost use Rattle.std.specs.Prelude.{Some, OnOk, option_map};
+ghost use Rattle.std.specs.Prelude.{Some, IsTrue, OnOk, option_map};
 ghost use Rattle.lvl_grid.specs.Pieces.{begin_of};
 ghost use Rattle.lvl_cells.specs.declared.rows.Run.{Run as PlainRun};
 ghost use Rattle.lvl_cells.specs.inside.Rows.{spread, spread_rows, AreRows, HasRow, Rises};
@@ -42,11 +42,46 @@ pub(crate) fn push_target(
     push_item(runs, run)
 }
 
-/// The index of the run with the reference at this index, or the number of runs if there is none.
+/// Whether run `run` has the reference at this index.
+fn has_reference(runs: &[Run], run: usize, reference: usize) -> bool
+    requires { Rises 0 runs.now }
+    ensures { IsTrue result
+        → slice_get (spread 0 runs.now) reference ≡ option_map (λ r. r.target) (slice_get runs.now run) }
+{
+    if run >= runs.len() || runs[run].end as usize <= reference {
+        return false;
+    }
+    if run == 0 {
+        return true;
+    }
+    let before = runs[run - 1].end as usize;
+    before <= reference
+}
+
+/// The index of the run with the reference at this index, if all runs are equally long.
+fn guessed(runs: &[Run], reference: usize) -> usize {
+    let count = runs.len();
+    if count == 0 {
+        return 0;
+    }
+    let references = runs[count - 1].end as usize;
+    if references == count {
+        return reference;
+    }
+    let product = reference.saturating_mul(count);
+    product.checked_div(references).unwrap_or(0)
+}
+
+/// The index of the run with the reference at this index, or the number of runs if there is none. It
+/// is guessed first, since a search through millions of runs misses the cache again and again.
 fn run_of(runs: &[Run], reference: usize) -> usize
     requires { Rises 0 runs.now }
     ensures { slice_get (spread 0 runs.now) reference ≡ option_map (λ r. r.target) (slice_get runs.now result) }
 {
+    let guess = guessed(runs, reference);
+    if has_reference(runs, guess, reference) {
+        return guess;
+    }
     runs.partition_point(
         |run: &Run| -> bool
             ensures { result ≡ nat_le run.now.end reference }
