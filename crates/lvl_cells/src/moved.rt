@@ -1,6 +1,6 @@
 //! Rings of shapes: points that shapes can share, with a displacement.
 ghost use Rattle.std.specs.Prelude.{◌≡◌, ◌↔◌, length, map, slice_get, All, Any, OnOk, OnErr, IfOk, Err};
-ghost use Rattle.std.specs.Prelude.{SomeIff, IfSome, ◌++◌, ◌∷◌, []};
+ghost use Rattle.std.specs.Prelude.{SomeIff, IfSome, IsTrue, ◌++◌, ◌∷◌, []};
 ghost use Rattle.lvl_grid.specs.declared.point.Point.{Point as GridPoint};
 ghost use Rattle.lvl_grid.specs.declared.point.Square.{Square as GridSquare};
 ghost use Rattle.lvl_grid.specs.Placed.{placed_point, IsPlaceOfCovered};
@@ -117,6 +117,13 @@ impl<'a> MovedRing<'a> {
     {
         let (low, high) = self.outline.reach()?;
         Some((moved(low, self.by)?, moved(high, self.by)?))
+    }
+
+    /// Whether both are the same rectangle, written alike. `false` says nothing.
+    pub fn is_same_rectangle(&self, other: &MovedRing<'_>) -> bool
+        ensures { IsTrue result → self.now ≡ other.now }
+    {
+        self.by == other.by && self.outline.is_same_rectangle(&other.outline)
     }
 
     /// A copy of its points, moved.

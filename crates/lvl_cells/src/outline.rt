@@ -85,6 +85,16 @@ impl<'a> Outline<'a> {
         self.points.len() == 1 && self.points[0] == of.diagonal && self.along_y == of.along_y
     }
 
+    /// Whether both are kept as the same rectangle. `false` says nothing.
+    pub(crate) fn is_same_rectangle(&self, other: &Outline<'_>) -> bool
+        ensures { IsTrue result → ring_of self.now ≡ ring_of other.now }
+    {
+        if self.points.len() != 1 || other.points.len() != 1 {
+            return false;
+        }
+        self.along_y == other.along_y && self.points[0] == other.points[0]
+    }
+
     /// The displacement from this ring to another, or None if the other isn't this one, moved, or is kept in
     /// another way.
     pub(crate) fn displacement(&self, form: &Form<'_>) -> Option<Point>

@@ -1,24 +1,17 @@
 //! Comparison of shapes: the Layers as which they count, their figures and their shifts.
-ghost use Rattle.std.specs.Prelude.{◌≡◌, ◌<◌, length, IsTrue};
+ghost use Rattle.std.specs.Prelude.{◌≡◌, ◌<◌, ◌↔◌, length, IsTrue, IfSome};
+ghost use Rattle.lvl_grid.specs.declared.point.Square.{Square};
+ghost use Rattle.lvl_grid.specs.Clip.{IsInWindow};
+ghost use Rattle.lvl_grid.specs.Winding.{Covers, SomeCovers};
 ghost use Rattle.lvl_cells.specs.Cells.{shape_at};
 ghost use Rattle.lvl_changed.specs.inside.Figures.{AreAlike, HasAlike};
 
 use crate::shifts::{are_same, last_shift};
 use lvl_cells::{MovedRing, Shapes};
+use lvl_grid::{Point, Window};
+use lvl_simplify::window_of;
 use lvl_view::View;
-use std::alloc::{AllocError, Global};
-use std::cmp::Ordering;
 use std::hash::{FoldHasher, Hasher};
-
-/// The greatest number of shapes with one key that are tried for a shape.
-const MOST_TRIED: usize = 16;
-
-/// A shape, by its index, and its key.
-#[derive(Clone, Copy)]
-pub(crate) struct Keyed {
-    key: u64,
-    shape: usize,
-}
 
 /// The shapes of a cell, whose Layers count as those to which a view maps them.
 #[derive(Clone, Copy)]
@@ -27,18 +20,45 @@ pub(crate) struct Seen<'a> {
     pub view: &'a View,
 }
 
-/// Hashes the points of a ring.
+/// Hashes a ring: of four points its reach, so that a rectangle that is written from another corner has the same
+/// hash, else all points.
 fn hash_ring(hasher: &mut FoldHasher, ring: &MovedRing<'_>) {
+    if let (4, Some((low, high))) = (ring.len(), ring.reach()) {
+        hash_point(hasher, low);
+        hash_point(hasher, high);
+        return;
+    }
     for k in 0..ring.len() {
         if let Some(point) = ring.get(k) {
-            hasher.write_i64(point.x);
-            hasher.write_i64(point.y);
+            hash_point(hasher, point);
         }
     }
 }
 
+/// Hashes a point.
+fn hash_point(hasher: &mut FoldHasher, point: Point) {
+    hasher.write_i64(point.x);
+    hasher.write_i64(point.y);
+}
+
+/// The window of the squares that a ring covers, if it is a rectangle of four points.
+fn rectangle_of(ring: &MovedRing<'_>) -> Option<Window>
+    ensures { IfSome result (λ window. (s : Square) → Covers ring.now s ↔ IsInWindow window s) }
+{
+    let (Some(a), Some(b), Some(c), Some(d), None) = (
+        ring.get(0),
+        ring.get(1),
+        ring.get(2),
+        ring.get(3),
+        ring.get(4),
+    ) else {
+        return None;
+    };
+    window_of(&[a, b, c, d])
+}
+
 /// Whether both rings have the same points in the same order.
-fn are_same_rings(first: &MovedRing<'_>, second: &MovedRing<'_>) -> bool
+fn have_same_points(first: &MovedRing<'_>, second: &MovedRing<'_>) -> bool
     ensures { IsTrue result → first.now ≡ second.now }
 {
     if first.len() != second.len() {
@@ -55,11 +75,25 @@ fn are_same_rings(first: &MovedRing<'_>, second: &MovedRing<'_>) -> bool
     true
 }
 
-/// Whether shape `i` of the first and shape `j` of the second have the same figure.
+/// Whether both rings have the same points in the same order, or are the same rectangle.
+fn are_same_rings(first: &MovedRing<'_>, second: &MovedRing<'_>) -> bool
+    ensures { IsTrue result → (s : Square) → Covers first.now s ↔ Covers second.now s }
+{
+    if first.is_same(second) || have_same_points(first, second) {
+        return true;
+    }
+    match (rectangle_of(first), rectangle_of(second)) {
+        (Some(ours), Some(theirs)) => ours == theirs,
+        _ => false,
+    }
+}
+
+/// Whether the rings of shape `i` of the first and of shape `j` of the second are the same.
 fn are_same_figures(first: &Shapes, i: usize, second: &Shapes, j: usize) -> bool
     requires first { i < length first.now }
     requires second { j < length second.now }
-    ensures { IsTrue result → (shape_at first.now i).figure ≡ (shape_at second.now j).figure }
+    ensures { IsTrue result → (s : Square)
+        → SomeCovers (shape_at first.now i).figure s ↔ SomeCovers (shape_at second.now j).figure s }
 {
     if first.ring_count(i) != second.ring_count(j) {
         return false;
@@ -88,7 +122,7 @@ fn have_same_shifts(first: &Shapes, i: usize, second: &Shapes, j: usize) -> bool
 impl<'a> Seen<'a> {
     /// A number that shapes have in common that are the same, and few others have. Keys only guide
     /// the search, so they have no contracts.
-    fn key(&self, i: usize) -> u64
+    pub(crate) fn key(&self, i: usize) -> u64
         requires { i < length self.now.shapes.now }
     {
         let layer = self.view.target(self.shapes.layer(i));
@@ -105,33 +139,6 @@ impl<'a> Seen<'a> {
             hash_ring(&mut hasher, &self.shapes.ring(i, j));
         }
         hasher.finish()
-    }
-}
-
-/// The shapes in order of their keys.
-pub(crate) fn keys_of(alloc: Global, seen: Seen<'_>) -> Result<Vec<Keyed>, AllocError> {
-    let mut keys = Vec::with_capacity(alloc, seen.shapes.len())?;
-    for shape in 0..seen.shapes.len() {
-        let key = seen.key(shape);
-        keys.push(Keyed { key, shape })?;
-    }
-    keys.sort_unstable_by_key(|keyed| keyed.key);
-    Ok(keys)
-}
-
-/// Puts a key before another one, and not at the same place.
-fn side_of(keyed: &Keyed, key: u64) -> Ordering {
-    if keyed.key < key {
-        return Ordering::Less;
-    }
-    Ordering::Greater
-}
-
-/// The index of the first shape whose key isn't less than the given one.
-fn first_of(keys: &[Keyed], key: u64) -> usize {
-    match keys.binary_search_by(|keyed| side_of(keyed, key)) {
-        Ok(place) => place,
-        Err(place) => place,
     }
 }
 
@@ -156,23 +163,14 @@ fn are_same_shapes(first: Seen<'_>, i: usize, second: Seen<'_>, j: usize) -> boo
     have_same_shifts(first.shapes, i, second.shapes, j)
 }
 
-/// Whether the others have a shape that is the same as shape `i`. `keys` has the others in order of
-/// their keys, else `false` says nothing.
-pub(crate) fn has_shape(others: Seen<'_>, keys: &[Keyed], seen: Seen<'_>, i: usize) -> bool
+/// Whether the others have a shape that is the same as shape `i`, by the twin that shape `i` may have.
+pub(crate) fn has_shape(others: Seen<'_>, twin: Option<usize>, seen: Seen<'_>, i: usize) -> bool
     requires { i < length seen.shapes.now }
     ensures { IsTrue result → HasAlike seen.entry.view.now.pairs seen.entry.shapes.now i
         others.entry.view.now.pairs others.entry.shapes.now }
 {
-    let key = seen.key(i);
-    let start = first_of(keys, key);
-    for at in start..keys.len().min(start.saturating_add(MOST_TRIED)) {
-        let found = keys[at];
-        if found.key != key {
-            return false;
-        }
-        if are_same_shapes(seen, i, others, found.shape) {
-            return true;
-        }
+    match twin {
+        Some(j) => are_same_shapes(seen, i, others, j),
+        None => false,
     }
-    false
 }

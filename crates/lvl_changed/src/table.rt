@@ -28,7 +28,7 @@ struct Slot {
 /// The references of a cell, each in the slot of its key or soon after it. Of those that place the same
 /// there is one.
 #[derive(Drop)]
-struct Table {
+pub(crate) struct Table {
     slots: Vec<Slot>,
     /// Whether some reference has more than one place.
     has_arrays: bool,
@@ -61,7 +61,7 @@ fn part_of(key: u64) -> u32 {
 
 impl Table {
     /// An empty table with room for this number of references.
-    fn with_room(alloc: Global, count: usize) -> Result<Table, AllocError> {
+    pub(crate) fn with_room(alloc: Global, count: usize) -> Result<Table, AllocError> {
         let room = count.saturating_add(count / 2).saturating_add(MOST_TRIED);
         let slots = vec![in alloc; Slot { part: 0, next: 0 }; room]?;
         Ok(Table {
@@ -92,21 +92,20 @@ impl Table {
         None
     }
 
-    /// Puts a reference into the table, unless one with its key is in it.
-    fn put(&mut self, key: u64, reference: usize) {
-        let Ok(next) = u32::try_from(reference.saturating_add(1)) else {
-            return;
-        };
+    /// Puts a reference into the table, unless one with its key is in it, which is then returned.
+    pub(crate) fn put(&mut self, key: u64, reference: usize) -> Option<usize> {
+        let next = u32::try_from(reference.saturating_add(1)).unwrap_or(0);
         let part = part_of(key);
-        if let Some(at) = self.near(key) {
-            if self.slots[at].next == 0 {
-                self.slots[at] = Slot { part, next };
-            }
+        let at = self.near(key)?;
+        let before = self.slots[at].next;
+        if before == 0 {
+            self.slots[at] = Slot { part, next };
         }
+        (before as usize).checked_sub(1)
     }
 
     /// The reference that a key leads to, by its index.
-    fn find(&self, key: u64) -> Option<usize> {
+    pub(crate) fn find(&self, key: u64) -> Option<usize> {
         let at = self.near(key)?;
         let next = self.slots[at].next;
         (next as usize).checked_sub(1)

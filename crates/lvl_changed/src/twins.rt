@@ -1,0 +1,197 @@
+//! Twins: which shapes of two lists may be the same.
+//!
+//! They only guide a search, so they have no contracts: what they lead to is compared.
+ghost use Rattle.std.specs.Prelude.{◌<◌, length};
+
+use crate::figures::Seen;
+use crate::table::Table;
+use std::alloc::{AllocError, Global};
+use std::hash::{FoldHasher, Hasher};
+
+/// No shape.
+const NONE: u32 = u32::MAX;
+
+/// The number of shapes of the first list that are looked for in the second by a sample.
+const SAMPLED: u64 = 128;
+
+/// The number of bits that tell most keys from those of the sampled shapes.
+const BITS: u64 = 4096;
+
+/// What becomes of shapes that a list has more than once.
+#[derive(Clone, Copy, PartialEq, Eq)]
+pub(crate) enum Repeated {
+    /// All of them have one twin.
+    Paired,
+    /// They have no twins, and those of the other list that are the same have none either.
+    Alone,
+}
+
+/// For each shape of two lists, by index, the shape of the other list that may be the same.
+#[derive(Drop)]
+pub(crate) struct Twins {
+    pub ours: Vec<u32>,
+    pub theirs: Vec<u32>,
+}
+
+/// Shapes of two lists by their keys, while twins are looked for. A shape of the first list stands for all
+/// that have its key.
+#[derive(Drop)]
+struct Classes {
+    table: Table,
+    /// For each shape of the second list that is the first with its key, by the shape that stands for it.
+    found: Vec<u32>,
+    /// Whether one of the lists has more than one shape with the key.
+    are_repeated: Vec<bool>,
+}
+
+/// The number at an index, or `NONE`.
+fn at(list: &[u32], index: usize) -> u32 {
+    list.get(index).copied().unwrap_or(NONE)
+}
+
+/// The index in 32 bits, or `NONE`.
+fn word(index: usize) -> u32 {
+    u32::try_from(index).unwrap_or(NONE)
+}
+
+/// The twin of the shape at an index, if it has one.
+pub(crate) fn twin_at(twins: &[u32], index: usize) -> Option<usize> {
+    match at(twins, index) {
+        NONE => None,
+        twin => Some(twin as usize),
+    }
+}
+
+impl Classes {
+    fn new(alloc: Global, count: usize) -> Result<Classes, AllocError> {
+        Ok(Classes {
+            table: Table::with_room(alloc, count)?,
+            found: vec![in alloc; NONE; count]?,
+            are_repeated: vec![in alloc; false; count]?,
+        })
+    }
+
+    /// Notes that a list has more than one shape with the key of a shape of the first list.
+    fn repeat(&mut self, first: usize) {
+        if let Some(is_repeated) = self.are_repeated.get_mut(first) {
+            *is_repeated = true;
+        }
+    }
+
+    /// Adds a shape of the first list. Returns the one that stands for it.
+    fn add(&mut self, key: u64, shape: usize) -> u32 {
+        let Some(first) = self.table.put(key, shape) else {
+            return word(shape);
+        };
+        self.repeat(first);
+        word(first)
+    }
+
+    /// Adds a shape of the second list. Returns the one of the first list that stands for it.
+    fn join(&mut self, key: u64, shape: usize) -> u32 {
+        let Some(first) = self.table.find(key) else {
+            return NONE;
+        };
+        match self.found.get_mut(first) {
+            Some(found) if *found == NONE => *found = word(shape),
+            _ => self.repeat(first),
+        }
+        word(first)
+    }
+
+    /// Whether a shape of the first list stands for shapes that have twins.
+    fn has_twins(&self, first: u32, repeated: Repeated) -> bool {
+        let is_repeated = self.are_repeated.get(first as usize) == Some(&true);
+        first != NONE && (repeated == Repeated::Paired || !is_repeated)
+    }
+}
+
+/// The twins of the shapes of two lists.
+pub(crate) fn twins_of(
+    alloc: Global,
+    ours: Seen<'_>,
+    theirs: Seen<'_>,
+    repeated: Repeated,
+) -> Result<Twins, AllocError> {
+    let mut classes = Classes::new(alloc, ours.shapes.len())?;
+    let mut our_twins = Vec::with_capacity(alloc, ours.shapes.len())?;
+    for i in 0..ours.shapes.len() {
+        our_twins.push(classes.add(ours.key(i), i))?;
+    }
+    let mut their_twins = Vec::with_capacity(alloc, theirs.shapes.len())?;
+    for j in 0..theirs.shapes.len() {
+        their_twins.push(classes.join(theirs.key(j), j))?;
+    }
+    for twin in &mut our_twins {
+        let first = *twin;
+        *twin = if classes.has_twins(first, repeated) {
+            at(&classes.found, first as usize)
+        } else {
+            NONE
+        };
+    }
+    for twin in &mut their_twins {
+        if !classes.has_twins(*twin, repeated) {
+            *twin = NONE;
+        }
+    }
+    Ok(Twins {
+        ours: our_twins,
+        theirs: their_twins,
+    })
+}
+
+/// A number below `count` that looks like one at random, the same in each run.
+fn scattered(number: u64, count: usize) -> usize {
+    let mut hasher = FoldHasher::default();
+    hasher.write_u64(number);
+    let product = u128::from(hasher.finish()).saturating_mul(count as u128);
+    (product >> 64) as usize
+}
+
+/// The keys of some shapes, sorted.
+fn sampled_keys(alloc: Global, seen: Seen<'_>) -> Result<Vec<u64>, AllocError> {
+    let mut keys = Vec::new(alloc);
+    for number in 0..SAMPLED {
+        let shape = scattered(number, seen.shapes.len());
+        if shape < seen.shapes.len() {
+            keys.push(seen.key(shape))?;
+        }
+    }
+    keys.sort_unstable();
+    Ok(keys)
+}
+
+/// How many shapes have one of these keys, which are sorted.
+fn found_keys(alloc: Global, seen: Seen<'_>, keys: &[u64]) -> Result<usize, AllocError> {
+    let mut bits: Vec<bool> = vec![in alloc; false; BITS as usize]?;
+    for key in keys {
+        if let Some(bit) = bits.get_mut((*key % BITS) as usize) {
+            *bit = true;
+        }
+    }
+    let mut found: usize = 0;
+    for j in 0..seen.shapes.len() {
+        let key = seen.key(j);
+        if bits.get((key % BITS) as usize) == Some(&true) && keys.binary_search(&key).is_ok() {
+            found = found.saturating_add(1);
+        }
+    }
+    Ok(found)
+}
+
+/// Whether a sample says that the second list has half of the shapes of the first.
+pub(crate) fn have_many(
+    alloc: Global,
+    ours: Seen<'_>,
+    theirs: Seen<'_>,
+) -> Result<bool, AllocError> {
+    let keys = sampled_keys(alloc, ours)?;
+    let found = found_keys(alloc, theirs, &keys)?;
+    Ok(found as u64 >= SAMPLED / 2)
+}
+
+/// How many shapes of a list have no twin.
+pub(crate) fn count_alone(twins: &[u32]) -> usize {
+    twins.iter().filter(|twin| **twin == NONE).count()
+}
