@@ -113,8 +113,9 @@ alike_covers pairs others xs ys i j l s same m =
     let layer : h.layer ≡ m.source = m.covers.0 in
     let target : target_of others g.layer ≡ l =
     sym same.layer ∙ (ap (target_of pairs) layer ∙ m.is_target) in
+    let at = m.covers.1 in
     let figure : Any (λ e. SomeCovers g.figure (moved_back e s)) h.shifts =
-    subst (λ (f : Rings). Any (λ e. SomeCovers f (moved_back e s)) h.shifts) same.figure m.covers.1 in
+    (at.0, at.1, at.2, at.3, (same.figure (moved_back at.1 s)).0 at.4) in
     let shifts : Any (λ e. SomeCovers g.figure (moved_back e s)) g.shifts =
     subst (λ (es : List Point). Any (λ e. SomeCovers g.figure (moved_back e s)) es) same.shifts figure in
     record {
@@ -131,6 +132,20 @@ alike_covers pairs others xs ys i j l s same m =
             }) same.within,
           ) (refl, shifts);
     }
+
+-- figures that cover the same up to an index, with one more ring
+pub figures_more : (xs ys : Rings) (k : ℕ) → k < length xs → k < length ys
+    → ((s : Square) → SomeCovers (take k xs) s ↔ SomeCovers (take k ys) s)
+    → ((s : Square) → Covers (get_or xs k []) s ↔ Covers (get_or ys k []) s) → (s : Square)
+    → SomeCovers (take (k + 1) xs) s ↔ SomeCovers (take (k + 1) ys) s
+figures_more xs ys k here there before one s =
+    let P : List Point → Type 0 = λ r. Covers r s in
+    let a = Any-push P (take k xs) (get_or xs k []) in
+    let b = Any-push P (take k ys) (get_or ys k []) in
+    rw (take_more xs k [] here, take_more ys k [] there) (
+      λ c. b.1 (elim (a.0 c) [ inl d ↦ inl ((before s).0 d) | inr d ↦ inr ((one s).0 d) ]),
+      λ c. a.1 (elim (b.0 c) [ inl d ↦ inl ((before s).1 d) | inr d ↦ inr ((one s).1 d) ]),
+    )
 
 -- no shapes are left of none
 pub left_none : (pairs others : List LayerPair) (ys : List (PlainShape Rings)) → AreLeft pairs [] others ys []
@@ -175,25 +190,33 @@ left_more pairs others xs ys old new i low adds before = record {
   ];
 }
 
--- if what is left covers the same outside of an area, the shapes do
-pub left_alike : (none pairs : List LayerPair) (xs ys left other : List (PlainShape Rings)) (w : Area) → none ≡ []
-    → AreLeft none xs pairs ys left → AreLeft pairs ys none xs other
-    → AlikeOutside w (ShapesCover left) (IsMoved pairs (ShapesCover other))
-    → AlikeOutside w (ShapesCover xs) (IsMoved pairs (ShapesCover ys))
-left_alike none pairs xs ys left other w is first second same l s out = (
+-- where what is left covers the same, the shapes do
+pub left_alike_at : (none pairs : List LayerPair) (xs ys left other : List (PlainShape Rings)) → none ≡ []
+    → AreLeft none xs pairs ys left → AreLeft pairs ys none xs other → (l : Layer) (s : Square)
+    → ShapesCover left l s ↔ IsMoved pairs (ShapesCover other) l s
+    → ShapesCover xs l s ↔ IsMoved pairs (ShapesCover ys) l s
+left_alike_at none pairs xs ys left other is first second l s same = (
   λ c.
       elim (first.held l s ((moved_none none is (ShapesCover xs) l s).1 c)) [
         | inl m ↦
-            let n = (same l s out).0 ((moved_none none is (ShapesCover left) l s).0 m) in
+            let n = same.0 ((moved_none none is (ShapesCover left) l s).0 m) in
             record { source = n.source; is_target = n.is_target; covers = second.inside n.source s n.covers }
         | inr m ↦ m
       ],
   λ m.
       elim (second.held l s m) [
-        | inl n ↦ first.inside l s ((same l s out).1 n)
+        | inl n ↦ first.inside l s (same.1 n)
         | inr n ↦ (moved_none none is (ShapesCover xs) l s).0 n
       ],
 )
+
+-- if what is left covers the same outside of an area, the shapes do
+pub left_alike : (none pairs : List LayerPair) (xs ys left other : List (PlainShape Rings)) (w : Area) → none ≡ []
+    → AreLeft none xs pairs ys left → AreLeft pairs ys none xs other
+    → AlikeOutside w (ShapesCover left) (IsMoved pairs (ShapesCover other))
+    → AlikeOutside w (ShapesCover xs) (IsMoved pairs (ShapesCover ys))
+left_alike none pairs xs ys left other w is first second same l s out =
+    left_alike_at none pairs xs ys left other is first second l s (same l s out)
 
 -- if neither covers anything outside of an area
 pub none_alike : (none pairs : List LayerPair) (xs ys : List (PlainShape Rings)) (old w : Area) → none ≡ []

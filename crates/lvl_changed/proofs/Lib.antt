@@ -20,6 +20,7 @@ pub mod Missing
 pub mod Boxing
 pub mod Unchanged
 pub mod Leaving
+pub mod Resting
 pub mod Tops
 pub mod Rowing
 pub mod Apart

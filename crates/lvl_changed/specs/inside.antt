@@ -12,3 +12,4 @@ pub mod Drawing
 pub mod Rows
 pub mod InStep
 pub mod Alone
+pub mod Rests

@@ -10,6 +10,7 @@ ghost use Rattle.lvl_changed.specs.Changed.{DrawSameBut};
 use crate::cells::changed;
 use crate::changes::{Changes, difference_among};
 use crate::pays::pays_by_cells;
+use crate::rests::{Known, known_by_rests};
 use lvl_compare::{Pair, difference_by_strips};
 use lvl_flat::Fitted;
 use lvl_grid::{Square, Window};
@@ -91,7 +92,11 @@ pub fn difference_by_changes(
         view,
     };
     let Some(changes) = changes_to_compare(alloc, &pair)? else {
-        return difference_by_strips(alloc, first, second, view, most);
+        return match known_by_rests(alloc, &pair, most) {
+            Ok(Known::Same) => Ok(None),
+            Ok(Known::Differ(layer, square, side)) => Ok(Some((layer, square, side))),
+            Ok(Known::Nothing) | Err(_) => difference_by_strips(alloc, first, second, view, most),
+        };
     };
     difference_among(alloc, &pair, &changes, most)
 }

@@ -1,5 +1,5 @@
 //! The shapes of a cell that another doesn't have.
-ghost use Rattle.std.specs.Prelude.{◌≡◌, ◌<◌, ◌↔◌, ◌⊎◌, length, IfOk, OnOk};
+ghost use Rattle.std.specs.Prelude.{◌≡◌, ◌<◌, ◌↔◌, ◌⊎◌, [], length, IfOk, OnOk};
 ghost use Rattle.lvl_grid.specs.declared.point.Square.{Square};
 ghost use Rattle.lvl_grid.specs.Winding.{SomeCovers};
 ghost use Rattle.lvl_names.specs.declared.layer.Layer.{Layer};
@@ -8,7 +8,8 @@ ghost use Rattle.lvl_cells.specs.Coverage.{ShapeCovers};
 ghost use Rattle.lvl_changed.specs.inside.Figures.{AreLeft};
 ghost use Rattle.lvl_changed.specs.inside.Shapes.{ShapesCover};
 
-use crate::figures::{Seen, has_shape, keys_of};
+use crate::figures::{Seen, has_shape};
+use crate::twins::twin_at;
 use lvl_cells::{Cell, References, Shapes};
 use lvl_names::Offsets;
 use lvl_view::View;
@@ -47,14 +48,15 @@ fn push_left(alloc: Global, left: &mut Shapes, shapes: &Shapes, i: usize) -> Res
     }
 }
 
-/// Those of the shapes that the others don't have. The Layers of both count as those to which their
-/// views map them.
+/// Those of the shapes that the others don't have, given which of these each may be the same as. The Layers of
+/// both count as those to which their views map them.
 fn alone(
     alloc: Global,
     shapes: &Shapes,
     view: &View,
     others: &Shapes,
     other_view: &View,
+    twins: &[u32],
 ) -> Result<Shapes, AllocError>
     ensures { IfOk result (λ left. AreLeft view.now.pairs shapes.now other_view.now.pairs others.now left) }
 {
@@ -63,29 +65,30 @@ fn alone(
         shapes: others,
         view: other_view,
     };
-    let keys = keys_of(alloc, there)?;
     let mut left = Shapes::new(alloc);
     for i in 0..shapes.len() {
-        if !has_shape(there, &keys, seen, i) {
+        if !has_shape(there, twin_at(twins, i), seen, i) {
             push_left(alloc, &mut left, shapes, i)?;
         }
     }
     Ok(left)
 }
 
-/// A cell without references whose shapes are those of a cell that the other cell doesn't have. The
-/// Layers of each cell count as those to which its view maps them.
+/// A cell without references whose shapes are those of a cell that the other cell doesn't have, given which shape
+/// of the other cell each may be the same as. The Layers of each cell count as those to which its view maps them.
 pub(crate) fn left_of(
     alloc: Global,
     cell: &Cell,
     view: &View,
     other: &Cell,
     other_view: &View,
+    twins: &[u32],
 ) -> Result<Cell, AllocError>
-    ensures { IfOk result (λ left. AreLeft view.now.pairs cell.now.shapes other_view.now.pairs other.now.shapes
+    ensures left { IfOk result (λ left. AreLeft view.now.pairs cell.now.shapes other_view.now.pairs other.now.shapes
         left.shapes) }
+    ensures alone { IfOk result (λ left. left.references ≡ []) }
 {
-    let shapes = alone(alloc, &cell.shapes, view, &other.shapes, other_view)?;
+    let shapes = alone(alloc, &cell.shapes, view, &other.shapes, other_view, twins)?;
     let name = cell.name.clone()?;
     let references = References::new(alloc);
     Ok(Cell {

@@ -13,10 +13,12 @@ ghost use Rattle.lvl_changed.specs.inside.Areas.{AlikeOutside, Grows, IsIn};
 ghost use Rattle.lvl_changed.specs.inside.Shapes.{ShapesCover, FlatCovers, HasMoved};
 
 use crate::area::Area;
+use crate::figures::Seen;
 use crate::left::left_of;
 use crate::pays::rings_of;
 use crate::rings::hold_rings;
 use crate::shifts::moved;
+use crate::twins::{Repeated, twins_of};
 use crate::windows::between;
 use lvl_cells::{Cell, MovedRing, Shapes};
 use lvl_compare::{lesser, past};
@@ -156,8 +158,17 @@ pub(crate) fn hold_shapes(
     ensures kept { OnOk result (Grows area.old area.new) }
 {
     let whole = View::whole(alloc);
-    let left = left_of(alloc, ours, &whole, theirs, view)?;
-    let their_left = left_of(alloc, theirs, view, ours, &whole)?;
+    let our_shapes = Seen {
+        shapes: &ours.shapes,
+        view: &whole,
+    };
+    let their_shapes = Seen {
+        shapes: &theirs.shapes,
+        view,
+    };
+    let twins = twins_of(alloc, our_shapes, their_shapes, Repeated::Paired)?;
+    let left = left_of(alloc, ours, &whole, theirs, view, &twins.ours)?;
+    let their_left = left_of(alloc, theirs, view, ours, &whole, &twins.theirs)?;
     if rings_of(&left).saturating_add(rings_of(&their_left)) <= MOST_FLATTENED {
         hold_flattened(area, alloc, &left, &their_left, view)?;
         return Ok(());

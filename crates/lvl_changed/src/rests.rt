@@ -1,0 +1,181 @@
+//! Comparison of two flat layouts without the shapes that both have.
+//!
+//! Where what is left of both draws the same, so do both. A square that only one of both draws is one that only
+//! what is left of it draws, so the first difference of what is left is that of both, unless a shape that both have
+//! covers its square.
+ghost use Rattle.std.specs.Prelude.{◌≡◌, ◌↔◌, [], slice_get, Ok, Some, IfOk, IfSome};
+ghost use Rattle.lvl_grid.specs.declared.point.Square.{Square as GridSquare};
+ghost use Rattle.lvl_names.specs.declared.layer.Layer.{Layer as PlainLayer};
+ghost use Rattle.lvl_columns.specs.Windows.{IsShown};
+ghost use Rattle.lvl_flat.specs.Flattened.{TopCovers};
+ghost use Rattle.lvl_region.specs.declared.region.Side.{Side as WhichSide};
+ghost use Rattle.lvl_region.specs.Region.{IsAlone};
+ghost use Rattle.lvl_view.specs.Moved.{IsMoved};
+ghost use Rattle.lvl_compare.specs.Pairs.{ours, theirs};
+ghost use Rattle.lvl_compare.specs.Tops.{DrawSame, IsFirstDifference};
+ghost use Rattle.lvl_changed.specs.inside.Shapes.{ShapesCover};
+ghost use Rattle.lvl_changed.specs.inside.Rests.{AreSameWhere};
+ghost use Rattle.lvl_changed.specs.declared.rests.Known.TheVariants.{Same, Differ};
+
+use crate::figures::Seen;
+use crate::left::left_of;
+use crate::twins::{Repeated, Twins, count_alone, have_many, twins_of};
+use lvl_cells::{Cell, Library, check_or_return};
+use lvl_compare::{Pair, difference_by_strips, difference_in_windows};
+use lvl_flat::Fitted;
+use lvl_grid::{Square, Window};
+use lvl_names::Layer;
+use lvl_profile::Limits;
+use lvl_refusal::Cause;
+use lvl_region::Side;
+use lvl_view::View;
+use std::alloc::{AllocError, Global};
+use std::slice;
+
+/// The least number of shapes of both layouts for which it pays to leave some out.
+const FEWEST: usize = 65_536;
+
+/// What is known of two layouts by what is left of them.
+#[derive(Clone, Copy)]
+pub(crate) enum Known {
+    /// Nothing.
+    Nothing,
+    /// Both draw the same.
+    Same,
+    /// The first square that only one of them draws.
+    Differ(Layer, Square, Side),
+}
+
+/// The top of a library.
+fn top_of(library: &Fitted) -> &Cell
+    ensures { slice_get library.now.cells library.now.top ≡ Some result.now }
+{
+    let checked = library.checked();
+    checked.cell(checked.top())
+}
+
+/// A layout that draws what a cell without references does. None if it isn't accepted.
+fn layout_of(alloc: Global, cell: Cell) -> Result<Option<Fitted>, AllocError>
+    requires { cell.references ≡ [] }
+    ensures { IfOk result (λ found. IfSome found (λ fitted. (layer : PlainLayer) (s : GridSquare)
+        → TopCovers fitted layer s ↔ ShapesCover cell.shapes layer s)) }
+{
+    let mut cells = Vec::with_capacity(alloc, 1)?;
+    cells.push_reserved(cell);
+    let library = Library { cells };
+    let checked = match check_or_return(alloc, library, None, Limits::LARGE) {
+        Ok(checked) => checked,
+        Err(Cause::Breach(_)) => return Ok(None),
+        Err(Cause::OutOfMemory) => return Err(AllocError),
+    };
+    match Fitted::new(alloc, checked) {
+        Ok(fitted) => Ok(Some(fitted)),
+        Err(Cause::Breach(_)) => Ok(None),
+        Err(Cause::OutOfMemory) => Err(AllocError),
+    }
+}
+
+/// Which shapes of two tops may be the same, or None if they have few in common, or references, or are small.
+fn many_twins(
+    alloc: Global,
+    ours: Seen<'_>,
+    theirs: Seen<'_>,
+) -> Result<Option<Twins>, AllocError> {
+    let all = ours.shapes.len().saturating_add(theirs.shapes.len());
+    if all < FEWEST || !have_many(alloc, ours, theirs)? {
+        return Ok(None);
+    }
+    let twins = twins_of(alloc, ours, theirs, Repeated::Alone)?;
+    let left = count_alone(&twins.ours).saturating_add(count_alone(&twins.theirs));
+    if left > all / 8 * 3 {
+        return Ok(None);
+    }
+    Ok(Some(twins))
+}
+
+/// What is left of two layouts whose tops have no references, without the shapes that both have. None if there are
+/// few of these, or if what is left isn't accepted as a layout.
+fn rests_of(alloc: Global, pair: &Pair<'_>) -> Result<Option<(Fitted, Fitted)>, AllocError>
+    ensures { IfOk result (λ found. IfSome found (λ rests. AreSameWhere (ours pair.now) (theirs pair.now)
+        (TopCovers rests.0) (IsMoved pair.now.view.now.pairs (TopCovers rests.1)))) }
+{
+    let (first, second) = (top_of(pair.first), top_of(pair.second));
+    if !first.references.is_empty() || !second.references.is_empty() {
+        return Ok(None);
+    }
+    let whole = View::whole(alloc);
+    let our_shapes = Seen {
+        shapes: &first.shapes,
+        view: &whole,
+    };
+    let their_shapes = Seen {
+        shapes: &second.shapes,
+        view: pair.view,
+    };
+    let Some(Twins { ours, theirs }) = many_twins(alloc, our_shapes, their_shapes)? else {
+        return Ok(None);
+    };
+    let left = left_of(alloc, first, &whole, second, pair.view, &ours)?;
+    let their_left = left_of(alloc, second, pair.view, first, &whole, &theirs)?;
+    let Some(rest) = layout_of(alloc, left)? else {
+        return Ok(None);
+    };
+    let Some(their_rest) = layout_of(alloc, their_left)? else {
+        return Ok(None);
+    };
+    Ok(Some((rest, their_rest)))
+}
+
+/// The side that alone draws a square on a Layer, if that is the first difference of the layouts at this square.
+fn side_at(
+    alloc: Global,
+    pair: &Pair<'_>,
+    layer: Layer,
+    square: Square,
+) -> Result<Option<Side>, AllocError>
+    ensures { IfOk result (λ found. IfSome found
+        (λ side. IsAlone (ours pair.now layer) (theirs pair.now layer) square side)) }
+{
+    let Pair {
+        first,
+        second,
+        view,
+    } = *pair;
+    let window = Window {
+        x0: square.x,
+        y0: square.y,
+        x1: square.x.saturating_add(1),
+        y1: square.y.saturating_add(1),
+    };
+    let windows = slice::from_ref(&window);
+    let found = difference_in_windows(alloc, first, second, view, windows, usize::MAX)?;
+    match found {
+        Some((on, at, side)) if on == layer && at == square => Ok(Some(side)),
+        _ => Ok(None),
+    }
+}
+
+/// What is known of two layouts whose tops have no references, by what is left of them without the shapes that both
+/// have. With `most` points in a strip, and fewer where much was left out, since strips grow with what is compared.
+pub(crate) fn known_by_rests(
+    alloc: Global,
+    pair: &Pair<'_>,
+    most: usize,
+) -> Result<Known, AllocError>
+    ensures same { result ≡ Ok Same → DrawSame (IsShown pair.now.view.now.window) (ours pair.now) (theirs pair.now) }
+    ensures differ { (layer : PlainLayer) (square : GridSquare) (side : WhichSide)
+        → result ≡ Ok (Differ layer square side)
+        → IsFirstDifference (IsShown pair.now.view.now.window) (ours pair.now) (theirs pair.now) layer square side }
+{
+    let Some((rest, their_rest)) = rests_of(alloc, pair)? else {
+        return Ok(Known::Nothing);
+    };
+    let Some((layer, square, _)) = difference_by_strips(alloc, &rest, &their_rest, pair.view, most)?
+    else {
+        return Ok(Known::Same);
+    };
+    match side_at(alloc, pair, layer, square)? {
+        Some(side) => Ok(Known::Differ(layer, square, side)),
+        None => Ok(Known::Nothing),
+    }
+}
