@@ -1,6 +1,8 @@
 -- Lists, one element further.
 use Rattle.std.proofs.Common.{◌≡◌, ◌+◌, ◌++◌, ◌∷◌, [], ℕ, List, Option, Some, None, take, slice_get, sym, ap, ◌∙◌, subst}
-use Rattle.std.proofs.Common.{◌≢◌, ◌<◌, ◌⊎◌, inl, inr, Contains, get_or, set, length, refl, arith}
+use Rattle.std.proofs.Common.{◌≢◌, ◌<◌, ◌⊎◌, inl, inr, Contains, get_or, set, length, refl, arith, ℤ}
+use Rattle.lvl_grid.specs.declared.point.Window.{Window}
+use Rattle.lvl_names.specs.declared.layer.Layer.{Layer}
 use Rattle.std.proofs.lemmas.Bool.{cases_lt}
 use Rattle.std.proofs.lemmas.List.{length-set, get_or-set_same, get_or-set_other}
 use Rattle.std.specs.Prelude.{IfSome}
@@ -46,3 +48,26 @@ set_keeps xs i y x c =
                 inl (subst (λ j. x ≡ get_or xs j x) one (sym c.2))
           ]
     ]
+
+-- a list of four values, by its values
+pub four_of : {X : Type 0} (xs : List X) (a b c d : X) → slice_get xs 0 ≡ Some a → slice_get xs 1 ≡ Some b
+    → slice_get xs 2 ≡ Some c → slice_get xs 3 ≡ Some d → slice_get xs 4 ≡ None → xs ≡ a ∷ b ∷ c ∷ d ∷ []
+four_of [] a b c d p q r s n = cc
+four_of (x ∷ []) a b c d p q r s n = cc
+four_of (x ∷ y ∷ []) a b c d p q r s n = cc
+four_of (x ∷ y ∷ z ∷ []) a b c d p q r s n = cc
+four_of (x ∷ y ∷ z ∷ w ∷ []) a b c d p q r s n = cc
+four_of (x ∷ y ∷ z ∷ w ∷ v ∷ xs) a b c d p q r s n = cc
+
+-- windows with the same sides
+pub same_window : (v w : Window) → v.x0 ≡ w.x0 → v.y0 ≡ w.y0 → v.x1 ≡ w.x1 → v.y1 ≡ w.y1 → v ≡ w
+same_window v w a b c d =
+    let at : (p q r s : ℤ) → Window = λ p q r s. record { x0 = p; y0 = q; x1 = r; y1 = s } in
+    ap (λ z. at z v.y0 v.x1 v.y1) a ∙ (ap (λ z. at w.x0 z v.x1 v.y1) b ∙ (ap (λ z. at w.x0 w.y0 z v.y1) c
+    ∙ ap (λ z. at w.x0 w.y0 w.x1 z) d))
+
+-- Layers with the same numbers
+pub same_layer : (k l : Layer) → k.layer ≡ l.layer → k.datatype ≡ l.datatype → k ≡ l
+same_layer k l a b =
+    let at : (m n : ℕ) → Layer = λ m n. record { layer = m; datatype = n } in
+    ap (λ m. at m k.datatype) a ∙ ap (at l.layer) b

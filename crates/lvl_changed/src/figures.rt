@@ -79,7 +79,7 @@ fn have_same_points(first: &MovedRing<'_>, second: &MovedRing<'_>) -> bool
 fn are_same_rings(first: &MovedRing<'_>, second: &MovedRing<'_>) -> bool
     ensures { IsTrue result → (s : Square) → Covers first.now s ↔ Covers second.now s }
 {
-    if first.is_same(second) || have_same_points(first, second) {
+    if first.is_same_rectangle(second) || have_same_points(first, second) {
         return true;
     }
     match (rectangle_of(first), rectangle_of(second)) {

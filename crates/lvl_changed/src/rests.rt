@@ -155,8 +155,22 @@ fn side_at(
     }
 }
 
+/// The number of own shapes of the tops of two layouts.
+fn shapes_of(first: &Fitted, second: &Fitted) -> usize {
+    let ours = top_of(first).shapes.len();
+    ours.saturating_add(top_of(second).shapes.len())
+}
+
+/// The number of points that a side of what is left may have in a strip, where `most` were given for all: less by
+/// one for every four shapes that were left out, since so much takes what is left beside them. At least a quarter.
+fn most_of_rests(pair: &Pair<'_>, rest: &Fitted, their_rest: &Fitted, most: usize) -> usize {
+    let all = shapes_of(pair.first, pair.second);
+    let left_out = all.saturating_sub(shapes_of(rest, their_rest));
+    most.saturating_sub(left_out / 4).max(most / 4)
+}
+
 /// What is known of two layouts whose tops have no references, by what is left of them without the shapes that both
-/// have. With `most` points in a strip, and fewer where much was left out, since strips grow with what is compared.
+/// have.
 pub(crate) fn known_by_rests(
     alloc: Global,
     pair: &Pair<'_>,
@@ -170,6 +184,7 @@ pub(crate) fn known_by_rests(
     let Some((rest, their_rest)) = rests_of(alloc, pair)? else {
         return Ok(Known::Nothing);
     };
+    let most = most_of_rests(pair, &rest, &their_rest, most);
     let Some((layer, square, _)) = difference_by_strips(alloc, &rest, &their_rest, pair.view, most)?
     else {
         return Ok(Known::Same);

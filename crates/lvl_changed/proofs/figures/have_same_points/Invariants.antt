@@ -1,5 +1,5 @@
 use Rattle.std.proofs.Common.{◌≡◌, take}
-use Rattle.lvl_changed.proofs.figures.are_same_rings.Given as goal
+use Rattle.lvl_changed.proofs.figures.have_same_points.Given as goal
 
 -- the points so far are the same
 abbrev pub invariant-loop-k : goal.invariant-loop-k
