@@ -1,6 +1,7 @@
 -- Lists, one element further.
 use Rattle.std.proofs.Common.{◌≡◌, ◌+◌, ◌++◌, ◌∷◌, [], ℕ, List, Option, Some, None, take, slice_get, sym, ap, ◌∙◌, subst}
 use Rattle.std.proofs.Common.{◌≢◌, ◌<◌, ◌⊎◌, inl, inr, Contains, get_or, set, length, refl, arith, ℤ}
+use Rattle.lvl_grid.specs.declared.point.Square.{Square}
 use Rattle.lvl_grid.specs.declared.point.Window.{Window}
 use Rattle.lvl_names.specs.declared.layer.Layer.{Layer}
 use Rattle.std.proofs.lemmas.Bool.{cases_lt}
@@ -71,3 +72,9 @@ pub same_layer : (k l : Layer) → k.layer ≡ l.layer → k.datatype ≡ l.data
 same_layer k l a b =
     let at : (m n : ℕ) → Layer = λ m n. record { layer = m; datatype = n } in
     ap (λ m. at m k.datatype) a ∙ ap (at l.layer) b
+
+-- squares with the same coordinates
+pub same_square : (p q : Square) → p.x ≡ q.x → p.y ≡ q.y → p ≡ q
+same_square p q a b =
+    let at : (m n : ℤ) → Square = λ m n. record { x = m; y = n } in
+    ap (λ m. at m p.y) a ∙ ap (at q.x) b

@@ -1,5 +1,5 @@
 -- Layouts without references, and what is left of two of them.
-use Rattle.std.proofs.Common.{◌≡◌, ◌↔◌, ℕ, List, [], Some, slice_get, inl, inr, sym, ap, subst}
+use Rattle.std.proofs.Common.{◌≡◌, ◌↔◌, ◌∷◌, ℕ, zero, suc, List, [], Some, slice_get, inl, inr, refl, sym, ap, subst}
 use Rattle.lvl_grid.specs.declared.point.Square.{Square}
 use Rattle.lvl_grid.proofs.Anyone.{Any-nil}
 use Rattle.lvl_names.specs.declared.layer.Layer.{Layer}
@@ -18,6 +18,11 @@ use Rattle.lvl_changed.specs.inside.Shapes.{ShapesCover}
 use Rattle.lvl_changed.proofs.Leaving.{left_alike_at}
 use Rattle.lvl_changed.proofs.Moving.{covers_both, moved_more}
 
+-- a value at an index of a list of one value is this one
+only : (c d : PlainCell Rings) (i : ℕ) → slice_get (c ∷ []) i ≡ Some d → slice_get (c ∷ []) i ≡ Some c
+only c d zero at = refl
+only c d (suc i) at = cc
+
 -- no references cover nothing
 no_references : (cells : List (PlainCell Rings)) (rs : List PlainReference) (l : Layer) (s : Square) → rs ≡ []
     → ReferencesCover cells rs l s → ⊥
@@ -35,6 +40,11 @@ flat_covers x c at none l s =
       ],
       λ h. both.1 (inl h),
     )
+
+-- the top of the only cell is this cell
+pub top_of_one : (x : Settled) (c d : PlainCell Rings) → x.cells ≡ c ∷ [] → slice_get x.cells x.top ≡ Some d
+    → slice_get x.cells x.top ≡ Some c
+top_of_one x c d one at = rw one (only c d x.top (rw one at at))
 
 -- what is left of two flat layouts says where these are the same
 pub rests_same : (none pairs : List LayerPair) (first second x y : Settled) (c d : PlainCell Rings)

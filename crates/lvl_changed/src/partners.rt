@@ -6,13 +6,20 @@ ghost use Rattle.std.specs.Prelude.{◌<◌, length, IfSome};
 
 use crate::arrays::array_of;
 use crate::in_step::reference_count;
-use crate::placed::{Placed, placed_of};
+use crate::placed::Placed;
 use crate::spots::{AtSpot, skip_to_spot, sort_by_spot};
+use crate::table::key_of;
 use lvl_cells::{Checked, index_of};
 use lvl_flat::Fitted;
 use lvl_refusal::Cause;
 use std::alloc::{AllocError, Global};
 use std::collections::BTreeMap;
+
+/// Of the spots of more references of two cells than these, only some are looked at.
+const FEW: usize = 262_144;
+
+/// About how many spots of a cell are looked at at least.
+const SELDOM: u64 = 8;
 
 /// The cells of two libraries, while they are matched.
 #[derive(Drop)]
@@ -72,6 +79,39 @@ fn look_alike(first: &Fitted, ours: usize, second: &Fitted, theirs: usize) -> bo
     a.shapes.len() == b.shapes.len()
         && a.references.len() == b.references.len()
         && first.extent_of(ours) == second.extent_of(theirs)
+}
+
+/// Of how many spots one is looked at where two cells together have so many references.
+fn share_of_all(references: usize) -> u64 {
+    (references / FEW).saturating_add(1) as u64
+}
+
+/// Of how many spots one is looked at at which a cell is placed: a power of two, so that where it isn't the same for
+/// two cells, one looks at all spots at which the other does. Of a cell that is placed seldom, all are.
+fn share_of(times: u64, most: u64) -> u64 {
+    let share = most.min(times / SELDOM).max(1);
+    share.checked_next_power_of_two().unwrap_or(1)
+}
+
+/// What a cell places, at all spots, or at some if most cells are placed often.
+fn some_placed(
+    alloc: Global,
+    checked: &Checked,
+    cell: usize,
+    most: u64,
+) -> Result<Placed, AllocError>
+    requires { cell < length checked.now.cells }
+{
+    let mut placed = Placed::none(alloc);
+    for j in 0..reference_count(checked, cell) {
+        let array = array_of(checked, cell, j)?;
+        let times = checked.times().get(array.cell).copied().unwrap_or(0);
+        let share = share_of(times, most);
+        if key_of(0, &array).checked_rem(share) == Some(0) {
+            placed.push(array)?;
+        }
+    }
+    Ok(placed)
 }
 
 impl<'a> Matching<'a> {
@@ -231,8 +271,10 @@ impl<'a> Matching<'a> {
             self.propose_in_step(ours, theirs, Round::Shared)?;
             return Ok(());
         }
-        let mut placed = placed_of(alloc, first, ours)?;
-        let mut others = placed_of(alloc, second, theirs)?;
+        let references = reference_count(first, ours);
+        let most = share_of_all(references.saturating_add(reference_count(second, theirs)));
+        let mut placed = some_placed(alloc, first, ours, most)?;
+        let mut others = some_placed(alloc, second, theirs, most)?;
         sort_by_spot(&mut placed.singles, first);
         sort_by_spot(&mut others.singles, second);
         sort_by_spot(&mut placed.arrays, first);

@@ -3,19 +3,16 @@
 //! Where what is left of both draws the same, so do both. A square that only one of both draws is one that only
 //! what is left of it draws, so the first difference of what is left is that of both, unless a shape that both have
 //! covers its square.
-ghost use Rattle.std.specs.Prelude.{◌≡◌, ◌↔◌, [], slice_get, Ok, Some, IfOk, IfSome};
+ghost use Rattle.std.specs.Prelude.{◌≡◌, ◌↔◌, [], slice_get, Some, IfOk, IfSome};
 ghost use Rattle.lvl_grid.specs.declared.point.Square.{Square as GridSquare};
 ghost use Rattle.lvl_names.specs.declared.layer.Layer.{Layer as PlainLayer};
 ghost use Rattle.lvl_columns.specs.Windows.{IsShown};
 ghost use Rattle.lvl_flat.specs.Flattened.{TopCovers};
-ghost use Rattle.lvl_region.specs.declared.region.Side.{Side as WhichSide};
 ghost use Rattle.lvl_region.specs.Region.{IsAlone};
 ghost use Rattle.lvl_view.specs.Moved.{IsMoved};
 ghost use Rattle.lvl_compare.specs.Pairs.{ours, theirs};
-ghost use Rattle.lvl_compare.specs.Tops.{DrawSame, IsFirstDifference};
 ghost use Rattle.lvl_changed.specs.inside.Shapes.{ShapesCover};
-ghost use Rattle.lvl_changed.specs.inside.Rests.{AreSameWhere};
-ghost use Rattle.lvl_changed.specs.declared.rests.Known.TheVariants.{Same, Differ};
+ghost use Rattle.lvl_changed.specs.inside.Rests.{AreSameWhere, IsKnown};
 
 use crate::figures::Seen;
 use crate::left::left_of;
@@ -176,10 +173,7 @@ pub(crate) fn known_by_rests(
     pair: &Pair<'_>,
     most: usize,
 ) -> Result<Known, AllocError>
-    ensures same { result ≡ Ok Same → DrawSame (IsShown pair.now.view.now.window) (ours pair.now) (theirs pair.now) }
-    ensures differ { (layer : PlainLayer) (square : GridSquare) (side : WhichSide)
-        → result ≡ Ok (Differ layer square side)
-        → IsFirstDifference (IsShown pair.now.view.now.window) (ours pair.now) (theirs pair.now) layer square side }
+    ensures { IfOk result (IsKnown (IsShown pair.now.view.now.window) (ours pair.now) (theirs pair.now)) }
 {
     let Some((rest, their_rest)) = rests_of(alloc, pair)? else {
         return Ok(Known::Nothing);

@@ -27,5 +27,11 @@ returns c = λ t s.
     (take_all c.loop-k.k xs (omega (arith, c.loop-k-test.false, c.ring_count-k-end.ensures)))
     (subst (λ (rs : Rings). SomeCovers (take c.loop-k.k xs) s ↔ SomeCovers rs s)
     (take_all c.loop-k.k ys
-    (omega (arith, c.loop-k-test.false, c.ring_count-k-end.ensures, c.if-ring_count.false, c.ring_count.ensures,
-    c.ring_count-2.ensures))) (c.loop-k.invariant s))
+    (omega (
+      arith,
+      c.loop-k-test.false,
+      c.ring_count-k-end.ensures,
+      c.if-ring_count.false,
+      c.ring_count.ensures,
+      c.ring_count-2.ensures,
+    ))) (c.loop-k.invariant s))

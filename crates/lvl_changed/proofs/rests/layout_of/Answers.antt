@@ -1,0 +1,22 @@
+use Rattle.std.proofs.Common.{◌≡◌, ◌↔◌, ◌++◌, ◌∷◌, [], List, Some, slice_get, sym, ap, ◌∙◌, subst}
+use Rattle.lvl_grid.specs.declared.point.Square.{Square}
+use Rattle.lvl_names.specs.declared.layer.Layer.{Layer}
+use Rattle.lvl_cells.specs.Cells.{PlainCell, Rings}
+use Rattle.lvl_cells.specs.Checks.{Settled}
+use Rattle.lvl_flat.specs.Flattened.{TopCovers}
+use Rattle.lvl_changed.specs.inside.Shapes.{ShapesCover}
+use Rattle.lvl_changed.proofs.Resting.{flat_covers, top_of_one}
+use Rattle.lvl_changed.proofs.rests.layout_of.Goals as goal
+
+pub returns-in-Ok-new : goal.returns-in-Ok-new
+returns-in-Ok-new c =
+    let cell : PlainCell Rings = c.args.cell in
+    let checked : Settled = c.in-Ok.checked in
+    let cells : checked.cells ≡ cell ∷ [] =
+    c.in-Ok.ensures.same
+    ∙ (c.push_reserved.ensures.items ∙ ap (λ (xs : List (PlainCell Rings)). xs ++ cell ∷ []) c.in_ok-cells.ensures.items)
+    in
+    let top : slice_get checked.cells checked.top ≡ Some cell =
+    top_of_one checked cell c.in-Ok.ensures.sound.cell cells c.in-Ok.ensures.sound.is in
+    subst (λ (x : Settled). (l : Layer) (s : Square) → TopCovers x l s ↔ ShapesCover cell.shapes l s)
+    (sym c.in-Ok-new.ensures.ok) (flat_covers checked cell top c.requires)
