@@ -13,8 +13,8 @@ returns-in_ok-add_rings-in-Rings-clause-shown c = λ e.
     let of : Rings → List Point → KeptShape = λ f es. record { layer = c.in-Rings.layer; figure = f; shifts = es } in
     let now : KeptCell → Built = λ i. record { cells = b.cells.cells; current = i } in
     let s : KeptShape = of c.in-Rings.rings.items one_place in
-    let same = ap (λ (f : Rings). of f c.single-in-Rings.result) c.deref.ensures.value
-    ∙ ap (λ (es : List Point). of c.in-Rings.rings.items es) c.single-in-Rings.ensures in
+    let same = ap (λ (f : Rings). of f c.single.result) c.deref.ensures.value
+    ∙ ap (λ (es : List Point). of c.in-Rings.rings.items es) c.single.ensures in
     rw c.in-Rings.is
     (shown_drawn b.stage b _ (s ∷ []) [] e (c.in_ok-add_rings-in-Rings.ensures.added
     ∙ (ap (λ (h : KeptShape). now (with_shape b.cells.current h)) same ∙ ap now (one_shape b.cells.current s))))
