@@ -1,6 +1,6 @@
 -- Kept rings: what a stretch of points means, and a list of rings after one more is kept.
-use Rattle.std.proofs.Common.{◌≡◌, ◌≤◌, ◌-◌, ◌+◌, ℕ, Bool, true, false, not, List, [], ◌∷◌, ◌++◌, take, drop, map}
-use Rattle.std.proofs.Common.{FitsSigned, w64}
+use Rattle.std.proofs.Common.{◌≡◌, ◌≤◌, ◌-◌, ◌+◌, ℕ, Bool, true, false, List, [], ◌∷◌, ◌++◌, take, drop, map}
+use Rattle.std.proofs.Common.{not, FitsSigned, w64}
 use Rattle.std.proofs.Common.{rules, length, get_or, All, refl, sym, ap, arith, subst, ◌∙◌}
 use Rattle.std.proofs.lemmas.Int.{ints}
 use Rattle.std.proofs.lemmas.List.{append_assoc, drop_at, length-append, map-append, take_all}
@@ -129,35 +129,42 @@ outline_one (p ∷ q ∷ ps) along_y d h = absurd (omega (arith, h))
 at_origin : (from : Point) → shifted from origin ≡ from
 at_origin from = same_point _ _ (omega (arith, ints)) (omega (arith, ints))
 
+x_same : (p q : Point) → p ≡ q → p.x ≡ q.x
+x_same p q e = ap (λ (s : Point). s.x) e
+
+y_same : (p q : Point) → p ≡ q → p.y ≡ q.y
+y_same p q e = ap (λ (s : Point). s.y) e
+
+-- a point with the abscissa of one that fits and the ordinate of another
+fits_beside : (p q r : Point) → q.x ≡ p.x → r.y ≡ p.y → FitsPoint q → FitsPoint r → FitsPoint p
+fits_beside p q r x y fit fit' = record {
+  x_fits = subst (FitsSigned w64) x fit.x_fits;
+  y_fits = subst (FitsSigned w64) y fit'.y_fits;
+}
+
 -- four points are the rectangle from the first to the third if the others are the corners beside the first
 corners_again : (p q r t d : Point) (along_y : Bool) → shifted p d ≡ r → q ≡ beside p r along_y
     → t ≡ beside p r (not along_y) → FitsPoint q → FitsPoint t
     → IsAgain (rectangle_to d along_y) p (p ∷ q ∷ r ∷ t ∷ [])
 corners_again p q r t d true to e f fit fit' =
     let y : shifted p (on_y d) ≡ q =
-    same_point _ _ (omega (arith, ints, ap (λ (s : Point). s.x) e)) (ap (λ (s : Point). s.y) (to ∙ refl) ∙ sym (ap (λ (s : Point). s.y) e)) in
+    same_point _ _ (omega (arith, ints, x_same _ _ e)) (y_same _ _ to ∙ sym (y_same _ _ e)) in
     let x : shifted p (on_x d) ≡ t =
-    same_point _ _ (ap (λ (s : Point). s.x) to ∙ sym (ap (λ (s : Point). s.x) f)) (omega (arith, ints, ap (λ (s : Point). s.y) f)) in
+    same_point _ _ (x_same _ _ to ∙ sym (x_same _ _ f)) (omega (arith, ints, y_same _ _ f)) in
     record {
       is = rw (at_origin p, y, to, x) refl;
-      fits = all_of_four FitsPoint p q r t
-          (record { x_fits = subst (FitsSigned w64) (ap (λ (s : Point). s.x) e) fit.x_fits; y_fits = subst (FitsSigned w64) (ap (λ (s : Point). s.y) f) fit'.y_fits })
-          fit
-          (record { x_fits = subst (FitsSigned w64) (ap (λ (s : Point). s.x) f) fit'.x_fits; y_fits = subst (FitsSigned w64) (ap (λ (s : Point). s.y) e) fit.y_fits })
-          fit';
+      fits = all_of_four FitsPoint p q r t (fits_beside p q t (x_same _ _ e) (y_same _ _ f) fit fit') fit
+          (fits_beside r t q (x_same _ _ f) (y_same _ _ e) fit' fit) fit';
     }
 corners_again p q r t d false to e f fit fit' =
     let x : shifted p (on_x d) ≡ q =
-    same_point _ _ (ap (λ (s : Point). s.x) to ∙ sym (ap (λ (s : Point). s.x) e)) (omega (arith, ints, ap (λ (s : Point). s.y) e)) in
+    same_point _ _ (x_same _ _ to ∙ sym (x_same _ _ e)) (omega (arith, ints, y_same _ _ e)) in
     let y : shifted p (on_y d) ≡ t =
-    same_point _ _ (omega (arith, ints, ap (λ (s : Point). s.x) f)) (ap (λ (s : Point). s.y) to ∙ sym (ap (λ (s : Point). s.y) f)) in
+    same_point _ _ (omega (arith, ints, x_same _ _ f)) (y_same _ _ to ∙ sym (y_same _ _ f)) in
     record {
       is = rw (at_origin p, x, to, y) refl;
-      fits = all_of_four FitsPoint p q r t
-          (record { x_fits = subst (FitsSigned w64) (ap (λ (s : Point). s.x) f) fit'.x_fits; y_fits = subst (FitsSigned w64) (ap (λ (s : Point). s.y) e) fit.y_fits })
-          fit
-          (record { x_fits = subst (FitsSigned w64) (ap (λ (s : Point). s.x) e) fit.x_fits; y_fits = subst (FitsSigned w64) (ap (λ (s : Point). s.y) f) fit'.y_fits })
-          fit';
+      fits = all_of_four FitsPoint p q r t (fits_beside p t q (x_same _ _ f) (y_same _ _ e) fit' fit) fit
+          (fits_beside r q t (x_same _ _ e) (y_same _ _ f) fit fit') fit';
     }
 
 -- and so is a ring of four points

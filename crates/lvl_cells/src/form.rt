@@ -31,15 +31,9 @@ fn beside(from: Point, to: Point, along_y: bool) -> Point
     ensures fits { FitsPoint result }
 {
     if along_y {
-        Point {
-            x: from.x,
-            y: to.y,
-        }
+        Point { x: from.x, y: to.y }
     } else {
-        Point {
-            x: to.x,
-            y: from.y,
-        }
+        Point { x: to.x, y: from.y }
     }
 }
 
