@@ -1,6 +1,6 @@
 //! Reads one element, record by record.
 ghost use Rattle.std.specs.Prelude.{◌≡◌, ◌∷◌, [], ◌++◌, ◌↔◌, ℕ, List, IsTrue, IfSome, IfNone, IfOk, IfErr, OnOk};
-ghost use Rattle.std.specs.Prelude.{false, None};
+ghost use Rattle.std.specs.Prelude.{false, None, Some};
 ghost use Rattle.gds_elements.specs.Order.{opens};
 ghost use Rattle.gds_elements.specs.Rec.{Rec, an_end};
 ghost use Rattle.gds_elements.specs.Rules.{InOrder, ElementBreaches, BreachesOnly, BreachesNone};
@@ -139,6 +139,18 @@ impl Element {
                     .take(alloc, profile, kind, payload, &mut self.drawn)?;
                 Ok(Step::Open)
             }
+        }
+    }
+
+    /// The Layer and the ring of a boundary, after [`Element::take`] has returned `Step::Whole`; None for other
+    /// elements. The ring stays where it is: to move all that an element may draw takes longer than to keep a ring.
+    pub fn ring(&self) -> Option<(Layer, &Ring)>
+        ensures { IfSome result (λ drawn. (piece : List Rec) → IsWhole self.now piece
+            → Draws (Some (Drawn.Ring drawn.0 drawn.1.now)) piece) }
+    {
+        match &self.drawn {
+            Some(Drawn::Ring(layer, ring)) => Some((*layer, ring)),
+            _ => None,
         }
     }
 

@@ -21,17 +21,13 @@ pub(crate) fn read_layer(old: Layer, kind: u8, payload: &[u8]) -> Result<Layer, 
     ensures refused { IfErr result (λ e. (e ≡ breach ElementRule.Layer) × IsLayerNumber kind
         × (short payload.now <ℤ pos 0)) }
 {
+    let mut layer = old;
     match kind {
-        record_type::LAYER => Ok(Layer {
-            layer: layer_number(payload)?,
-            datatype: old.datatype,
-        }),
-        record_type::DATATYPE => Ok(Layer {
-            layer: old.layer,
-            datatype: layer_number(payload)?,
-        }),
-        _ => Ok(old),
+        record_type::LAYER => layer.layer = layer_number(payload)?,
+        record_type::DATATYPE => layer.datatype = layer_number(payload)?,
+        _ => {}
     }
+    Ok(layer)
 }
 
 fn layer_number(payload: &[u8]) -> Result<u32, Cause<ElementFault>>

@@ -51,7 +51,7 @@ pub(crate) fn points(alloc: Global, payload: &[u8]) -> Result<Vec<Point>, AllocE
     let mut rest = payload;
     for _ in 0..payload.len() / 8 {
         let (first, others) = rest.split_at(8);
-        points.push(point(first))?;
+        points.push_reserved(point(first));
         rest = others;
     }
     Ok(points)

@@ -1,6 +1,7 @@
 //! Builds the library from the records outside of elements and from what elements draw.
-ghost use Rattle.std.specs.Prelude.{◌≡◌, ◌==◌, if◌then◌else◌, ◌<◌, [], pos, Some, None, IsTrue, ◌↔◌, OnOk, IfOk, IfErr};
+ghost use Rattle.std.specs.Prelude.{◌≡◌, ◌==◌, if◌then◌else◌, ◌<◌, [], ◌∷◌, pos, Some, None, IsTrue, ◌↔◌, OnOk, IfOk, IfErr};
 ghost use Rattle.std.specs.Prelude.{length, List, map};
+ghost use Rattle.lvl_names.specs.Shifts.{one_place};
 ghost use Rattle.gds_elements.specs.Types.{header, units};
 ghost use Rattle.gds_elements.specs.Meaning.{in_rings, shapes_of, references_of};
 ghost use Rattle.gds_elements.specs.Rec.{Rec};
@@ -17,7 +18,8 @@ use crate::stage::LibraryStage;
 use gds_elements::{Drawn, Element, misplaced, name};
 use gds_records::record_type;
 use lvl_cells::{Builder as Cells, Library};
-use lvl_names::{Offsets, is_name};
+use lvl_grid::Ring;
+use lvl_names::{Layer, Offsets, is_name};
 use lvl_profile::Limits;
 use lvl_refusal::Cause;
 use std::alloc::Global;
@@ -131,10 +133,28 @@ impl Builder {
             → shown self.new ≡ on_last (with_drawn (map in_rings (shapes_of piece)) (references_of piece))
             (shown self.old)) }
     {
+        if let Some((layer, ring)) = element.ring() {
+            return self.add_ring(layer, ring);
+        }
         match element.take_drawn() {
             Some(drawn) => self.add(drawn),
             None => Ok(()),
         }
+    }
+
+    // Adds the ring of a boundary to the cell that is open.
+    fn add_ring(&mut self, layer: Layer, ring: &Ring) -> Result<(), Cause<GdsKind>>
+        ensures refused { IfErr result (λ e. e ≡ Cause.OutOfMemory) }
+        ensures stage { OnOk result (self.new.stage ≡ self.old.stage) }
+        ensures version { OnOk result (self.new.version ≡ self.old.version) }
+        ensures units { OnOk result (self.new.units ≡ self.old.units) }
+        ensures shown { OnOk result (self.old.stage ≡ LibraryStage.Elements
+            → shown self.new ≡ on_last (with_drawn
+            (record { layer = layer; figure = ring.now ∷ []; shifts = one_place } ∷ []) []) (shown self.old)) }
+    {
+        self.cells
+            .add_ring(layer, ring.points(), &Offsets::single())?;
+        Ok(())
     }
 
     // Adds what an element draws to the cell that is open.
@@ -147,10 +167,7 @@ impl Builder {
             → shown self.new ≡ on_last (with_drawn (shapes_in drawn) (references_in drawn)) (shown self.old)) }
     {
         match drawn {
-            Drawn::Ring(layer, ring) => {
-                self.cells
-                    .add_ring(layer, ring.points(), &Offsets::single())?;
-            }
+            Drawn::Ring(layer, ring) => self.add_ring(layer, &ring)?,
             Drawn::Rings(layer, rings) => {
                 self.cells.add_rings(layer, &rings, &Offsets::single())?;
             }

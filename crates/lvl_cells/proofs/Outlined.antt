@@ -1,15 +1,19 @@
 -- Kept rings: what a stretch of points means, and a list of rings after one more is kept.
 use Rattle.std.proofs.Common.{◌≡◌, ◌≤◌, ◌-◌, ◌+◌, ℕ, Bool, true, false, List, [], ◌∷◌, ◌++◌, take, drop, map}
+use Rattle.std.proofs.Common.{not, FitsSigned, w64}
 use Rattle.std.proofs.Common.{rules, length, get_or, All, refl, sym, ap, arith, subst, ◌∙◌}
+use Rattle.std.proofs.lemmas.Int.{ints}
 use Rattle.std.proofs.lemmas.List.{append_assoc, drop_at, length-append, map-append, take_all}
 use Rattle.std.proofs.lemmas.List.Elements.{All-cons, All-head, All-push, All-tail, All-weaker}
 use Rattle.lvl_grid.specs.declared.point.Point.{Point}
+use Rattle.lvl_grid.specs.Turn.{FitsPoint, shifted}
 use Rattle.lvl_grid.specs.Winding.{IsRing}
+use Rattle.lvl_grid.proofs.Composing.{same_point}
 use Rattle.lvl_cells.specs.declared.outlines.OutlineSpan.{OutlineSpan}
 use Rattle.lvl_cells.specs.Cells.{Rings}
-use Rattle.lvl_cells.specs.inside.Outlines.{on_x, on_y, outline, outline_in, rectangle_to}
+use Rattle.lvl_cells.specs.inside.Outlines.{beside, on_x, on_y, outline, outline_in, rectangle_to}
 use Rattle.lvl_cells.specs.inside.Outlines.{stretch_in, IsOutline}
-use Rattle.lvl_cells.specs.inside.Spans.{origin, IsPrefixOf}
+use Rattle.lvl_cells.specs.inside.Spans.{origin, IsAgain, IsPrefixOf}
 use Rattle.lvl_names.specs.Shifts.{IsBetween}
 use Rattle.lvl_cells.proofs.Spanned.{grown, stretch_same, no_fewer, goes_on_more}
 
@@ -121,3 +125,58 @@ pub outline_one : (points : List Point) (along_y : Bool) (d : Point) → length 
 outline_one [] along_y d h = absurd (omega (arith, h))
 outline_one (p ∷ []) along_y d h = refl
 outline_one (p ∷ q ∷ ps) along_y d h = absurd (omega (arith, h))
+
+at_origin : (from : Point) → shifted from origin ≡ from
+at_origin from = same_point _ _ (omega (arith, ints)) (omega (arith, ints))
+
+x_same : (p q : Point) → p ≡ q → p.x ≡ q.x
+x_same p q e = ap (λ (s : Point). s.x) e
+
+y_same : (p q : Point) → p ≡ q → p.y ≡ q.y
+y_same p q e = ap (λ (s : Point). s.y) e
+
+-- a point with the abscissa of one that fits and the ordinate of another
+fits_beside : (p q r : Point) → q.x ≡ p.x → r.y ≡ p.y → FitsPoint q → FitsPoint r → FitsPoint p
+fits_beside p q r x y fit fit' = record {
+  x_fits = subst (FitsSigned w64) x fit.x_fits;
+  y_fits = subst (FitsSigned w64) y fit'.y_fits;
+}
+
+-- four points are the rectangle from the first to the third if the others are the corners beside the first
+corners_again : (p q r t d : Point) (along_y : Bool) → shifted p d ≡ r → q ≡ beside p r along_y
+    → t ≡ beside p r (not along_y) → FitsPoint q → FitsPoint t
+    → IsAgain (rectangle_to d along_y) p (p ∷ q ∷ r ∷ t ∷ [])
+corners_again p q r t d true to e f fit fit' =
+    let y : shifted p (on_y d) ≡ q =
+    same_point _ _ (omega (arith, ints, x_same _ _ e)) (y_same _ _ to ∙ sym (y_same _ _ e)) in
+    let x : shifted p (on_x d) ≡ t =
+    same_point _ _ (x_same _ _ to ∙ sym (x_same _ _ f)) (omega (arith, ints, y_same _ _ f)) in
+    record {
+      is = rw (at_origin p, y, to, x) refl;
+      fits = all_of_four FitsPoint p q r t (fits_beside p q t (x_same _ _ e) (y_same _ _ f) fit fit') fit
+          (fits_beside r t q (x_same _ _ f) (y_same _ _ e) fit' fit) fit';
+    }
+corners_again p q r t d false to e f fit fit' =
+    let x : shifted p (on_x d) ≡ q =
+    same_point _ _ (x_same _ _ to ∙ sym (x_same _ _ e)) (omega (arith, ints, y_same _ _ e)) in
+    let y : shifted p (on_y d) ≡ t =
+    same_point _ _ (omega (arith, ints, x_same _ _ f)) (y_same _ _ to ∙ sym (y_same _ _ f)) in
+    record {
+      is = rw (at_origin p, x, to, y) refl;
+      fits = all_of_four FitsPoint p q r t (fits_beside p t q (x_same _ _ f) (y_same _ _ e) fit' fit) fit
+          (fits_beside r q t (x_same _ _ e) (y_same _ _ f) fit fit') fit';
+    }
+
+-- and so is a ring of four points
+pub rectangle_again : (ring : List Point) (z d : Point) (along_y : Bool) → length ring ≡ 4
+    → shifted (get_or ring 0 z) d ≡ get_or ring 2 z
+    → get_or ring 1 z ≡ beside (get_or ring 0 z) (get_or ring 2 z) along_y
+    → get_or ring 3 z ≡ beside (get_or ring 0 z) (get_or ring 2 z) (not along_y)
+    → FitsPoint (get_or ring 1 z) → FitsPoint (get_or ring 3 z)
+    → IsAgain (rectangle_to d along_y) (get_or ring 0 z) ring
+rectangle_again [] z d along_y n to e f fit fit' = absurd (omega (arith, n))
+rectangle_again (p ∷ []) z d along_y n to e f fit fit' = absurd (omega (arith, n))
+rectangle_again (p ∷ q ∷ []) z d along_y n to e f fit fit' = absurd (omega (arith, n))
+rectangle_again (p ∷ q ∷ r ∷ []) z d along_y n to e f fit fit' = absurd (omega (arith, n))
+rectangle_again (p ∷ q ∷ r ∷ t ∷ []) z d along_y n to e f fit fit' = corners_again p q r t d along_y to e f fit fit'
+rectangle_again (p ∷ q ∷ r ∷ t ∷ u ∷ us) z d along_y n to e f fit fit' = absurd (omega (arith, n))

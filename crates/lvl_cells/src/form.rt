@@ -1,10 +1,10 @@
 //! Rings that are to be kept: which of them are rectangles.
 ghost use Rattle.std.specs.Prelude.{◌≡◌, IfSome};
 ghost use Rattle.std.specs.Option.{ForSome};
-ghost use Rattle.lvl_cells.specs.inside.Outlines.{IsRectangle};
+ghost use Rattle.lvl_grid.specs.Turn.{FitsPoint};
+ghost use Rattle.lvl_cells.specs.inside.Outlines.{IsRectangle, beside};
 
-use crate::outline::rectangle;
-use crate::shared::{distance, is_again};
+use crate::shared::distance;
 use lvl_grid::Point;
 
 /// A rectangle: its first point, the displacement from there to the opposite corner, and whether its first
@@ -25,6 +25,18 @@ pub(crate) struct Form<'a> {
     ghost is_rectangle: { ForSome rectangle (λ r. IsRectangle r ring.now) },
 }
 
+/// The corner of a rectangle that is beside the first one, on its edge along y or on that along x.
+fn beside(from: Point, to: Point, along_y: bool) -> Point
+    ensures value { result ≡ beside from to along_y }
+    ensures fits { FitsPoint result }
+{
+    if along_y {
+        Point { x: from.x, y: to.y }
+    } else {
+        Point { x: to.x, y: from.y }
+    }
+}
+
 /// The rectangle that a ring is, or None, which is returned too if its diagonal is outside 64 bits.
 fn rectangle_of(ring: &[Point]) -> Option<Rectangle>
     ensures { IfSome result (λ r. IsRectangle r ring.now) }
@@ -33,11 +45,12 @@ fn rectangle_of(ring: &[Point]) -> Option<Rectangle>
         return None;
     }
     let from = ring[0];
-    let diagonal = distance(from, ring[2])?;
+    let to = ring[2];
     let along_y = ring[1].x == from.x;
-    if !is_again(&rectangle(diagonal, along_y), from, ring) {
+    if ring[1] != beside(from, to, along_y) || ring[3] != beside(from, to, !along_y) {
         return None;
     }
+    let diagonal = distance(from, to)?;
     Some(Rectangle {
         from,
         diagonal,

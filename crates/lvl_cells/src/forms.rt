@@ -63,10 +63,11 @@ pub(crate) fn hash_of_form(form: &Form<'_>) -> u64 {
 fn slots_of(hash: u64, slots: usize) -> Option<(usize, usize)>
     ensures { IfSome result (λ found. (found.0 < slots) × (found.1 < slots)) }
 {
-    if slots == 0 {
+    // The high half of the product spreads the hashes over the slots in less time than a remainder takes.
+    let slot = (hash as u128 * slots as u128 >> 64) as usize;
+    if slot >= slots {
         return None;
     }
-    let slot = hash as usize % slots;
     let after = slot + 1;
     Some((slot, if after < slots { after } else { 0 }))
 }

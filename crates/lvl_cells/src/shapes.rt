@@ -206,6 +206,26 @@ impl Shapes {
         ensures kept { OnErr result (self.new ≡ self.old) }
     {
         match &mut self.stored {
+            StoredShapes::Several(lists) => lists.push_ring(layer, ring, shifts),
+            _ => self.push_early(layer, ring, shifts),
+        }
+    }
+
+    /// Adds a shape of one ring, as one of the first. In `push_ring` itself, room for what these are stored in would
+    /// be cleared for each shape.
+    #[inline(never)]
+    fn push_early(
+        &mut self,
+        layer: Layer,
+        ring: &[Point],
+        shifts: &Offsets,
+    ) -> Result<(), AllocError>
+        requires { IsRing ring.now }
+        ensures added { OnOk result (self.new ≡ self.old
+            ++ record { layer = layer; figure = ring.now ∷ []; shifts = shifts.now } ∷ []) }
+        ensures kept { OnErr result (self.new ≡ self.old) }
+    {
+        match &mut self.stored {
             StoredShapes::None => {
                 let single = Single::of(self.alloc, layer, ring, shifts)?;
                 self.stored = StoredShapes::One(Box::new(self.alloc, single)?);

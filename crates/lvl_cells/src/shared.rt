@@ -1,6 +1,6 @@
 //! Shared figures: rings that are kept already, moved, aren't kept again.
 ghost use Rattle.std.specs.Prelude.{◌≡◌, ◌<◌, ◌+◌, ◌∷◌, [], length, All, IsTrue, IfOk, IfSome};
-ghost use Rattle.lvl_grid.specs.Turn.{FitsPoint};
+ghost use Rattle.lvl_grid.specs.Turn.{FitsPoint, shifted};
 ghost use Rattle.lvl_grid.specs.Winding.{IsRing};
 ghost use Rattle.lvl_cells.specs.inside.Outlines.{rectangle_at};
 ghost use Rattle.lvl_cells.specs.inside.Spans.{displaced, IsPrefixOf, HasMove, IsAgain, IsFigure, IsStretch};
@@ -24,7 +24,9 @@ pub(crate) struct KeptFigure {
 }
 
 /// The displacement from the first point to the second, or None if it is outside 64 bits.
-pub(crate) fn distance(from: Point, to: Point) -> Option<Point> {
+pub(crate) fn distance(from: Point, to: Point) -> Option<Point>
+    ensures { IfSome result (λ by. shifted from by ≡ to) }
+{
     let x = to.x.checked_sub(from.x)?;
     let y = to.y.checked_sub(from.y)?;
     Some(Point { x, y })
@@ -60,6 +62,7 @@ pub(crate) fn displacement(kept: &[Point], ring: &[Point]) -> Option<Point>
 }
 
 /// The figure of one ring, if it is the last of the kept rings with an index below `end`, moved.
+#[inline(always)]
 fn ring_again(rings: &Outlines, end: u32, form: &Form<'_>) -> Option<KeptFigure>
     ensures { IfSome result (λ f. IsFigure rings.now f (form.now.ring.now ∷ [])) }
 {

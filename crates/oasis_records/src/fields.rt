@@ -16,6 +16,7 @@ use oasis_values::{Input, Real, Repetition, Text, ValueFault};
 use std::alloc::Global;
 
 /// Whether a letter of an info byte is set. The letter is given as the weight of its bit.
+#[inline(always)]
 pub(crate) fn has(info: u8, letter: u8) -> bool
     requires { 0 < letter }
     ensures { result ≡ has info letter }
@@ -24,6 +25,7 @@ pub(crate) fn has(info: u8, letter: u8) -> bool
 }
 
 /// Reads an unsigned integer, if its letter is set.
+#[inline(always)]
 pub(crate) fn unsigned_if<R: Read>(
     input: &mut Input<R>,
     info: u8,
@@ -42,6 +44,7 @@ pub(crate) fn unsigned_if<R: Read>(
 }
 
 /// Reads a signed integer, if its letter is set.
+#[inline(always)]
 pub(crate) fn signed_if<R: Read>(
     input: &mut Input<R>,
     info: u8,

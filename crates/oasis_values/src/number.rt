@@ -88,6 +88,7 @@ impl<R: Read> Input<R> {
 
     /// A signed integer: an unsigned one whose lowest bit is the sign and whose other bits are the
     /// magnitude. Minus zero is 0.
+    #[inline(always)]
     pub fn signed(&mut self) -> Result<i64, ValueFault>
         ensures reads { Reads R.remaining R.read_errors R.lent IsSigned self.old self.new (as_breach result) }
         ensures none { Refutes R.remaining IsSigned self.old (as_breach result) }

@@ -23,6 +23,11 @@ abbrev pub rectangle_to : Point → Bool → List Point
 rectangle_to d true = origin ∷ on_y d ∷ d ∷ on_x d ∷ []
 rectangle_to d false = origin ∷ on_x d ∷ d ∷ on_y d ∷ []
 
+-- the corner of a rectangle that is beside the first one, on its edge along y or on that along x
+abbrev pub beside : Point → Point → Bool → Point
+beside from to true = record { x = from.x; y = to.y }
+beside from to false = record { x = to.x; y = from.y }
+
 -- the ring that is kept by these points: by one, the rectangle from the origin to it
 abbrev pub outline : List Point → Bool → List Point
 outline [] along_y = []

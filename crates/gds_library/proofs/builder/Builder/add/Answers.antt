@@ -7,26 +7,14 @@ use Rattle.gds_library.specs.Drawn.{KeptShape, KeptCell}
 use Rattle.gds_library.proofs.Grown.{shown_drawn, one_shape, one_reference, no_drawing}
 use Rattle.gds_library.proofs.builder.Builder.add.Goals as goal
 
-pub returns-in_ok-add_ring-in-Ring-clause-shown : goal.returns-in_ok-add_ring-in-Ring-clause-shown
-returns-in_ok-add_ring-in-Ring-clause-shown c = λ e.
-    let b = c.args.self.now in
-    let of : Rings → List Point → KeptShape = λ f es. record { layer = c.in-Ring.layer; figure = f; shifts = es } in
-    let now : KeptCell → Built = λ i. record { cells = b.cells.cells; current = i } in
-    let s : KeptShape = of (c.in-Ring.ring ∷ []) one_place in
-    let same = ap (λ (ps : List Point). of (ps ∷ []) c.single.result) c.points.ensures.all
-    ∙ ap (λ (es : List Point). of (c.in-Ring.ring ∷ []) es) c.single.ensures in
-    rw c.in-Ring.is
-    (shown_drawn b.stage b _ (s ∷ []) [] e (c.in_ok-add_ring-in-Ring.ensures.added
-    ∙ (ap (λ (h : KeptShape). now (with_shape b.cells.current h)) same ∙ ap now (one_shape b.cells.current s))))
-
 pub returns-in_ok-add_rings-in-Rings-clause-shown : goal.returns-in_ok-add_rings-in-Rings-clause-shown
 returns-in_ok-add_rings-in-Rings-clause-shown c = λ e.
     let b = c.args.self.now in
     let of : Rings → List Point → KeptShape = λ f es. record { layer = c.in-Rings.layer; figure = f; shifts = es } in
     let now : KeptCell → Built = λ i. record { cells = b.cells.cells; current = i } in
     let s : KeptShape = of c.in-Rings.rings.items one_place in
-    let same = ap (λ (f : Rings). of f c.single-in-Rings.result) c.deref.ensures.value
-    ∙ ap (λ (es : List Point). of c.in-Rings.rings.items es) c.single-in-Rings.ensures in
+    let same = ap (λ (f : Rings). of f c.single.result) c.deref.ensures.value
+    ∙ ap (λ (es : List Point). of c.in-Rings.rings.items es) c.single.ensures in
     rw c.in-Rings.is
     (shown_drawn b.stage b _ (s ∷ []) [] e (c.in_ok-add_rings-in-Rings.ensures.added
     ∙ (ap (λ (h : KeptShape). now (with_shape b.cells.current h)) same ∙ ap now (one_shape b.cells.current s))))
