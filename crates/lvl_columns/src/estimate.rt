@@ -1,7 +1,7 @@
 //! Estimates of the work of sweeps of a list of rings, with and without cuts. They guide a choice
 //! of cost only, so they have no contracts.
 //!
-//! All numbers are in 128 bits. A sample is at most 2^32 units high, and a list of rings has fewer
+//! All sums are in 128 bits. A sample is at most 2^32 units high, and a list of rings has fewer
 //! than 2^40 points on any machine of today, so sums of heights are below 2^72, and their products
 //! with a number of edges below 2^112. For longer lists, sums and products saturate.
 
@@ -18,6 +18,11 @@ struct Load {
     spanned: u128,
 }
 
+/// The product of two numbers, for which 128 bits are enough.
+fn product(a: u64, b: u64) -> u128 {
+    u128::from(a) * u128::from(b)
+}
+
 impl Load {
     const NONE: Load = Load {
         edges: 0,
@@ -28,16 +33,16 @@ impl Load {
 
     /// Adds a ring. Its edges are `height` high on average, `cuts` cuts go through it, and it spans
     /// `columns` columns.
-    fn add(&mut self, ring: &SampledRing, height: u128, cuts: u128, columns: u128) {
+    fn add(&mut self, ring: &SampledRing, height: u64, cuts: u64, columns: u64) {
         let spanning = columns.saturating_mul(ring.folds);
         let edges = ring
             .edges
             .saturating_add(cuts.saturating_mul(ring.folds).saturating_mul(2))
             .saturating_sub(spanning.saturating_mul(2));
-        self.edges = self.edges.saturating_add(edges);
-        self.heights = self.heights.saturating_add(edges.saturating_mul(height));
-        self.spanning = self.spanning.saturating_add(spanning);
-        self.spanned = self.spanned.saturating_add(spanning.saturating_mul(height));
+        self.edges = self.edges.saturating_add(u128::from(edges));
+        self.heights = self.heights.saturating_add(product(edges, height));
+        self.spanning = self.spanning.saturating_add(u128::from(spanning));
+        self.spanned = self.spanned.saturating_add(product(spanning, height));
     }
 
     /// The load of all rings of a list, given that of the sampled ones.
@@ -199,27 +204,27 @@ fn load_of(sample: &Sample, cuts: &[i64]) -> Load {
     let mut load = Load::NONE;
     for ring in sample.sampled() {
         let (through, spanned) = crossed(cuts, borders, ring);
-        load.add(ring, sample.scaled(ring.height), through, spanned);
+        load.add(ring, sample.height_of(ring), through, spanned);
     }
     load
 }
 
 /// How many cuts go through a ring, and how many columns it spans. Without cuts it spans none, else
 /// those that it reaches into, less those in which it begins, ends or has a further edge.
-fn crossed(cuts: &[i64], borders: (i64, i64), ring: &SampledRing) -> (u128, u128) {
+fn crossed(cuts: &[i64], borders: (i64, i64), ring: &SampledRing) -> (u64, u64) {
     if cuts.is_empty() {
         return (0, 0);
     }
     let (left, right) = borders;
     let before = cuts.partition_point(|cut| *cut <= ring.left);
     let after = cuts.partition_point(|cut| *cut < ring.right);
-    let through = after.saturating_sub(before) as u128;
+    let through = after.saturating_sub(before) as u64;
     let begins = ring.left != left && !is_cut(cuts, before.checked_sub(1), ring.left);
     let ends = ring.right != right && !is_cut(cuts, Some(after), ring.right);
     let spanned = through
         .saturating_add(1)
-        .saturating_sub(u128::from(begins))
-        .saturating_sub(u128::from(ends))
+        .saturating_sub(u64::from(begins))
+        .saturating_sub(u64::from(ends))
         .saturating_sub(ring.edges.saturating_sub(2));
     (through, spanned)
 }

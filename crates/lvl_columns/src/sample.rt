@@ -33,11 +33,16 @@ pub struct SampledRing {
     /// The greatest abscissa.
     pub right: i64,
     /// The number of vertical edges.
-    pub edges: u128,
+    pub edges: u64,
     /// The length of a vertical edge on average, in grid steps.
-    pub height: u128,
+    pub height: u64,
     /// How many rectangles the ring leaves in a narrow column ([`Outline::folds`]).
-    pub folds: u128,
+    pub folds: u64,
+}
+
+/// The number, or the greatest of 64 bits if it is more.
+fn narrowed(number: u128) -> u64 {
+    u64::try_from(number).unwrap_or(u64::MAX)
 }
 
 impl SampledRing {
@@ -45,9 +50,9 @@ impl SampledRing {
         SampledRing {
             left: outline.left,
             right: outline.right,
-            edges: outline.edges,
-            height: outline.heights.checked_div(outline.edges).unwrap_or(0),
-            folds: outline.folds(),
+            edges: narrowed(outline.edges),
+            height: narrowed(outline.heights.checked_div(outline.edges).unwrap_or(0)),
+            folds: narrowed(outline.folds()),
         }
     }
 }
@@ -170,11 +175,16 @@ impl Sample {
 
     /// A height in units, given in grid steps. The sampled rings together are at most 2^32 units
     /// high, so products of heights and numbers of edges fit in 128 bits.
-    pub(crate) fn scaled(&self, steps: u128) -> u128 {
-        if self.unit == 1 {
-            return steps;
-        }
+    fn scaled(&self, steps: u128) -> u128 {
         over(steps, self.unit)
+    }
+
+    /// The length of a vertical edge of a sampled ring on average, in units.
+    pub(crate) fn height_of(&self, ring: &SampledRing) -> u64 {
+        if self.unit == 1 {
+            return ring.height;
+        }
+        narrowed(over(u128::from(ring.height), self.unit))
     }
 
     /// The height of the sampled rings together, in units.
