@@ -93,10 +93,11 @@ const FEW: u128 = 16;
 
 impl Sample {
     pub(crate) fn of(alloc: Global, rings: &Rings) -> Result<Sample, AllocError> {
+        let taken = (rings.len() / 64).clamp(LEAST, MOST).min(rings.len());
         let mut sample = Sample {
-            sampled: Vec::new(alloc),
-            points: Vec::new(alloc),
-            ordinates: Vec::new(alloc),
+            sampled: Vec::with_capacity(alloc, taken)?,
+            points: Vec::with_capacity(alloc, taken)?,
+            ordinates: Vec::with_capacity(alloc, taken)?,
             rings: rings.len() as u128,
             bounds: NOWHERE,
             unit: 1,
@@ -105,9 +106,8 @@ impl Sample {
             scattering: 0,
         };
         let mut random = Random::new();
-        let taken = (rings.len() / 64).clamp(LEAST, MOST);
         let points = LEAST.checked_div(rings.len()).unwrap_or(1).max(1);
-        for i in 0..taken.min(rings.len()) {
+        for i in 0..taken {
             let number = if rings.len() <= taken {
                 i
             } else {

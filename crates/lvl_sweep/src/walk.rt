@@ -19,7 +19,6 @@ pub struct WalkPosition {
 }
 
 /// Whether there is an edge at index `i`, and its abscissa is `x`.
-#[inline(always)]
 fn stands_at(active: &[Edge], i: usize, x: i64) -> bool
     ensures within { IsTrue result → i < length active.now }
     ensures here { IsTrue result → (d : EdgeValue) → (slice_index_or active.now i d).x ≡ x }
@@ -31,7 +30,6 @@ fn stands_at(active: &[Edge], i: usize, x: i64) -> bool
 
 /// Passes the edge at index `at` and all after it at the same abscissa. Returns the index of the
 /// next one.
-#[inline(always)]
 fn pass_abscissa(active: &[Edge], at: usize, windings: &mut Windings) -> usize
     requires left { at < length active.now }
     requires row { IsRowOf active.now (length windings.old.counts.items) }
@@ -52,7 +50,6 @@ fn pass_abscissa(active: &[Edge], at: usize, windings: &mut Windings) -> usize
 
 /// Passes edges until the squares after them are inside, or outside if `wanted` is false, and
 /// returns the abscissa of the last one. None if that doesn't happen before the end of the row.
-#[inline(always)]
 fn pass_until(
     active: &[Edge],
     position: &mut WalkPosition,
@@ -81,7 +78,6 @@ fn pass_until(
 }
 
 /// The next interval that is covered, or None if the row has no more.
-#[inline(always)]
 fn next_interval(
     active: &[Edge],
     position: &mut WalkPosition,

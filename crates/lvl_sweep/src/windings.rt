@@ -50,7 +50,6 @@ impl Windings {
     }
 
     /// Passes an edge of the ring with index `ring`.
-    #[inline(always)]
     pub(crate) fn pass(&mut self, ring: usize, up: bool)
         requires ring { ring < length self.old.counts.items }
         requires small { unsigned_abs (slice_index_or self.old.counts.items ring (pos 0)) + 1 < 2 ^ 63 }
