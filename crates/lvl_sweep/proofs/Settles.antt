@@ -1,6 +1,6 @@
 -- The bands of a sweep, one after another.
-use Rattle.std.proofs.Common.{◌≡◌, ◌≢◌, ◌<◌, Bool, true, false, cond, List, [], ◌∷◌, length, ◌≤◌, ◌*◌, ◌+◌, ℤ, ◌<ℤ◌, ◌≤ℤ◌, Some}
-use Rattle.std.proofs.Common.{IsTrue, refl, sym, ◌∙◌, arith, subst}
+use Rattle.std.proofs.Common.{◌≡◌, ◌≢◌, ◌<◌, Bool, true, false, cond, List, [], ◌∷◌, length, ◌≤◌, ◌*◌, ◌+◌, ℤ, ◌<ℤ◌}
+use Rattle.std.proofs.Common.{◌≤ℤ◌, Some, IsTrue, refl, sym, ◌∙◌, arith, subst}
 use Rattle.std.proofs.lemmas.Int.{ints, by_lt_z}
 use Rattle.std.proofs.lemmas.List.Elements.{All-filter}
 use Rattle.std.specs.Global.{Vec}

@@ -84,7 +84,7 @@ returns-clause-few c =
       arith,
       as_long c.find_row.new.strips.edges.items c.load.new.self.edges.items c.load.ensures.edges,
       as_long c.load.new.self.edges.items c.lengthen.new.strips.edges.items
-      (rw c.collect.ensures.edges at c.lengthen.ensures.edges),
+          (rw c.collect.ensures.edges at c.lengthen.ensures.edges),
       c.in-Some.ensures.read.few,
     ))
 
@@ -95,7 +95,7 @@ returns-clause-room c =
       arith,
       as_long c.find_row.new.strips.edges.items c.load.new.self.edges.items c.load.ensures.edges,
       as_long c.load.new.self.edges.items c.lengthen.new.strips.edges.items
-      (rw c.collect.ensures.edges at c.lengthen.ensures.edges),
+          (rw c.collect.ensures.edges at c.lengthen.ensures.edges),
       c.in-Some.ensures.read.room,
     ))
 
