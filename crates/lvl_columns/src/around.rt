@@ -12,7 +12,7 @@ use lvl_grid::{Part, Point, Rings, Window};
 use std::alloc::{AllocError, Global};
 
 /// A window that has no point.
-const NOWHERE: Window = Window {
+pub(crate) const NOWHERE: Window = Window {
     x0: i64::MAX,
     y0: i64::MAX,
     x1: i64::MIN,

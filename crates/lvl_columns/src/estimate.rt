@@ -1,12 +1,11 @@
 //! Estimates of the work of sweeps of a list of rings, with and without cuts. They guide a choice
 //! of cost only, so they have no contracts.
 //!
-//! All numbers are in 128 bits. A sample is at most 2^32 units high, and a list of rings has fewer
+//! All sums are in 128 bits. A sample is at most 2^32 units high, and a list of rings has fewer
 //! than 2^40 points on any machine of today, so sums of heights are below 2^72, and their products
 //! with a number of edges below 2^112. For longer lists, sums and products saturate.
 
-use crate::sample::{Sample, over};
-use lvl_simplify::Outline;
+use crate::sample::{Sample, SampledRing, over};
 
 /// The vertical edges of sampled rings, clipped to columns.
 #[derive(Clone, Copy)]
@@ -19,6 +18,11 @@ struct Load {
     spanned: u128,
 }
 
+/// The product of two numbers, for which 128 bits are enough.
+fn product(a: u64, b: u64) -> u128 {
+    u128::from(a) * u128::from(b)
+}
+
 impl Load {
     const NONE: Load = Load {
         edges: 0,
@@ -29,17 +33,16 @@ impl Load {
 
     /// Adds a ring. Its edges are `height` high on average, `cuts` cuts go through it, and it spans
     /// `columns` columns.
-    fn add(&mut self, outline: &Outline, height: u128, cuts: u128, columns: u128) {
-        let folds = outline.folds();
-        let spanning = columns.saturating_mul(folds);
-        let edges = outline
+    fn add(&mut self, ring: &SampledRing, height: u64, cuts: u64, columns: u64) {
+        let spanning = columns.saturating_mul(ring.folds);
+        let edges = ring
             .edges
-            .saturating_add(cuts.saturating_mul(folds).saturating_mul(2))
+            .saturating_add(cuts.saturating_mul(ring.folds).saturating_mul(2))
             .saturating_sub(spanning.saturating_mul(2));
-        self.edges = self.edges.saturating_add(edges);
-        self.heights = self.heights.saturating_add(edges.saturating_mul(height));
-        self.spanning = self.spanning.saturating_add(spanning);
-        self.spanned = self.spanned.saturating_add(spanning.saturating_mul(height));
+        self.edges = self.edges.saturating_add(u128::from(edges));
+        self.heights = self.heights.saturating_add(product(edges, height));
+        self.spanning = self.spanning.saturating_add(u128::from(spanning));
+        self.spanned = self.spanned.saturating_add(product(spanning, height));
     }
 
     /// The load of all rings of a list, given that of the sampled ones.
@@ -139,7 +142,7 @@ impl Work {
     pub(crate) fn of(sample: &Sample, cuts: &[i64]) -> Work {
         let columns = (cuts.len() as u128).saturating_add(1);
         let height = sample.height();
-        let sampled = (sample.outlines().len() as u128).max(1);
+        let sampled = (sample.sampled().len() as u128).max(1);
         let load = load_of(sample, cuts)
             .scaled(sample.rings(), sampled)
             .joined(height, columns);
@@ -199,41 +202,37 @@ fn weighed(passes: u128, alive: u128) -> u128 {
 fn load_of(sample: &Sample, cuts: &[i64]) -> Load {
     let borders = sample.borders();
     let mut load = Load::NONE;
-    for outline in sample.outlines() {
-        let through = cuts_through(cuts, outline);
-        let spanned = columns_spanned(cuts, borders, outline, through);
-        let height = outline.heights.checked_div(outline.edges).unwrap_or(0);
-        load.add(outline, sample.scaled(height), through, spanned);
+    for ring in sample.sampled() {
+        let (through, spanned) = crossed(cuts, borders, ring);
+        load.add(ring, sample.height_of(ring), through, spanned);
     }
     load
 }
 
-/// The number of cuts that go through the ring.
-fn cuts_through(cuts: &[i64], outline: &Outline) -> u128 {
-    let before = cuts.partition_point(|cut| *cut <= outline.left);
-    let after = cuts.partition_point(|cut| *cut < outline.right);
-    (after.saturating_sub(before)) as u128
-}
-
-/// Whether an abscissa is that of a cut.
-fn is_cut(cuts: &[i64], x: i64) -> bool {
-    let at = cuts.partition_point(|cut| *cut < x);
-    cuts.get(at) == Some(&x)
-}
-
-/// How many columns a ring spans, if `through` cuts go through it. It is 0 without cuts, else the
-/// number of columns that it reaches into, less those in which it begins, ends or has a further
-/// edge.
-fn columns_spanned(cuts: &[i64], borders: (i64, i64), outline: &Outline, through: u128) -> u128 {
+/// How many cuts go through a ring, and how many columns it spans. Without cuts it spans none, else
+/// those that it reaches into, less those in which it begins, ends or has a further edge.
+fn crossed(cuts: &[i64], borders: (i64, i64), ring: &SampledRing) -> (u64, u64) {
     if cuts.is_empty() {
-        return 0;
+        return (0, 0);
     }
     let (left, right) = borders;
-    let begins = outline.left != left && !is_cut(cuts, outline.left);
-    let ends = outline.right != right && !is_cut(cuts, outline.right);
-    through
+    let before = cuts.partition_point(|cut| *cut <= ring.left);
+    let after = cuts.partition_point(|cut| *cut < ring.right);
+    let through = after.saturating_sub(before) as u64;
+    let begins = ring.left != left && !is_cut(cuts, before.checked_sub(1), ring.left);
+    let ends = ring.right != right && !is_cut(cuts, Some(after), ring.right);
+    let spanned = through
         .saturating_add(1)
-        .saturating_sub(u128::from(begins))
-        .saturating_sub(u128::from(ends))
-        .saturating_sub(outline.edges.saturating_sub(2))
+        .saturating_sub(u64::from(begins))
+        .saturating_sub(u64::from(ends))
+        .saturating_sub(ring.edges.saturating_sub(2));
+    (through, spanned)
+}
+
+/// Whether the cut at an index, if there is one, is at this abscissa.
+fn is_cut(cuts: &[i64], at: Option<usize>, x: i64) -> bool {
+    match at {
+        Some(index) => cuts.get(index) == Some(&x),
+        None => false,
+    }
 }

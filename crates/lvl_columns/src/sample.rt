@@ -1,7 +1,8 @@
 //! Some rings of a list, taken at random, from which the work of a sweep is estimated. They guide a
 //! choice of cost only, so they have no contracts.
 
-use lvl_grid::{Point, Rings};
+use crate::around::NOWHERE;
+use lvl_grid::{Point, Rings, Window};
 use lvl_simplify::Outline;
 use std::alloc::{AllocError, Global};
 
@@ -23,14 +24,53 @@ impl Random {
     }
 }
 
-/// Some rings of a list, taken at random, or all of them if there are few.
+/// What an estimate needs of a sampled ring. It is taken once, since a sample is estimated with many
+/// numbers of columns.
+#[derive(Clone, Copy)]
+pub struct SampledRing {
+    /// The least abscissa.
+    pub left: i64,
+    /// The greatest abscissa.
+    pub right: i64,
+    /// The number of vertical edges.
+    pub edges: u64,
+    /// The length of a vertical edge on average, in grid steps.
+    pub height: u64,
+    /// How many rectangles the ring leaves in a narrow column ([`Outline::folds`]).
+    pub folds: u64,
+}
+
+/// The number, or the greatest of 64 bits if it is more.
+fn narrowed(number: u128) -> u64 {
+    u64::try_from(number).unwrap_or(u64::MAX)
+}
+
+impl SampledRing {
+    fn of(outline: &Outline) -> SampledRing {
+        SampledRing {
+            left: outline.left,
+            right: outline.right,
+            edges: narrowed(outline.edges),
+            height: narrowed(outline.heights.checked_div(outline.edges).unwrap_or(0)),
+            folds: narrowed(outline.folds()),
+        }
+    }
+}
+
+/// Some rings of a list, taken at random, or all of them if there are few, and what they say of the
+/// list without cuts.
 #[derive(Drop)]
 pub struct Sample {
-    outlines: Vec<Outline>,
+    sampled: Vec<SampledRing>,
     points: Vec<Point>,
     ordinates: Vec<i64>,
     rings: u128,
+    bounds: Window,
     unit: u128,
+    /// The height of the sampled rings together, in units.
+    height: u128,
+    lines: u128,
+    scattering: u128,
 }
 
 /// The quotient, or the greatest number if the divisor is 0.
@@ -53,17 +93,21 @@ const FEW: u128 = 16;
 
 impl Sample {
     pub(crate) fn of(alloc: Global, rings: &Rings) -> Result<Sample, AllocError> {
+        let taken = (rings.len() / 64).clamp(LEAST, MOST).min(rings.len());
         let mut sample = Sample {
-            outlines: Vec::new(alloc),
-            points: Vec::new(alloc),
-            ordinates: Vec::new(alloc),
+            sampled: Vec::with_capacity(alloc, taken)?,
+            points: Vec::with_capacity(alloc, taken)?,
+            ordinates: Vec::with_capacity(alloc, taken)?,
             rings: rings.len() as u128,
+            bounds: NOWHERE,
             unit: 1,
+            height: 0,
+            lines: 0,
+            scattering: 0,
         };
         let mut random = Random::new();
-        let taken = (rings.len() / 64).clamp(LEAST, MOST);
         let points = LEAST.checked_div(rings.len()).unwrap_or(1).max(1);
-        for i in 0..taken.min(rings.len()) {
+        for i in 0..taken {
             let number = if rings.len() <= taken {
                 i
             } else {
@@ -73,15 +117,30 @@ impl Sample {
                 sample.push(ring, points, &mut random)?;
             }
         }
-        sample.points.sort_unstable_by_key(|point| point.x);
-        sample.ordinates.sort_unstable();
-        sample.unit = over(sample.steps(), 1 << 32).saturating_add(1);
+        sample.measure();
         Ok(sample)
+    }
+
+    /// Finds what the sampled rings say of the list.
+    fn measure(&mut self) {
+        self.points.sort_unstable_by_key(|point| point.x);
+        self.ordinates.sort_unstable();
+        self.unit = over(self.steps(), 1 << 32).saturating_add(1);
+        self.height = self.scaled(self.steps());
+        self.lines = self.estimated_lines();
+        self.scattering = self.estimated_scattering();
     }
 
     /// Takes a ring, and at most `most` of its points (one if that is 0).
     fn push(&mut self, ring: &[Point], most: usize, random: &mut Random) -> Result<(), AllocError> {
-        self.outlines.push(Outline::of(ring))?;
+        let outline = Outline::of(ring);
+        self.sampled.push(SampledRing::of(&outline))?;
+        self.bounds = Window {
+            x0: self.bounds.x0.min(outline.left),
+            y0: self.bounds.y0.min(outline.low),
+            x1: self.bounds.x1.max(outline.right),
+            y1: self.bounds.y1.max(outline.high),
+        };
         for _ in 0..(ring.len() / APART).min(most).max(1) {
             if let Some(point) = ring.get(random.below(ring.len())) {
                 self.points.push(*point)?;
@@ -91,9 +150,9 @@ impl Sample {
         Ok(())
     }
 
-    /// The outlines of the sampled rings.
-    pub(crate) fn outlines(&self) -> &[Outline] {
-        &self.outlines
+    /// The sampled rings.
+    pub(crate) fn sampled(&self) -> &[SampledRing] {
+        &self.sampled
     }
 
     /// The sampled points, in order of abscissa.
@@ -108,35 +167,38 @@ impl Sample {
 
     /// The height of the sampled rings together, in grid steps.
     fn steps(&self) -> u128 {
-        let mut low = i64::MAX;
-        let mut high = i64::MIN;
-        for outline in &self.outlines {
-            low = low.min(outline.low);
-            high = high.max(outline.high);
-        }
-        if high < low {
+        if self.bounds.y1 < self.bounds.y0 {
             return 0;
         }
-        u128::from(high.abs_diff(low))
+        u128::from(self.bounds.y1.abs_diff(self.bounds.y0))
     }
 
     /// A height in units, given in grid steps. The sampled rings together are at most 2^32 units
     /// high, so products of heights and numbers of edges fit in 128 bits.
-    pub(crate) fn scaled(&self, steps: u128) -> u128 {
-        if self.unit == 1 {
-            return steps;
-        }
+    fn scaled(&self, steps: u128) -> u128 {
         over(steps, self.unit)
+    }
+
+    /// The length of a vertical edge of a sampled ring on average, in units.
+    pub(crate) fn height_of(&self, ring: &SampledRing) -> u64 {
+        if self.unit == 1 {
+            return ring.height;
+        }
+        narrowed(over(u128::from(ring.height), self.unit))
     }
 
     /// The height of the sampled rings together, in units.
     pub(crate) fn height(&self) -> u128 {
-        self.scaled(self.steps())
+        self.height
     }
 
-    /// An estimate of the number of distinct ordinates of points, by how often two sampled points
-    /// have the same.
+    /// An estimate of the number of distinct ordinates of points.
     pub(crate) fn lines(&self) -> u128 {
+        self.lines
+    }
+
+    /// That number, by how often two sampled points have the same ordinate.
+    fn estimated_lines(&self) -> u128 {
         let many = self.ordinates.len() as u128;
         let mut meetings: u128 = 0;
         let mut before = None;
@@ -152,7 +214,7 @@ impl Sample {
     /// How far apart along `y` sampled points are that are neighbors along `x`, on average, in
     /// 256ths of a third of the height. It is about 256 if shapes are scattered, and less if they
     /// are along a slope.
-    fn scattering(&self) -> u128 {
+    fn estimated_scattering(&self) -> u128 {
         let mut apart: u128 = 0;
         let mut before: Option<Point> = None;
         for point in &self.points {
@@ -176,18 +238,12 @@ impl Sample {
     /// The height of the part of a column that has shapes, on average, if there are `columns`
     /// columns, in units.
     pub(crate) fn room(&self, columns: u128) -> u128 {
-        let part = self.scattering().max(over(256, columns));
+        let part = self.scattering.max(over(256, columns));
         (self.height().saturating_mul(part) / 256).max(1)
     }
 
     /// The least and the greatest abscissa of the sampled rings.
     pub(crate) fn borders(&self) -> (i64, i64) {
-        let mut left = i64::MAX;
-        let mut right = i64::MIN;
-        for outline in &self.outlines {
-            left = left.min(outline.left);
-            right = right.max(outline.right);
-        }
-        (left, right)
+        (self.bounds.x0, self.bounds.x1)
     }
 }

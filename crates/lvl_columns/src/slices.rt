@@ -22,7 +22,7 @@ pub struct Slices {
     low: i64,
     /// The height of each slice is two to the power of this.
     shift: u32,
-    edges: u128,
+    edges: usize,
 }
 
 /// The least and the greatest ordinate of points.
@@ -85,19 +85,19 @@ impl Slices {
 
     /// The number of vertical edges.
     pub(crate) fn edges(&self) -> u128 {
-        self.edges
+        self.edges as u128
     }
 
     /// The passes of a sweep if all edges of each slice were alive at all of its ordinates: at
     /// least the true number, and close to it if slices have few edges.
     pub(crate) fn passes(&self) -> u128 {
-        let rows = 1u128.checked_shl(self.shift).unwrap_or(u128::MAX);
+        let rows = 1usize.checked_shl(self.shift).unwrap_or(usize::MAX);
         let mut alive: usize = 0;
         let mut passes: u128 = 0;
         for slice in &self.slices {
             alive = alive.saturating_add(slice.begun);
-            let ends = slice.begun.saturating_add(slice.ended) as u128;
-            passes = passes.saturating_add(ends.min(rows).saturating_mul(alive as u128));
+            let ends = slice.begun.saturating_add(slice.ended).min(rows);
+            passes = passes.saturating_add(ends as u128 * alive as u128);
             alive = alive.saturating_sub(slice.ended);
         }
         passes

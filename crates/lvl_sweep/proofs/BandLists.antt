@@ -28,6 +28,16 @@ pair_is i j e f =
     let whole : build i.0 i.1 ≡ build j.0 j.1 = rw (e, f) refl in
     whole
 
+-- two intervals are compared by both ends
+pub pair_decides : (i j : ℤ × ℤ) → Decides (int_eq i.0 j.0 && int_eq i.1 j.1) (i ≡ j)
+pair_decides i j = (
+  λ h.
+      let both = and_parts (int_eq i.0 j.0) (int_eq i.1 j.1) h in
+      pair_is i j ((Decides-int_eq i.0 j.0).0 both.0) ((Decides-int_eq i.1 j.1).0 both.1),
+  λ e. rw e (and_from (int_eq j.0 j.0) (int_eq j.1 j.1) ((Decides-int_eq j.0 j.0).1 refl)
+      ((Decides-int_eq j.1 j.1).1 refl)),
+)
+
 same_row_is : (is js : List (ℤ × ℤ)) → same_row is js ≡ true → is ≡ js
 same_row_is [] [] h = refl
 same_row_is [] (j ∷ js) h = cc

@@ -11,7 +11,6 @@ pub mod RowLists
 pub mod BandLists
 pub mod Orders
 pub mod Walks
-pub mod Forgets
 pub mod Collects
 pub mod Alikes
 pub mod Loads

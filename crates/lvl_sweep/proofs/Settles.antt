@@ -1,8 +1,10 @@
 -- The bands of a sweep, one after another.
-use Rattle.std.proofs.Common.{◌≡◌, ◌≢◌, ◌<◌, Bool, true, false, cond, List, [], ◌∷◌, length, ℤ, ◌<ℤ◌, ◌≤ℤ◌, Some}
-use Rattle.std.proofs.Common.{IsTrue, refl, sym, ◌∙◌, arith, subst}
+use Rattle.std.proofs.Common.{◌≡◌, ◌≢◌, ◌<◌, Bool, true, false, cond, List, [], ◌∷◌, length, ◌≤◌, ◌*◌, ◌+◌, ℤ, ◌<ℤ◌}
+use Rattle.std.proofs.Common.{◌≤ℤ◌, Some, IsTrue, refl, sym, ◌∙◌, arith, subst}
 use Rattle.std.proofs.lemmas.Int.{ints, by_lt_z}
 use Rattle.std.proofs.lemmas.List.Elements.{All-filter}
+use Rattle.std.specs.Global.{Vec}
+use Rattle.std.specs.Vec.{vec_len, vec_capacity}
 use Rattle.lvl_grid.specs.declared.point.Point.{Point}
 use Rattle.lvl_sweep.specs.declared.edge.Edge.{Edge}
 use Rattle.lvl_sweep.specs.declared.band.Band.{Band}
@@ -12,14 +14,29 @@ use Rattle.lvl_sweep.specs.inside.Alive.{alive, AreEdgesOf, HasSame}
 use Rattle.lvl_sweep.specs.inside.Rows.{Balanced, alive_at, row_at, bands_from}
 use Rattle.lvl_sweep.specs.inside.Strips.{IsAt, IsTop, IsOver, left}
 use Rattle.lvl_sweep.specs.Bands.{slab_of, AreBandsOf}
-use Rattle.lvl_sweep.specs.inside.Sweeps.{IsHeld}
+use Rattle.lvl_sweep.specs.inside.Sweeps.{IsHeld, IsRead}
 use Rattle.lvl_sweep.proofs.Alive.{inside_is_covered}
-use Rattle.lvl_sweep.proofs.Alikes.{left_alike, row_at_alike}
+use Rattle.lvl_sweep.proofs.Alikes.{as_long, left_alike, row_at_alike}
 use Rattle.lvl_sweep.proofs.Insides.{inside_is}
 use Rattle.lvl_sweep.proofs.BandLists.{bands_none, bands_skip, bands_first, bands_are, AreSlabsOf}
 
 pub smaller : (es fs : List Edge) (y z t : ℤ) → HasSame es fs → z ≡ t → left es t < left es y → left fs z < left es y
 smaller es fs y z t e f h = rw (left_alike es fs z e, f) h
+
+-- after a strip has been read into a list that has room, there is room for those of the next
+pub has_room : (es fs : List Edge) (row : Vec (ℤ × ℤ)) → HasSame es fs → length es ≤ 2 * vec_capacity row + 1
+    → length fs ≤ 2 * vec_capacity row + 1
+has_room es fs row same room = omega (arith, as_long es fs same, room)
+
+-- the list has the intervals of a strip that were taken from it
+pub read : (s t : Strips) (old new : Vec (ℤ × ℤ)) → new.items ≡ row_at s.edges.items s.y
+    → 2 * vec_len new ≤ length s.edges.items → length s.edges.items ≤ 2 * vec_capacity old + 1
+    → vec_capacity new ≡ vec_capacity old → t.edges.items ≡ s.edges.items → t.y ≡ s.y → IsRead t new
+read s t old new row few room capacity edges here = record {
+  items = rw (edges, here) row;
+  few = rw edges few;
+  room = rw edges (omega (arith, room, capacity));
+}
 
 -- a strip without intervals is passed
 pub strip_skipped : (s : Strips) (t : ℤ) (is : List (ℤ × ℤ)) → IsTop s t → is ≡ row_at s.edges.items s.y → is ≡ []

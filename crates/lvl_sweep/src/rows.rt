@@ -1,5 +1,5 @@
 //! The first difference of two rows of intervals, and of two bands.
-ghost use Rattle.std.specs.Prelude.{◌≡◌, ◌≢◌, ℤ, ◌<ℤ◌, IfNone, IfSome};
+ghost use Rattle.std.specs.Prelude.{◌≡◌, ◌≢◌, ◌↔◌, ℤ, ◌<ℤ◌, IsTrue, IfNone, IfSome};
 ghost use Rattle.std.specs.List.{list_any};
 ghost use Rattle.lvl_sweep.specs.Slab.{spans, AreIntervals};
 ghost use Rattle.lvl_sweep.specs.Bands.{slab_of};
@@ -45,6 +45,13 @@ pub(crate) fn row_difference(first: &[(i64, i64)], second: &[(i64, i64)]) -> Opt
         return Some((second[common].0, Side::Second));
     }
     None
+}
+
+/// Whether two rows have the same intervals.
+pub(crate) fn are_same(first: &[(i64, i64)], second: &[(i64, i64)]) -> bool
+    ensures { IsTrue result ↔ (first.now ≡ second.now) }
+{
+    first == second
 }
 
 /// What the first bands on two sides say about the rows from some row on.

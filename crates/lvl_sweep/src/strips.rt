@@ -1,5 +1,5 @@
 //! Strips: the rows between consecutive ordinates at which edges begin or end, from the lowest on.
-ghost use Rattle.std.specs.Prelude.{◌≡◌, ◌<◌, ◌≤◌, ◌+◌, ◌*◌, length, [], ℤ, ◌<ℤ◌, ◌≤ℤ◌, slice_index_or, IsTrue, ◌↔◌};
+ghost use Rattle.std.specs.Prelude.{◌≡◌, ◌<◌, ◌≤◌, ◌+◌, ◌*◌, length, [], ℤ, ◌<ℤ◌, ◌≤ℤ◌, slice_index_or};
 ghost use Rattle.std.specs.Prelude.{IfOk, IfSome, IfNone, count_by};
 ghost use Rattle.std.specs.List.{AllWithin};
 ghost use Rattle.std.specs.Vec.{vec_len, vec_capacity};
@@ -11,7 +11,7 @@ ghost use Rattle.lvl_sweep.specs.declared.edge.Edge.{Edge as EdgeValue};
 
 use crate::edge::{Edge, edges_of};
 use crate::merge::renew;
-use crate::walk::{collect_row, is_row};
+use crate::walk::collect_row;
 use crate::windings::Windings;
 use lvl_grid::RingList;
 use std::alloc::{AllocError, Global};
@@ -125,20 +125,5 @@ impl Strips {
             &mut self.windings,
             intervals,
         );
-    }
-
-    /// Whether the intervals of the strip are these.
-    pub(crate) fn matches(&mut self, intervals: &[(i64, i64)]) -> bool
-        requires { IsAt self.old }
-        ensures at { IsAt self.new }
-        ensures here { self.new.y ≡ self.old.y }
-        ensures edges { self.new.edges.items ≡ self.old.edges.items }
-        ensures same { IsTrue result ↔ (row_at self.old.edges.items self.old.y ≡ intervals.now) }
-    {
-        is_row(
-            &self.edges[self.from..self.next],
-            &mut self.windings,
-            intervals,
-        )
     }
 }

@@ -1,5 +1,5 @@
 //! The walk over the edges of one row, from left to right, that finds the intervals covered there.
-ghost use Rattle.std.specs.Prelude.{◌≡◌, ◌≢◌, ◌<◌, ◌≤◌, ◌+◌, ◌*◌, ◌++◌, ◌∷◌, [], ℕ, length, not, false, IsTrue, ◌↔◌};
+ghost use Rattle.std.specs.Prelude.{◌≡◌, ◌≢◌, ◌<◌, ◌≤◌, ◌+◌, ◌*◌, ◌++◌, ◌∷◌, [], ℕ, length, not, false, IsTrue};
 ghost use Rattle.std.specs.Prelude.{IfSome, IfNone, slice_index_or};
 ghost use Rattle.std.specs.Vec.{vec_len, vec_capacity};
 ghost use Rattle.lvl_sweep.specs.declared.edge.Edge.{Edge as EdgeValue};
@@ -101,19 +101,6 @@ fn next_interval(
     Some((start, end))
 }
 
-/// Sets the counts back to 0 after `at` edges were passed.
-fn forget(active: &[Edge], at: usize, windings: &mut Windings)
-    requires row { IsRowOf active.now (length windings.old.counts.items) }
-    requires passed { HasPassed active.now at windings.old }
-    ensures rest { AreAtRest windings.new }
-    ensures rings { length windings.new.counts.items ≡ length windings.old.counts.items }
-{
-    for i in 0..at {
-        windings.counts[active[i].ring as usize] = 0;
-    }
-    windings.turning = 0;
-}
-
 /// Replaces `intervals` by the intervals that the edges of a row cover.
 pub(crate) fn collect_row(active: &[Edge], windings: &mut Windings, intervals: &mut Vec<(i64, i64)>)
     requires row { IsRowOf active.now (length windings.old.counts.items) }
@@ -130,24 +117,4 @@ pub(crate) fn collect_row(active: &[Edge], windings: &mut Windings, intervals: &
     while let Some(interval) = next_interval(active, &mut position, windings) {
         intervals.push_reserved(interval);
     }
-}
-
-/// Whether the edges of a row cover exactly these intervals.
-pub(crate) fn is_row(active: &[Edge], windings: &mut Windings, intervals: &[(i64, i64)]) -> bool
-    requires row { IsRowOf active.now (length windings.old.counts.items) }
-    requires rest { AreAtRest windings.old }
-    ensures same { IsTrue result ↔ (row active.now ≡ intervals.now) }
-    ensures rest { AreAtRest windings.new }
-    ensures rings { length windings.new.counts.items ≡ length windings.old.counts.items }
-{
-    let mut position = WalkPosition { at: 0, x: None };
-    let mut seen = 0;
-    while let Some(interval) = next_interval(active, &mut position, windings) {
-        if seen == intervals.len() || intervals[seen] != interval {
-            forget(active, position.at, windings);
-            return false;
-        }
-        seen += 1;
-    }
-    seen == intervals.len()
 }

@@ -1,5 +1,6 @@
 -- The bands of a sweep: the one that it holds, and those still to come.
 use Rattle.std.specs.Prelude.{◌≡◌, ◌≢◌, ◌+◌, ◌*◌, ◌≤◌, Bool, List, [], ◌∷◌, length, ℤ, ◌<ℤ◌, ◌≤ℤ◌, Some, cond}
+use Rattle.std.specs.Global.{Vec}
 use Rattle.std.specs.Vec.{vec_len, vec_capacity}
 use Rattle.lvl_sweep.specs.declared.edge.Edge.{Edge}
 use Rattle.lvl_sweep.specs.declared.band.Band.{Band}
@@ -20,8 +21,15 @@ pub record IsHeld (es : List Edge) (b : Band) (y : ℤ) : Type 0 where
 abbrev pub bands_of : Strips → Band → Bool → List Slab
 bands_of strips band held = cond held (slab_of band ∷ bands_from strips.edges.items (Some strips.y)) []
 
--- the band has at most half as many intervals as there are edges, and room for that many
-pub record IsSweep (strips : Strips) (band : Band) : Type 0 where
+-- the list has the intervals of the present strip, at most half as many as there are edges, and room for that many
+pub record IsRead (strips : Strips) (row : Vec (ℤ × ℤ)) : Type 0 where
+  pub items : row.items ≡ row_at strips.edges.items strips.y
+  pub few : 2 * vec_len row ≤ length strips.edges.items
+  pub room : length strips.edges.items ≤ 2 * vec_capacity row + 1
+
+-- the row is read, and the band also has at most half as many intervals as there are edges, and room for that many
+pub record IsSweep (strips : Strips) (band : Band) (row : Vec (ℤ × ℤ)) : Type 0 where
   pub at : IsAt strips
+  pub read : IsRead strips row
   pub few : 2 * vec_len band.intervals ≤ length strips.edges.items
   pub room : length strips.edges.items ≤ 2 * vec_capacity band.intervals + 1
