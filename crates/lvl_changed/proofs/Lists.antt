@@ -1,6 +1,8 @@
 -- Lists, one element further.
 use Rattle.std.proofs.Common.{◌≡◌, ◌+◌, ◌++◌, ◌∷◌, [], ℕ, List, Option, Some, None, take, slice_get, sym, ap, ◌∙◌, subst}
 use Rattle.std.proofs.Common.{◌≢◌, ◌<◌, ◌⊎◌, inl, inr, Contains, get_or, set, length, refl, arith, ℤ}
+use Rattle.std.proofs.Common.{Bool, true, false, ◌&&◌, nat_eq, int_eq}
+use Rattle.std.proofs.lemmas.Bool.Decides.{Decides-eqb, Decides-int_eq}
 use Rattle.lvl_grid.specs.declared.point.Square.{Square}
 use Rattle.lvl_grid.specs.declared.point.Window.{Window}
 use Rattle.lvl_names.specs.declared.layer.Layer.{Layer}
@@ -78,3 +80,19 @@ pub same_square : (p q : Square) → p.x ≡ q.x → p.y ≡ q.y → p ≡ q
 same_square p q a b =
     let at : (m n : ℤ) → Square = λ m n. record { x = m; y = n } in
     ap (λ m. at m p.y) a ∙ ap (at q.x) b
+
+both_true : (a b : Bool) → true ≡ (a && b) → (a ≡ true) × (b ≡ true)
+both_true true true e = (refl, refl)
+both_true true false e = cc
+both_true false b e = cc
+
+-- and Layers and squares that a test finds equal
+pub equal_layers : (k l : Layer) → true ≡ (nat_eq k.layer l.layer && nat_eq k.datatype l.datatype) → k ≡ l
+equal_layers k l e =
+    let both = both_true (nat_eq k.layer l.layer) (nat_eq k.datatype l.datatype) e in
+    same_layer k l ((Decides-eqb k.layer l.layer).0 both.0) ((Decides-eqb k.datatype l.datatype).0 both.1)
+
+pub equal_squares : (p q : Square) → true ≡ (int_eq p.x q.x && int_eq p.y q.y) → p ≡ q
+equal_squares p q e =
+    let both = both_true (int_eq p.x q.x) (int_eq p.y q.y) e in
+    same_square p q ((Decides-int_eq p.x q.x).0 both.0) ((Decides-int_eq p.y q.y).0 both.1)

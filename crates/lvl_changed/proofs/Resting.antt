@@ -1,18 +1,19 @@
 -- Layouts without references, and what is left of two of them.
-use Rattle.std.proofs.Common.{◌≡◌, ◌↔◌, ◌∷◌, ℕ, zero, suc, List, [], Some, slice_get, inl, inr, refl, sym, ap, subst}
+use Rattle.std.proofs.Common.{◌≡◌, ◌↔◌, ◌∷◌, ℕ, zero, suc, List, [], Some, slice_get, inl, inr, refl, subst}
 use Rattle.lvl_grid.specs.declared.point.Square.{Square}
 use Rattle.lvl_grid.proofs.Anyone.{Any-nil}
 use Rattle.lvl_names.specs.declared.layer.Layer.{Layer}
 use Rattle.lvl_cells.specs.Cells.{PlainCell, PlainReference, PlainShape, Rings}
 use Rattle.lvl_cells.specs.Checks.{Settled}
 use Rattle.lvl_flat.specs.Flattened.{TopCovers}
+use Rattle.lvl_flat.specs.inside.Visits.{PickCovers}
 use Rattle.lvl_region.specs.declared.region.Side.{Side}
 use Rattle.lvl_region.specs.Region.{IsAlone}
 use Rattle.lvl_compare.specs.Tops.{Draws, DrawSame, IsFirstDifference}
 use Rattle.lvl_view.specs.declared.map.LayerPair.{LayerPair}
 use Rattle.lvl_view.specs.Moved.{IsMoved}
 use Rattle.lvl_changed.specs.inside.Figures.{AreLeft}
-use Rattle.lvl_changed.specs.inside.Placements.{PickCovers, ReferencesCover}
+use Rattle.lvl_changed.specs.inside.Placements.{ReferencesCover}
 use Rattle.lvl_changed.specs.inside.Rests.{AreSameWhere}
 use Rattle.lvl_changed.specs.inside.Shapes.{ShapesCover}
 use Rattle.lvl_changed.proofs.Leaving.{left_alike_at}

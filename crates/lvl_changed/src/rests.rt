@@ -146,10 +146,13 @@ fn side_at(
     };
     let windows = slice::from_ref(&window);
     let found = difference_in_windows(alloc, first, second, view, windows, usize::MAX)?;
-    match found {
-        Some((on, at, side)) if on == layer && at == square => Ok(Some(side)),
-        _ => Ok(None),
+    let Some((on, at, side)) = found else {
+        return Ok(None);
+    };
+    if on == layer && at == square {
+        return Ok(Some(side));
     }
+    Ok(None)
 }
 
 /// The number of own shapes of the tops of two layouts.

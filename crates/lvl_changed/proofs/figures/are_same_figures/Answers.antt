@@ -1,7 +1,6 @@
-use Rattle.std.proofs.Common.{◌≡◌, ◌<◌, ◌↔◌, List, [], length, get_or, take, sym, subst, arith}
+use Rattle.std.proofs.Common.{◌<◌, ◌↔◌, List, [], length, get_or, take, subst, arith}
 use Rattle.std.proofs.lemmas.List.{take_all}
 use Rattle.lvl_grid.specs.declared.point.Point.{Point}
-use Rattle.lvl_grid.specs.declared.point.Square.{Square}
 use Rattle.lvl_grid.specs.Winding.{Covers, SomeCovers}
 use Rattle.lvl_cells.specs.Cells.{Rings, shape_at}
 use Rattle.lvl_changed.proofs.Leaving.{figures_more}

@@ -1,9 +1,7 @@
-use Rattle.std.proofs.Common.{◌≡◌, ◌&&◌, ◌↔◌, true, int_eq, List, sym, subst, arith}
+use Rattle.std.proofs.Common.{◌≡◌, sym, subst, arith}
 use Rattle.std.proofs.lemmas.Int.{ints}
-use Rattle.lvl_grid.specs.declared.point.Point.{Point}
 use Rattle.lvl_grid.specs.declared.point.Window.{Window}
 use Rattle.lvl_grid.specs.Clip.{IsInWindow}
-use Rattle.lvl_grid.specs.Winding.{Covers}
 use Rattle.lvl_changed.proofs.Lists.{same_window}
 use Rattle.lvl_changed.proofs.figures.are_same_rings.Goals as goal
 

@@ -1,5 +1,4 @@
-use Rattle.std.proofs.Common.{◌≡◌, ap, sym, ◌∙◌, arith}
-use Rattle.lvl_names.specs.declared.layer.Layer.{Layer}
+use Rattle.std.proofs.Common.{ap, sym, ◌∙◌, arith}
 use Rattle.lvl_view.specs.Views.{target_of}
 use Rattle.lvl_changed.proofs.Lists.{same_layer}
 use Rattle.lvl_changed.proofs.figures.are_same_shapes.Goals as goal

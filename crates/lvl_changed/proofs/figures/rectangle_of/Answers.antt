@@ -1,4 +1,4 @@
-use Rattle.std.proofs.Common.{◌≡◌, ◌↔◌, [], ◌∷◌, List, Some, None, refl, sym, slice_get, subst}
+use Rattle.std.proofs.Common.{◌≡◌, ◌↔◌, [], ◌∷◌, List, sym, subst}
 use Rattle.std.specs.Prelude.{IfSome}
 use Rattle.lvl_grid.specs.declared.point.Point.{Point}
 use Rattle.lvl_grid.specs.declared.point.Square.{Square}

@@ -1,10 +1,5 @@
-use Rattle.std.proofs.Common.{◌≡◌, ◌↔◌, [], true, List, not_false, ap, sym, ◌∙◌, subst}
-use Rattle.lvl_grid.specs.declared.point.Square.{Square}
-use Rattle.lvl_names.specs.declared.layer.Layer.{Layer}
-use Rattle.lvl_cells.specs.Cells.{PlainCell, PlainReference, PlainShape, Rings}
-use Rattle.lvl_flat.specs.Flattened.{TopCovers}
-use Rattle.lvl_view.specs.declared.map.LayerPair.{LayerPair}
-use Rattle.lvl_changed.specs.inside.Figures.{AreLeft}
+use Rattle.std.proofs.Common.{◌≡◌, [], ap, sym, ◌∙◌}
+use Rattle.lvl_cells.specs.Cells.{PlainCell, Rings}
 use Rattle.lvl_changed.proofs.Resting.{rests_same}
 use Rattle.lvl_changed.proofs.rests.rests_of.Goals as goal
 
@@ -12,8 +7,11 @@ pub returns : goal.returns
 returns c =
     let first : PlainCell Rings = c.top_of-first.result.now in
     let second : PlainCell Rings = c.top_of-second.result.now in
-    let ours : first.references ≡ [] = c.is_empty.ensures.0 c.if-not-is_empty.false in
-    let theirs : second.references ≡ [] = c.is_empty-else-not-is_empty.ensures.0 c.if-not-is_empty-2.false in
+    let ours : first.references ≡ [] =
+    sym (ap (λ (b : PlainCell Rings). b.references) c.first.view_is) ∙ c.is_empty.ensures.0 c.if-not-is_empty.false in
+    let theirs : second.references ≡ [] =
+    sym (ap (λ (b : PlainCell Rings). b.references) c.second.view_is)
+    ∙ c.is_empty-else-not-is_empty.ensures.0 c.if-not-is_empty-2.false in
     let rest = rw c.in-Some-2.is at c.in_ok-rest.ensures in
     let other = rw c.in-Some-3.is at c.in_ok-their_rest.ensures in
     rests_same c.whole-whole.result.pairs c.args.pair.now.view.now.pairs c.args.pair.now.first.now

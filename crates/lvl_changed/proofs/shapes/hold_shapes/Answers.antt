@@ -19,7 +19,7 @@ pub returns-then-saturating_add-le-MOST_FLATTENED-clause-held : goal.returns-the
 returns-then-saturating_add-le-MOST_FLATTENED-clause-held c =
     left_alike c.whole-whole.result.pairs c.args.view.now.pairs c.args.ours.now.shapes c.args.theirs.now.shapes
     c.in_ok-left.left.shapes c.in_ok-their_left.their_left.shapes c.hold_flattened.new.area
-    c.whole-whole.ensures.no_pairs c.in_ok-left.ensures c.in_ok-their_left.ensures c.in_ok-hold_flattened.ensures.held
+    c.whole-whole.ensures.no_pairs c.in_ok-left.ensures.left c.in_ok-their_left.ensures.left c.in_ok-hold_flattened.ensures.held
 
 pub returns-clause-held : goal.returns-clause-held
 returns-clause-held c =
@@ -35,7 +35,7 @@ returns-clause-held c =
     subst (Misses new pairs) (ap (λ (b : PlainCell Rings). b.shapes) c.their_left.view_is)
     c.in_ok-hold_extents-2.ensures.held in
     left_alike c.whole-whole.result.pairs c.args.view.now.pairs c.args.ours.now.shapes c.args.theirs.now.shapes left
-    other new c.whole-whole.ensures.no_pairs c.in_ok-left.ensures c.in_ok-their_left.ensures
+    other new c.whole-whole.ensures.no_pairs c.in_ok-left.ensures.left c.in_ok-their_left.ensures.left
     (none_alike none pairs left other old new c.whole-whole.ensures.no_pairs c.in_ok-hold_extents-2.ensures.kept first second)
 
 pub returns-clause-kept : goal.returns-clause-kept
