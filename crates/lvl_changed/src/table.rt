@@ -25,6 +25,22 @@ struct Slot {
     next: u32,
 }
 
+/// What is found in the slot of a key: one more than the index of a reference with this key, or zero.
+#[derive(Clone, Copy)]
+pub(crate) struct Look {
+    next: u32,
+}
+
+impl Look {
+    /// Nothing is found.
+    pub(crate) const NOTHING: Look = Look { next: 0 };
+
+    /// The index of the reference that is found.
+    pub(crate) fn reference(self) -> Option<usize> {
+        (self.next as usize).checked_sub(1)
+    }
+}
+
 /// The references of a cell, each in the slot of its key or soon after it. Of those that place the same
 /// there is one.
 #[derive(Drop)]
@@ -75,6 +91,18 @@ impl Table {
         let slots = self.slots.len().saturating_sub(MOST_TRIED);
         let product = u128::from(key) * slots as u128;
         (product >> 64) as usize
+    }
+
+    /// What is in the slots of some keys, of as many as there are places for. The memory is waited for once for all
+    /// of them.
+    pub(crate) fn look(&self, keys: &[u64], looks: &mut [Look]) {
+        for (look, key) in looks.iter_mut().zip(keys) {
+            let slot = self.slots.get(self.slot_of(*key)).copied();
+            *look = match slot {
+                Some(Slot { part, next }) if part == part_of(*key) => Look { next },
+                _ => Look::NOTHING,
+            };
+        }
     }
 
     /// The slot with a key from its own slot on, or the first empty one, or None if neither is near.

@@ -4,12 +4,15 @@
 ghost use Rattle.std.specs.Prelude.{◌<◌, length};
 
 use crate::figures::Seen;
-use crate::table::Table;
+use crate::table::{Look, Table};
 use std::alloc::{AllocError, Global};
 use std::hash::{FoldHasher, Hasher};
 
 /// No shape.
 const NONE: u32 = u32::MAX;
+
+/// How many shapes are looked up together, since each looked up by itself would wait for the memory.
+const TOGETHER: usize = 64;
 
 /// The number of shapes of the first list that are looked for in the second by a sample.
 const SAMPLED: u64 = 128;
@@ -78,18 +81,27 @@ impl Classes {
         }
     }
 
-    /// Adds a shape of the first list. Returns the one that stands for it.
-    fn add(&mut self, key: u64, shape: usize) -> u32 {
-        let Some(first) = self.table.put(key, shape) else {
+    /// Adds a shape of the first list. Returns the one that stands for it, which may have been found before.
+    fn add(&mut self, key: u64, shape: usize, found: Option<usize>) -> u32 {
+        let before = match found {
+            Some(first) => Some(first),
+            None => self.table.put(key, shape),
+        };
+        let Some(first) = before else {
             return word(shape);
         };
         self.repeat(first);
         word(first)
     }
 
-    /// Adds a shape of the second list. Returns the one of the first list that stands for it.
-    fn join(&mut self, key: u64, shape: usize) -> u32 {
-        let Some(first) = self.table.find(key) else {
+    /// Adds a shape of the second list. Returns the one of the first list that stands for it, which may have been
+    /// found before.
+    fn join(&mut self, key: u64, shape: usize, found: Option<usize>) -> u32 {
+        let there = match found {
+            Some(first) => Some(first),
+            None => self.table.find(key),
+        };
+        let Some(first) = there else {
             return NONE;
         };
         match self.found.get_mut(first) {
@@ -106,6 +118,68 @@ impl Classes {
     }
 }
 
+/// The keys of the shapes of a list from an index on, of as many as are looked up together.
+fn keys_from(seen: Seen<'_>, start: usize) -> [u64; TOGETHER] {
+    let mut keys = [0; TOGETHER];
+    for k in 0..TOGETHER {
+        let shape = start.saturating_add(k);
+        if shape < seen.shapes.len() {
+            keys[k] = seen.key(shape);
+        }
+    }
+    keys
+}
+
+/// What is found of these shapes before any of them is added.
+fn looks_from(table: &Table, keys: &[u64; TOGETHER]) -> [Look; TOGETHER] {
+    let mut looks = [Look::NOTHING; TOGETHER];
+    table.look(keys, &mut looks);
+    looks
+}
+
+/// How many times shapes are looked up together.
+fn rounds(seen: Seen<'_>) -> usize {
+    (seen.shapes.len() / TOGETHER).saturating_add(1)
+}
+
+/// Adds the shapes of the first list. Returns for each the one that stands for it.
+fn add_all(alloc: Global, classes: &mut Classes, ours: Seen<'_>) -> Result<Vec<u32>, AllocError> {
+    let mut firsts = Vec::with_capacity(alloc, ours.shapes.len())?;
+    for round in 0..rounds(ours) {
+        let start = round.saturating_mul(TOGETHER);
+        let keys = keys_from(ours, start);
+        let looks = looks_from(&classes.table, &keys);
+        for k in 0..TOGETHER {
+            let shape = start.saturating_add(k);
+            if shape < ours.shapes.len() {
+                firsts.push(classes.add(keys[k], shape, looks[k].reference()))?;
+            }
+        }
+    }
+    Ok(firsts)
+}
+
+/// Adds the shapes of the second list. Returns for each the one of the first list that stands for it.
+fn join_all(
+    alloc: Global,
+    classes: &mut Classes,
+    theirs: Seen<'_>,
+) -> Result<Vec<u32>, AllocError> {
+    let mut firsts = Vec::with_capacity(alloc, theirs.shapes.len())?;
+    for round in 0..rounds(theirs) {
+        let start = round.saturating_mul(TOGETHER);
+        let keys = keys_from(theirs, start);
+        let looks = looks_from(&classes.table, &keys);
+        for k in 0..TOGETHER {
+            let shape = start.saturating_add(k);
+            if shape < theirs.shapes.len() {
+                firsts.push(classes.join(keys[k], shape, looks[k].reference()))?;
+            }
+        }
+    }
+    Ok(firsts)
+}
+
 /// The twins of the shapes of two lists.
 pub(crate) fn twins_of(
     alloc: Global,
@@ -114,14 +188,8 @@ pub(crate) fn twins_of(
     repeated: Repeated,
 ) -> Result<Twins, AllocError> {
     let mut classes = Classes::new(alloc, ours.shapes.len())?;
-    let mut our_twins = Vec::with_capacity(alloc, ours.shapes.len())?;
-    for i in 0..ours.shapes.len() {
-        our_twins.push(classes.add(ours.key(i), i))?;
-    }
-    let mut their_twins = Vec::with_capacity(alloc, theirs.shapes.len())?;
-    for j in 0..theirs.shapes.len() {
-        their_twins.push(classes.join(theirs.key(j), j))?;
-    }
+    let mut our_twins = add_all(alloc, &mut classes, ours)?;
+    let mut their_twins = join_all(alloc, &mut classes, theirs)?;
     for twin in &mut our_twins {
         let first = *twin;
         *twin = if classes.has_twins(first, repeated) {
