@@ -91,13 +91,17 @@ fn many_twins(
 }
 
 /// What is left of two layouts whose tops have no references, without the shapes that both have. None if there are
-/// few of these, or if what is left isn't accepted as a layout.
+/// few of these, if only a window is compared, so that most shapes needn't be looked at again, or if what is left
+/// isn't accepted as a layout.
 fn rests_of(alloc: Global, pair: &Pair<'_>) -> Result<Option<(Fitted, Fitted)>, AllocError>
     ensures { IfOk result (λ found. IfSome found (λ rests. AreSameWhere (ours pair.now) (theirs pair.now)
         (TopCovers rests.0) (IsMoved pair.now.view.now.pairs (TopCovers rests.1)))) }
 {
     let (first, second) = (top_of(pair.first), top_of(pair.second));
     if !first.references.is_empty() || !second.references.is_empty() {
+        return Ok(None);
+    }
+    if pair.view.window().is_some() {
         return Ok(None);
     }
     let whole = View::whole(alloc);
@@ -129,6 +133,7 @@ fn side_at(
     pair: &Pair<'_>,
     layer: Layer,
     square: Square,
+    most: usize,
 ) -> Result<Option<Side>, AllocError>
     ensures { IfOk result (λ found. IfSome found
         (λ side. IsAlone (ours pair.now layer) (theirs pair.now layer) square side)) }
@@ -145,7 +150,7 @@ fn side_at(
         y1: square.y.saturating_add(1),
     };
     let windows = slice::from_ref(&window);
-    let found = difference_in_windows(alloc, first, second, view, windows, usize::MAX)?;
+    let found = difference_in_windows(alloc, first, second, view, windows, most)?;
     let Some((on, at, side)) = found else {
         return Ok(None);
     };
@@ -186,7 +191,7 @@ pub(crate) fn known_by_rests(
     else {
         return Ok(Known::Same);
     };
-    match side_at(alloc, pair, layer, square)? {
+    match side_at(alloc, pair, layer, square, most)? {
         Some(side) => Ok(Known::Differ(layer, square, side)),
         None => Ok(Known::Nothing),
     }
