@@ -72,7 +72,8 @@ fn changes_to_compare(alloc: Global, pair: &Pair<'_>) -> Result<Option<Changes>,
 /// If cells are placed often enough for it to pay, only what [`changed`] finds is compared: its
 /// windows, and on its Layers only if these are few. Otherwise, or if the windows are more than half
 /// of the layout and the Layers aren't few, everything is: see [`difference_by_strips`], which also
-/// explains `most`. Fails only if out of memory.
+/// explains `most`. Of two tops without references, the shapes that both have are left out first, if
+/// these are many and the view has no window. Fails only if out of memory.
 pub fn difference_by_changes(
     alloc: Global,
     first: &Fitted,

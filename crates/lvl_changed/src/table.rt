@@ -1,4 +1,5 @@
-//! Tables that lead from what a reference places to a reference of another cell that places the same.
+//! Tables that lead from a key to an index: from what a reference places to a reference of another cell that
+//! places the same, and from what a shape draws to a shape.
 //!
 //! They only guide the search, so they have no contracts.
 ghost use Rattle.std.specs.Prelude.{◌<◌, length, IfSome, vec_len};
