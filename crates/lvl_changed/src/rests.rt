@@ -72,7 +72,7 @@ fn layout_of(alloc: Global, cell: Cell) -> Result<Option<Fitted>, AllocError>
     }
 }
 
-/// Which shapes of two tops may be the same, or None if they have few in common, or references, or are small.
+/// Which shapes of two tops may be the same, or None if they have few in common or few at all.
 fn many_twins(
     alloc: Global,
     ours: Seen<'_>,

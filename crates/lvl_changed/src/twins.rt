@@ -36,12 +36,12 @@ pub(crate) struct Twins {
     pub theirs: Vec<u32>,
 }
 
-/// Shapes of two lists by their keys, while twins are looked for. A shape of the first list stands for all
-/// that have its key.
+/// Shapes of two lists by their keys, while twins are looked for. Of the first list, the first shape with a key
+/// represents all that have it.
 #[derive(Drop)]
 struct Classes {
     table: Table,
-    /// For each shape of the second list that is the first with its key, by the shape that stands for it.
+    /// For each shape of the first list that represents a key, the first shape of the second list that has it.
     found: Vec<u32>,
     /// Whether one of the lists has more than one shape with the key.
     are_repeated: Vec<bool>,
@@ -74,14 +74,14 @@ impl Classes {
         })
     }
 
-    /// Notes that a list has more than one shape with the key of a shape of the first list.
+    /// Notes that one of the lists has more than one shape with the key of a shape of the first list.
     fn repeat(&mut self, first: usize) {
         if let Some(is_repeated) = self.are_repeated.get_mut(first) {
             *is_repeated = true;
         }
     }
 
-    /// Adds a shape of the first list. Returns the one that stands for it, which may have been found before.
+    /// Adds a shape of the first list. Returns the one that represents its key, which may have been found before.
     fn add(&mut self, key: u64, shape: usize, found: Option<usize>) -> u32 {
         let before = match found {
             Some(first) => Some(first),
@@ -94,8 +94,8 @@ impl Classes {
         word(first)
     }
 
-    /// Adds a shape of the second list. Returns the one of the first list that stands for it, which may have been
-    /// found before.
+    /// Adds a shape of the second list. Returns the one of the first list that represents its key, if there is one,
+    /// which may have been found before.
     fn join(&mut self, key: u64, shape: usize, found: Option<usize>) -> u32 {
         let there = match found {
             Some(first) => Some(first),
@@ -111,7 +111,7 @@ impl Classes {
         word(first)
     }
 
-    /// Whether a shape of the first list stands for shapes that have twins.
+    /// Whether a shape of the first list represents shapes that have twins.
     fn has_twins(&self, first: u32, repeated: Repeated) -> bool {
         let is_repeated = self.are_repeated.get(first as usize) == Some(&true);
         first != NONE && (repeated == Repeated::Paired || !is_repeated)
@@ -142,7 +142,7 @@ fn rounds(seen: Seen<'_>) -> usize {
     (seen.shapes.len() / TOGETHER).saturating_add(1)
 }
 
-/// Adds the shapes of the first list. Returns for each the one that stands for it.
+/// Adds the shapes of the first list. Returns for each the one that represents its key.
 fn add_all(alloc: Global, classes: &mut Classes, ours: Seen<'_>) -> Result<Vec<u32>, AllocError> {
     let mut firsts = Vec::with_capacity(alloc, ours.shapes.len())?;
     for round in 0..rounds(ours) {
@@ -159,7 +159,7 @@ fn add_all(alloc: Global, classes: &mut Classes, ours: Seen<'_>) -> Result<Vec<u
     Ok(firsts)
 }
 
-/// Adds the shapes of the second list. Returns for each the one of the first list that stands for it.
+/// Adds the shapes of the second list. Returns for each the one of the first list that represents its key.
 fn join_all(
     alloc: Global,
     classes: &mut Classes,
