@@ -1,6 +1,6 @@
 //! Builds the library from the records outside of elements and from what elements draw.
-ghost use Rattle.std.specs.Prelude.{◌≡◌, ◌==◌, if◌then◌else◌, ◌<◌, [], ◌∷◌, pos, Some, None, IsTrue, ◌↔◌, OnOk, IfOk, IfErr};
-ghost use Rattle.std.specs.Prelude.{length, List, map};
+ghost use Rattle.std.specs.Prelude.{◌≡◌, ◌==◌, if◌then◌else◌, ◌<◌, [], pos, Some, None, IsTrue, ◌↔◌, OnOk, IfOk, IfErr};
+ghost use Rattle.std.specs.Prelude.{◌∷◌, length, List, map};
 ghost use Rattle.lvl_names.specs.Shifts.{one_place};
 ghost use Rattle.gds_elements.specs.Types.{header, units};
 ghost use Rattle.gds_elements.specs.Meaning.{in_rings, shapes_of, references_of};
