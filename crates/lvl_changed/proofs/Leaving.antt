@@ -104,7 +104,7 @@ shapes_more hs i l s low =
     (Any-push P (take i hs) (shape_at hs i))
 
 -- a shape that others have covers under the map what they do
-alike_covers : (pairs others : List LayerPair) (xs ys : List (PlainShape Rings)) (i j : ℕ) (l : Layer) (s : Square)
+pub alike_covers : (pairs others : List LayerPair) (xs ys : List (PlainShape Rings)) (i j : ℕ) (l : Layer) (s : Square)
     → AreAlike pairs xs i others ys j → IsMoved pairs (λ k q. ShapeCovers SomeCovers k q (shape_at xs i)) l s
     → IsMoved others (ShapesCover ys) l s
 alike_covers pairs others xs ys i j l s same m =

@@ -19,7 +19,9 @@ pub mod Own
 pub mod Missing
 pub mod Boxing
 pub mod Unchanged
+pub mod Uniting
 pub mod Leaving
+pub mod Remaining
 pub mod Resting
 pub mod Tops
 pub mod Rowing

@@ -12,4 +12,5 @@ pub mod Drawing
 pub mod Rows
 pub mod InStep
 pub mod Alone
+pub mod Rectangles
 pub mod Rests

@@ -42,7 +42,7 @@ fn hash_point(hasher: &mut FoldHasher, point: Point) {
 }
 
 /// The window of the squares that a ring covers, if it is a rectangle of four points.
-fn rectangle_of(ring: &MovedRing<'_>) -> Option<Window>
+pub(crate) fn rectangle_of(ring: &MovedRing<'_>) -> Option<Window>
     ensures { IfSome result (λ window. (s : Square) → Covers ring.now s ↔ IsInWindow window s) }
 {
     let (Some(a), Some(b), Some(c), Some(d), None) = (

@@ -2,36 +2,37 @@
 ghost use Rattle.std.specs.Prelude.{◌≡◌, ◌<◌, ◌↔◌, ◌⊎◌, [], length, IfOk, OnOk};
 ghost use Rattle.lvl_grid.specs.declared.point.Square.{Square};
 ghost use Rattle.lvl_grid.specs.Winding.{SomeCovers};
-ghost use Rattle.lvl_names.specs.declared.layer.Layer.{Layer};
+ghost use Rattle.lvl_names.specs.declared.layer.Layer.{Layer as PlainLayer};
 ghost use Rattle.lvl_cells.specs.Cells.{shape_at};
 ghost use Rattle.lvl_cells.specs.Coverage.{ShapeCovers};
 ghost use Rattle.lvl_changed.specs.inside.Figures.{AreLeft};
-ghost use Rattle.lvl_changed.specs.inside.Shapes.{ShapesCover};
+ghost use Rattle.lvl_changed.specs.inside.Shapes.{put_on, ShapesCover};
 
 use crate::figures::{Seen, has_shape};
 use crate::twins::twin_at;
 use lvl_cells::{Cell, References, Shapes};
-use lvl_names::Offsets;
+use lvl_names::{Layer, Offsets};
 use lvl_view::View;
 use std::alloc::{AllocError, Global};
 
-/// Appends the rings of shape `i` with its shifts, each ring as a shape.
-fn push_shape(
+/// Appends the rings of shape `i` with its shifts to those on a Layer, each ring as a shape.
+pub(crate) fn push_shape(
     alloc: Global,
     left: &mut Shapes,
+    on: Layer,
     shapes: &Shapes,
     i: usize,
     shifts: &Offsets,
 ) -> Result<(), AllocError>
     requires within { i < length shapes.now }
     requires shifts { shifts.now ≡ (shape_at shapes.now i).shifts }
-    ensures { OnOk result ((layer : Layer) (s : Square) → ShapesCover left.new layer s
-        ↔ (ShapesCover left.old layer s ⊎ ShapeCovers SomeCovers layer s (shape_at shapes.now i))) }
+    ensures { OnOk result ((layer : PlainLayer) (s : Square) → ShapesCover left.new layer s
+        ↔ (ShapesCover left.old layer s ⊎ ShapeCovers SomeCovers layer s (put_on on (shape_at shapes.now i)))) }
 {
     for j in 0..shapes.ring_count(i) {
         let ring = shapes.ring(i, j);
         let points = ring.to_points(alloc)?;
-        left.push_ring(shapes.layer(i), &points, shifts)?;
+        left.push_ring(on, &points, shifts)?;
     }
     Ok(())
 }
@@ -39,12 +40,13 @@ fn push_shape(
 /// Appends shape `i`, its rings as shapes of their own.
 fn push_left(alloc: Global, left: &mut Shapes, shapes: &Shapes, i: usize) -> Result<(), AllocError>
     requires { i < length shapes.now }
-    ensures { OnOk result ((layer : Layer) (s : Square) → ShapesCover left.new layer s
+    ensures { OnOk result ((layer : PlainLayer) (s : Square) → ShapesCover left.new layer s
         ↔ (ShapesCover left.old layer s ⊎ ShapeCovers SomeCovers layer s (shape_at shapes.now i))) }
 {
+    let on = shapes.layer(i);
     match shapes.shifts(i) {
-        Some(shifts) => push_shape(alloc, left, shapes, i, shifts),
-        None => push_shape(alloc, left, shapes, i, &Offsets::single()),
+        Some(shifts) => push_shape(alloc, left, on, shapes, i, shifts),
+        None => push_shape(alloc, left, on, shapes, i, &Offsets::single()),
     }
 }
 

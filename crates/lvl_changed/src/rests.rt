@@ -2,7 +2,8 @@
 //!
 //! Where what is left of both draws the same, so do both. A square that only one of both draws is one that only
 //! what is left of it draws, so the first difference of what is left is that of both, unless a shape that both have
-//! covers its square.
+//! covers its square. If rectangles that are left make up greater ones, these may be the same again, so they are joined
+//! first.
 ghost use Rattle.std.specs.Prelude.{◌≡◌, ◌↔◌, [], slice_get, Some, IfOk, IfSome};
 ghost use Rattle.lvl_grid.specs.declared.point.Square.{Square as GridSquare};
 ghost use Rattle.lvl_names.specs.declared.layer.Layer.{Layer as PlainLayer};
@@ -12,12 +13,13 @@ ghost use Rattle.lvl_region.specs.Region.{IsAlone};
 ghost use Rattle.lvl_view.specs.Moved.{IsMoved};
 ghost use Rattle.lvl_compare.specs.Pairs.{ours, theirs};
 ghost use Rattle.lvl_changed.specs.inside.Shapes.{ShapesCover};
-ghost use Rattle.lvl_changed.specs.inside.Rests.{AreSameWhere, IsKnown};
+ghost use Rattle.lvl_changed.specs.inside.Rests.{AreSameWhere, IsKnown, RestCovers};
 
 use crate::figures::Seen;
-use crate::left::left_of;
+use crate::rectangles::{all_joined, apart};
+use crate::rest::{Rest, cell_of, rest_of};
 use crate::twins::{Repeated, Twins, count_alone, have_many, twins_of};
-use lvl_cells::{Cell, Library, check_or_return};
+use lvl_cells::{Cell, Library, Shapes, check_or_return};
 use lvl_compare::{Pair, difference_by_strips, difference_in_windows};
 use lvl_flat::Fitted;
 use lvl_grid::{Square, Window};
@@ -90,12 +92,75 @@ fn many_twins(
     Ok(Some(twins))
 }
 
-/// What is left of two layouts whose tops have no references, without the shapes that both have. None if there are
-/// few of these, if only a window is compared, so that most shapes needn't be looked at again, or if what is left
-/// isn't accepted as a layout.
+/// What is left of two layouts if the rectangles of each are joined, without those that both then have.
+fn without_joined(alloc: Global, ours: Rest, theirs: Rest) -> Result<(Rest, Rest), AllocError>
+    ensures { IfOk result (λ left. AreSameWhere (RestCovers ours) (RestCovers theirs) (RestCovers left.0)
+        (RestCovers left.1)) }
+{
+    let our_joined = all_joined(alloc, ours.rectangles)?;
+    let their_joined = all_joined(alloc, theirs.rectangles)?;
+    let our_left = apart(alloc, &our_joined, &their_joined)?;
+    let their_left = apart(alloc, &their_joined, &our_joined)?;
+    Ok((
+        Rest {
+            rectangles: our_left,
+            shapes: ours.shapes,
+        },
+        Rest {
+            rectangles: their_left,
+            shapes: theirs.shapes,
+        },
+    ))
+}
+
+/// What is left of two lists of shapes without those that both have, under their views' maps of Layers. None if they
+/// have few in common, or few at all.
+fn left_of_both(
+    alloc: Global,
+    shapes: &Shapes,
+    view: &View,
+    others: &Shapes,
+    other_view: &View,
+) -> Result<Option<(Rest, Rest)>, AllocError>
+    ensures { IfOk result (λ found. IfSome found (λ left. AreSameWhere (IsMoved view.now.pairs (ShapesCover shapes.now))
+        (IsMoved other_view.now.pairs (ShapesCover others.now)) (RestCovers left.0) (RestCovers left.1))) }
+{
+    let ours = Seen { shapes, view };
+    let theirs = Seen {
+        shapes: others,
+        view: other_view,
+    };
+    let Some(twins) = many_twins(alloc, ours, theirs)? else {
+        return Ok(None);
+    };
+    let rest = rest_of(alloc, ours, theirs, &twins.ours)?;
+    let their_rest = rest_of(alloc, theirs, ours, &twins.theirs)?;
+    drop(twins);
+    let left = without_joined(alloc, rest, their_rest)?;
+    Ok(Some(left))
+}
+
+/// What is left of the shapes of two cells without those that both have, under the view's map of Layers. None if they
+/// have few in common, or few at all.
+fn left_of_cells(
+    alloc: Global,
+    ours: &Cell,
+    theirs: &Cell,
+    view: &View,
+) -> Result<Option<(Rest, Rest)>, AllocError>
+    ensures { IfOk result (λ found. IfSome found (λ left. AreSameWhere (ShapesCover ours.now.shapes)
+        (IsMoved view.now.pairs (ShapesCover theirs.now.shapes)) (RestCovers left.0) (RestCovers left.1))) }
+{
+    let whole = View::whole(alloc);
+    left_of_both(alloc, &ours.shapes, &whole, &theirs.shapes, view)
+}
+
+/// What is left of two layouts whose tops have no references, without the shapes that both have, on the Layers of the
+/// first. None if there are few of these, if only a window is compared, so that most shapes needn't be looked at
+/// again, or if what is left isn't accepted as a layout.
 fn rests_of(alloc: Global, pair: &Pair<'_>) -> Result<Option<(Fitted, Fitted)>, AllocError>
     ensures { IfOk result (λ found. IfSome found (λ rests. AreSameWhere (ours pair.now) (theirs pair.now)
-        (TopCovers rests.0) (IsMoved pair.now.view.now.pairs (TopCovers rests.1)))) }
+        (TopCovers rests.0) (TopCovers rests.1))) }
 {
     let (first, second) = (top_of(pair.first), top_of(pair.second));
     if !first.references.is_empty() || !second.references.is_empty() {
@@ -104,24 +169,15 @@ fn rests_of(alloc: Global, pair: &Pair<'_>) -> Result<Option<(Fitted, Fitted)>, 
     if pair.view.window().is_some() {
         return Ok(None);
     }
-    let whole = View::whole(alloc);
-    let our_shapes = Seen {
-        shapes: &first.shapes,
-        view: &whole,
-    };
-    let their_shapes = Seen {
-        shapes: &second.shapes,
-        view: pair.view,
-    };
-    let Some(Twins { ours, theirs }) = many_twins(alloc, our_shapes, their_shapes)? else {
+    let Some((left, their_left)) = left_of_cells(alloc, first, second, pair.view)? else {
         return Ok(None);
     };
-    let left = left_of(alloc, first, &whole, second, pair.view, &ours)?;
-    let their_left = left_of(alloc, second, pair.view, first, &whole, &theirs)?;
-    let Some(rest) = layout_of(alloc, left)? else {
+    let cell = cell_of(alloc, first.name.clone()?, left)?;
+    let their_cell = cell_of(alloc, second.name.clone()?, their_left)?;
+    let Some(rest) = layout_of(alloc, cell)? else {
         return Ok(None);
     };
-    let Some(their_rest) = layout_of(alloc, their_left)? else {
+    let Some(their_rest) = layout_of(alloc, their_cell)? else {
         return Ok(None);
     };
     Ok(Some((rest, their_rest)))
@@ -135,7 +191,8 @@ fn side_at(
     square: Square,
     most: usize,
 ) -> Result<Option<Side>, AllocError>
-    ensures { IfOk result (λ found. IfSome found
+    ensures seen { IfOk result (λ found. IfSome found (λ _. IsShown (pair.now.view.now.window) square)) }
+    ensures alone { IfOk result (λ found. IfSome found
         (λ side. IsAlone (ours pair.now layer) (theirs pair.now layer) square side)) }
 {
     let Pair {
@@ -187,8 +244,9 @@ pub(crate) fn known_by_rests(
         return Ok(Known::Nothing);
     };
     let most = most_of_rests(pair, &rest, &their_rest, most);
-    let Some((layer, square, _)) = difference_by_strips(alloc, &rest, &their_rest, pair.view, most)?
-    else {
+    let whole = View::whole(alloc);
+    let found = difference_by_strips(alloc, &rest, &their_rest, &whole, most)?;
+    let Some((layer, square, _)) = found else {
         return Ok(Known::Same);
     };
     match side_at(alloc, pair, layer, square, most)? {

@@ -18,6 +18,14 @@ use Rattle.lvl_changed.specs.inside.Areas.{IsIn}
 abbrev pub ShapesCover : List (PlainShape Rings) → Layer → Square → Type 0
 ShapesCover shapes layer s = Any (ShapeCovers SomeCovers layer s) shapes
 
+-- the figure of the shape, moved by one of its shifts, covers the square
+abbrev pub FigureCovers : PlainShape Rings → Square → Type 0
+FigureCovers h s = Any (λ e. SomeCovers h.figure (moved_back e s)) h.shifts
+
+-- the shape on another Layer
+abbrev pub put_on : Layer → PlainShape Rings → PlainShape Rings
+put_on layer h = record { layer = layer; figure = h.figure; shifts = h.shifts }
+
 -- the flat layout covers the square on the Layer
 abbrev pub FlatCovers : List PlainSheet → Layer → Square → Type 0
 FlatCovers flat layer s = SomeCovers (rings_on layer flat) s
