@@ -1,10 +1,9 @@
 -- What is left of a list of shapes, as rectangles and as other shapes.
 use Rattle.std.proofs.Common.{◌≡◌, ◌↔◌, ◌⊎◌, ◌<◌, ◌+◌, ◌++◌, ◌∷◌, [], ℕ, List, Any, take, length, get_or, inl, inr}
-use Rattle.std.proofs.Common.{refl, sym, ap, ◌∙◌, subst, arith, ◌-ℤ◌, pos}
+use Rattle.std.proofs.Common.{refl, sym, ap, ◌∙◌, subst, arith, pos}
 use Rattle.std.proofs.lemmas.Int.{ints}
 use Rattle.lvl_grid.specs.declared.point.Point.{Point}
 use Rattle.lvl_grid.specs.declared.point.Square.{Square}
-use Rattle.lvl_grid.specs.declared.point.Window.{Window}
 use Rattle.lvl_grid.specs.Clip.{IsInWindow}
 use Rattle.lvl_grid.specs.Winding.{Covers, SomeCovers}
 use Rattle.lvl_grid.proofs.Anyone.{Any-nil, Any-push, Any-uncons, Any-head}
@@ -88,19 +87,6 @@ moved_shape pairs h l s = (
   λ c. record { source = h.layer; is_target = c.0; covers = (refl, c.1) },
 )
 
--- at first nothing is left
-pub rest_of_none : (pairs others : List LayerPair) (ys : List (PlainShape Rings)) (rest : Rest)
-    → rest.rectangles.items ≡ [] → rest.shapes ≡ []
-    → IsRest (IsMoved pairs (ShapesCover [])) (IsMoved others (ShapesCover ys)) (RestCovers rest)
-rest_of_none pairs others ys rest rectangles shapes = record {
-  inside = λ l s c. elim c [
-    | inl a ↦ absurd (Any-nil (RectangleCovers l s) (subst (λ (rs : List Rectangle). RectanglesCover rs l s) rectangles a))
-    | inr b ↦
-        absurd (Any-nil (ShapeCovers SomeCovers l s) (subst (λ (hs : List (PlainShape Rings)). ShapesCover hs l s) shapes b))
-  ];
-  held = λ l s m. absurd (Any-nil (ShapeCovers SomeCovers m.source s) m.covers);
-}
-
 -- one more shape that others have
 pub rest_with_twin : (pairs others : List LayerPair) (xs ys : List (PlainShape Rings)) (rest : Rest) (i : ℕ)
     → i < length xs → HasAlike pairs xs i others ys
@@ -153,7 +139,8 @@ pub rectangle_added : (old new : Rest) (h : PlainShape Rings) (on : Layer) (r : 
     → RestCovers new l s ↔ (RestCovers old l s ⊎ ShapeCovers SomeCovers l s (put_on on h))
 rectangle_added old new h on r is figure more same l s =
     let push = Any-push (RectangleCovers l s) old.rectangles.items r in
-    let list : RectanglesCover new.rectangles.items l s ↔ (RectanglesCover old.rectangles.items l s ⊎ RectangleCovers l s r) =
+    let list : RectanglesCover new.rectangles.items l s
+    ↔ (RectanglesCover old.rectangles.items l s ⊎ RectangleCovers l s r) =
     subst (λ (rs : List Rectangle). RectanglesCover rs l s
     ↔ (RectanglesCover old.rectangles.items l s ⊎ RectangleCovers l s r)) (sym more) push in
     let Other : List (PlainShape Rings) → Type 0 = λ hs. ShapesCover hs l s in (

@@ -6,7 +6,7 @@ use Rattle.std.proofs.lemmas.Int.{ints, clamps, by_lt_z}
 use Rattle.lvl_grid.specs.declared.point.Square.{Square}
 use Rattle.lvl_grid.specs.declared.point.Window.{Window}
 use Rattle.lvl_grid.specs.Clip.{IsInWindow}
-use Rattle.lvl_grid.proofs.Anyone.{Any-nil, some_contained}
+use Rattle.lvl_grid.proofs.Anyone.{some_contained}
 use Rattle.lvl_names.specs.declared.layer.Layer.{Layer}
 use Rattle.lvl_simplify.proofs.Joining.{any_next, any_pushed}
 use Rattle.lvl_changed.specs.declared.rectangles.Rectangle.{Rectangle}
@@ -78,13 +78,10 @@ both_cover first second both l s one on same = (
   ],
 )
 
--- nothing is left of no rectangles
-pub rest_none : (others : List Rectangle) → IsRest (RectanglesCover []) (RectanglesCover others) (RectanglesCover [])
-rest_none others = record { inside = λ l s c. c; held = λ l s c. inl c; }
-
 -- one more rectangle that others have
 pub rest_among : (xs others left : List Rectangle) (i : ℕ) (d : Rectangle) → i < length xs
-    → Contains others (get_or xs i d) → IsRest (RectanglesCover (take i xs)) (RectanglesCover others) (RectanglesCover left)
+    → Contains others (get_or xs i d)
+    → IsRest (RectanglesCover (take i xs)) (RectanglesCover others) (RectanglesCover left)
     → IsRest (RectanglesCover (take (i + 1) xs)) (RectanglesCover others) (RectanglesCover left)
 rest_among xs others left i d low has before = record {
   inside = λ l s c. (any_next (RectangleCovers l s) xs i d low).1 (inl (before.inside l s c));

@@ -109,10 +109,7 @@ fn push_joined(rectangles: &mut Vec<Rectangle>, next: Rectangle) -> Result<(), A
 }
 
 /// The rectangles, each joined with the one before it if both make up a rectangle.
-fn joined_in_order(
-    alloc: Global,
-    rectangles: &[Rectangle],
-) -> Result<Vec<Rectangle>, AllocError>
+fn joined_in_order(alloc: Global, rectangles: &[Rectangle]) -> Result<Vec<Rectangle>, AllocError>
     ensures { IfOk result (λ joined. (layer : PlainLayer) (s : GridSquare)
         → RectanglesCover joined.items layer s ↔ RectanglesCover rectangles.now layer s) }
 {

@@ -224,11 +224,11 @@ fn shapes_of(first: &Fitted, second: &Fitted) -> usize {
 }
 
 /// The number of points that a side of what is left may have in a strip, where `most` were given for all: less by
-/// one for every two shapes that were left out, since what is left takes memory beside them. At least a quarter.
+/// one for every four shapes that were left out, since what is left takes memory beside them. At least a quarter.
 fn most_of_rests(pair: &Pair<'_>, rest: &Fitted, their_rest: &Fitted, most: usize) -> usize {
     let all = shapes_of(pair.first, pair.second);
     let left_out = all.saturating_sub(shapes_of(rest, their_rest));
-    most.saturating_sub(left_out / 2).max(most / 4)
+    most.saturating_sub(left_out / 4).max(most / 4)
 }
 
 /// What is known of two layouts whose tops have no references, by what is left of them without the shapes that both

@@ -12,7 +12,8 @@ returns-then-eq c = λ t.
     let b : Rectangle = c.args.rectangle.now in
     let equal = c.eq-then-eq.ensures in
     let window : a.window ≡ b.window =
-    same_window a.window b.window (grind (arith, ints)) (grind (arith, ints)) (grind (arith, ints)) (grind (arith, ints)) in
+    same_window a.window b.window (grind (arith, ints)) (grind (arith, ints)) (grind (arith, ints))
+    (grind (arith, ints)) in
     let same : a ≡ b = same_rectangle a b (equal_layers a.layer b.layer c.if-eq.ensures) window in
     let found = c.in-Some.ensures.lookup in
     let low : c.args.at < length c.args.rectangles.now = omega arith in

@@ -5,7 +5,7 @@ use Rattle.lvl_view.specs.Moved.{IsMoved}
 use Rattle.lvl_changed.specs.declared.rest.Rest.{Rest}
 use Rattle.lvl_changed.specs.inside.Rests.{IsRest, RestCovers}
 use Rattle.lvl_changed.specs.inside.Shapes.{ShapesCover}
-use Rattle.lvl_changed.proofs.Remaining.{rest_of_none, rest_with_shape, rest_with_twin}
+use Rattle.lvl_changed.proofs.Remaining.{rest_with_shape, rest_with_twin}
 use Rattle.lvl_changed.proofs.rest.rest_of.Goals.{then-not-has_shape+in_ok-push, else-not-has_shape}
 use Rattle.lvl_changed.proofs.rest.rest_of.Goals as goal
 

@@ -1,7 +1,5 @@
-use Rattle.std.proofs.Common.{◌≡◌, ◌∷◌, [], ap, sym, ◌∙◌, subst}
+use Rattle.std.proofs.Common.{◌≡◌, ◌∷◌, [], ap, sym, ◌∙◌}
 use Rattle.std.proofs.lemmas.Option.{IfSome_then}
-use Rattle.lvl_grid.specs.declared.point.Point.{Point}
-use Rattle.lvl_names.specs.Shifts.{one_place}
 use Rattle.lvl_cells.specs.Cells.{PlainShape, Rings, shape_at}
 use Rattle.lvl_changed.proofs.Remaining.{only_ring, ring_there}
 use Rattle.lvl_changed.proofs.rest.window_of_shape.Goals as goal

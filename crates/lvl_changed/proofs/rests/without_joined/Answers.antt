@@ -1,5 +1,4 @@
-use Rattle.std.proofs.Common.{List, refl}
-use Rattle.lvl_changed.specs.declared.rectangles.Rectangle.{Rectangle}
+use Rattle.std.proofs.Common.{refl}
 use Rattle.lvl_changed.specs.declared.rest.Rest.{Rest}
 use Rattle.lvl_changed.proofs.Resting.{joined_where}
 use Rattle.lvl_changed.proofs.rests.without_joined.Goals as goal
