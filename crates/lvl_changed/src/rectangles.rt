@@ -1,7 +1,8 @@
 //! Rectangles on Layers: joined where they make up greater ones, and those that another list doesn't have.
 //!
 //! A mask may be written again in parts of its rectangles. Parts that were cut along one direction, one over another or
-//! not, are joined to the same rectangles again.
+//! not, are joined to the same rectangles again. One within another isn't joined with it: a part of a rectangle may by
+//! chance be within one that both lists have, and would vanish from one of them.
 ghost use Rattle.std.specs.Prelude.{◌↔◌, ◌⊎◌, Contains, IsTrue, IfOk, IfSome, OnOk};
 ghost use Rattle.lvl_grid.specs.declared.point.Square.{Square as GridSquare};
 ghost use Rattle.lvl_grid.specs.Clip.{IsInWindow};
@@ -37,8 +38,8 @@ impl Rectangle {
     }
 }
 
-/// The window that has exactly the squares of both, if they have the same columns and the second begins within the rows
-/// of the first or where these end, else None.
+/// The window that has exactly the squares of both, if they have the same columns and the second begins after the first
+/// does, within its rows or where these end, and ends after it, else None.
 fn stacked(first: Window, second: Window) -> Option<Window>
     ensures { IfSome result (λ window. (s : GridSquare)
         → IsInWindow window s ↔ (IsInWindow first s ⊎ IsInWindow second s)) }
@@ -46,14 +47,14 @@ fn stacked(first: Window, second: Window) -> Option<Window>
     if second.x0 != first.x0 || second.x1 != first.x1 {
         return None;
     }
-    if second.y0 < first.y0 || first.y1 < second.y0 {
+    if second.y0 <= first.y0 || first.y1 < second.y0 || second.y1 <= first.y1 {
         return None;
     }
     Some(first.joined(second))
 }
 
-/// The window that has exactly the squares of both, if they have the same rows and the second begins within the columns
-/// of the first or where these end, else None.
+/// The window that has exactly the squares of both, if they have the same rows and the second begins after the first
+/// does, within its columns or where these end, and ends after it, else None.
 fn beside(first: Window, second: Window) -> Option<Window>
     ensures { IfSome result (λ window. (s : GridSquare)
         → IsInWindow window s ↔ (IsInWindow first s ⊎ IsInWindow second s)) }
@@ -61,7 +62,7 @@ fn beside(first: Window, second: Window) -> Option<Window>
     if second.y0 != first.y0 || second.y1 != first.y1 {
         return None;
     }
-    if second.x0 < first.x0 || first.x1 < second.x0 {
+    if second.x0 <= first.x0 || first.x1 < second.x0 || second.x1 <= first.x1 {
         return None;
     }
     Some(first.joined(second))
