@@ -20,6 +20,7 @@ pub mod Missing
 pub mod Boxing
 pub mod Unchanged
 pub mod Uniting
+pub mod Turned
 pub mod Leaving
 pub mod Remaining
 pub mod Resting

@@ -1,5 +1,5 @@
 //! Comparison of shapes: the Layers as which they count, their figures and their shifts.
-ghost use Rattle.std.specs.Prelude.{◌≡◌, ◌<◌, ◌↔◌, length, IsTrue, IfSome};
+ghost use Rattle.std.specs.Prelude.{◌≡◌, ◌<◌, ◌≤◌, ◌↔◌, drop, length, take, IsTrue, IfSome};
 ghost use Rattle.lvl_grid.specs.declared.point.Square.{Square};
 ghost use Rattle.lvl_grid.specs.Clip.{IsInWindow};
 ghost use Rattle.lvl_grid.specs.Winding.{Covers, SomeCovers};
@@ -20,19 +20,42 @@ pub(crate) struct Seen<'a> {
     pub view: &'a View,
 }
 
+/// The index of the least point of a ring, by abscissa and then by ordinate. It only guides the search, so it has no
+/// contract.
+fn least_point(ring: &MovedRing<'_>) -> usize {
+    let mut index = 0;
+    let mut least = (i64::MAX, i64::MAX);
+    for k in 0..ring.len() {
+        if let Some(Point { x, y }) = ring.get(k) {
+            if (x, y) < least {
+                index = k;
+                least = (x, y);
+            }
+        }
+    }
+    index
+}
+
+/// Hashes the points of a ring from an index up to another.
+fn hash_points(hasher: &mut FoldHasher, ring: &MovedRing<'_>, from: usize, end: usize) {
+    for k in from..end {
+        if let Some(point) = ring.get(k) {
+            hash_point(hasher, point);
+        }
+    }
+}
+
 /// Hashes a ring: of four points its reach, so that a rectangle that is written from another corner has the same
-/// hash, else all points.
+/// hash, else all points, from the least one on.
 fn hash_ring(hasher: &mut FoldHasher, ring: &MovedRing<'_>) {
     if let (4, Some((low, high))) = (ring.len(), ring.reach()) {
         hash_point(hasher, low);
         hash_point(hasher, high);
         return;
     }
-    for k in 0..ring.len() {
-        if let Some(point) = ring.get(k) {
-            hash_point(hasher, point);
-        }
-    }
+    let start = least_point(ring);
+    hash_points(hasher, ring, start, ring.len());
+    hash_points(hasher, ring, 0, start);
 }
 
 /// Hashes a point.
@@ -57,15 +80,21 @@ pub(crate) fn rectangle_of(ring: &MovedRing<'_>) -> Option<Window>
     window_of(&[a, b, c, d])
 }
 
-/// Whether both rings have the same points in the same order.
-fn have_same_points(first: &MovedRing<'_>, second: &MovedRing<'_>) -> bool
-    ensures { IsTrue result → first.now ≡ second.now }
+/// Whether `count` points of the first ring, from an index on, are those of the second from another index on.
+fn agree(
+    first: &MovedRing<'_>,
+    from: usize,
+    second: &MovedRing<'_>,
+    other: usize,
+    count: usize,
+) -> bool
+    ensures { IsTrue result → take count (drop from first.now) ≡ take count (drop other second.now) }
 {
-    if first.len() != second.len() {
-        return false;
-    }
-    for k in 0..first.len() {
-        let (Some(ours), Some(theirs)) = (first.get(k), second.get(k)) else {
+    for k in 0..count {
+        let (Some(i), Some(j)) = (from.checked_add(k), other.checked_add(k)) else {
+            return false;
+        };
+        let (Some(ours), Some(theirs)) = (first.get(i), second.get(j)) else {
             return false;
         };
         if ours.x != theirs.x || ours.y != theirs.y {
@@ -75,11 +104,39 @@ fn have_same_points(first: &MovedRing<'_>, second: &MovedRing<'_>) -> bool
     true
 }
 
-/// Whether both rings have the same points in the same order, or are the same rectangle.
+/// How many points after its first one a ring goes on as another does from its first one, by an index of a point of
+/// both. Each has this number of points.
+fn turn_of(here: usize, there: usize, count: usize) -> usize
+    ensures { result ≤ count }
+{
+    let turn = match there.checked_sub(here) {
+        Some(turn) => turn,
+        None => count.saturating_sub(here.saturating_sub(there)),
+    };
+    turn.min(count)
+}
+
+/// Whether both rings have the same points in the same order, from some point of each on.
+fn have_same_points(first: &MovedRing<'_>, second: &MovedRing<'_>) -> bool
+    ensures { IsTrue result → (s : Square) → Covers first.now s ↔ Covers second.now s }
+{
+    let count = first.len();
+    if second.len() != count {
+        return false;
+    }
+    let turn = turn_of(least_point(first), least_point(second), count);
+    let rest = count - turn;
+    agree(first, 0, second, turn, rest) && agree(first, rest, second, 0, turn)
+}
+
+/// Whether both rings have the same points in the same order, from some point of each on, or are the same rectangle.
 fn are_same_rings(first: &MovedRing<'_>, second: &MovedRing<'_>) -> bool
     ensures { IsTrue result → (s : Square) → Covers first.now s ↔ Covers second.now s }
 {
-    if first.is_same_rectangle(second) || have_same_points(first, second) {
+    if first.is_same_rectangle(second) {
+        return true;
+    }
+    if have_same_points(first, second) {
         return true;
     }
     match (rectangle_of(first), rectangle_of(second)) {
