@@ -1,8 +1,7 @@
 //! Rectangles on Layers: joined where they make up greater ones, and those that another list doesn't have.
 //!
 //! A mask may be written again in parts of its rectangles. Parts that were cut along one direction, one over another or
-//! not, are joined to the same rectangles again. One within another isn't joined with it: a part of a rectangle may by
-//! chance be within one that both lists have, and would vanish from one of them.
+//! not, are joined to the same rectangles again.
 ghost use Rattle.std.specs.Prelude.{◌↔◌, ◌⊎◌, Contains, IsTrue, IfOk, IfSome, OnOk};
 ghost use Rattle.lvl_grid.specs.declared.point.Square.{Square as GridSquare};
 ghost use Rattle.lvl_grid.specs.Clip.{IsInWindow};
@@ -10,9 +9,13 @@ ghost use Rattle.lvl_names.specs.declared.layer.Layer.{Layer as PlainLayer};
 ghost use Rattle.lvl_changed.specs.inside.Rectangles.{RectangleCovers, RectanglesCover};
 ghost use Rattle.lvl_changed.specs.inside.Rests.{IsRest};
 
+use crate::windows::{Windows, meet};
 use lvl_grid::Window;
 use lvl_names::Layer;
 use std::alloc::{AllocError, Global};
+
+/// The greatest number of windows round rectangles that only one list has.
+const MOST_WINDOWS: usize = 64;
 
 /// What rectangles are sorted by. Different rectangles may have the same key.
 type Key = (i64, i64, Layer, i64);
@@ -38,8 +41,8 @@ impl Rectangle {
     }
 }
 
-/// The window that has exactly the squares of both, if they have the same columns and the second begins after the first
-/// does, within its rows or where these end, and ends after it, else None.
+/// The window that has exactly the squares of both, if they have the same columns and the second begins within the rows
+/// of the first or where these end, else None.
 fn stacked(first: Window, second: Window) -> Option<Window>
     ensures { IfSome result (λ window. (s : GridSquare)
         → IsInWindow window s ↔ (IsInWindow first s ⊎ IsInWindow second s)) }
@@ -47,14 +50,14 @@ fn stacked(first: Window, second: Window) -> Option<Window>
     if second.x0 != first.x0 || second.x1 != first.x1 {
         return None;
     }
-    if second.y0 <= first.y0 || first.y1 < second.y0 || second.y1 <= first.y1 {
+    if second.y0 < first.y0 || first.y1 < second.y0 {
         return None;
     }
     Some(first.joined(second))
 }
 
-/// The window that has exactly the squares of both, if they have the same rows and the second begins after the first
-/// does, within its columns or where these end, and ends after it, else None.
+/// The window that has exactly the squares of both, if they have the same rows and the second begins within the columns
+/// of the first or where these end, else None.
 fn beside(first: Window, second: Window) -> Option<Window>
     ensures { IfSome result (λ window. (s : GridSquare)
         → IsInWindow window s ↔ (IsInWindow first s ⊎ IsInWindow second s)) }
@@ -62,7 +65,7 @@ fn beside(first: Window, second: Window) -> Option<Window>
     if second.y0 != first.y0 || second.y1 != first.y1 {
         return None;
     }
-    if second.x0 <= first.x0 || first.x1 < second.x0 || second.x1 <= first.x1 {
+    if second.x0 < first.x0 || first.x1 < second.x0 {
         return None;
     }
     Some(first.joined(second))
@@ -146,6 +149,11 @@ fn skip(rectangles: &[Rectangle], from: usize, key: Key) -> usize {
     rectangles.len()
 }
 
+/// Whether a window shares a square with one of the others.
+fn meets_some(window: Window, others: &[Window]) -> bool {
+    others.iter().any(|other| meet(window, *other))
+}
+
 /// Whether the list has this rectangle at an index.
 fn has_at(rectangles: &[Rectangle], at: usize, rectangle: &Rectangle) -> bool
     ensures { IsTrue result → Contains rectangles.now rectangle.now }
@@ -156,11 +164,19 @@ fn has_at(rectangles: &[Rectangle], at: usize, rectangle: &Rectangle) -> bool
     }
 }
 
-/// Those of the rectangles that the others don't have. Both lists should be joined.
+/// Whether a rectangle may be left out: the others have it at an index, and it meets none of the windows.
+fn is_needless(rectangle: &Rectangle, others: &[Rectangle], at: usize, windows: &[Window]) -> bool
+    ensures { IsTrue result → Contains others.now rectangle.now }
+{
+    has_at(others, at, rectangle) && !meets_some(rectangle.window, windows)
+}
+
+/// Those of the rectangles that the others don't have or that meet one of some windows. Both lists should be joined.
 pub(crate) fn apart(
     alloc: Global,
     rectangles: &[Rectangle],
     others: &[Rectangle],
+    windows: &[Window],
 ) -> Result<Vec<Rectangle>, AllocError>
     ensures { IfOk result (λ left. IsRest (RectanglesCover rectangles.now) (RectanglesCover others.now)
         (RectanglesCover left.items)) }
@@ -169,9 +185,26 @@ pub(crate) fn apart(
     let mut at = 0;
     for rectangle in rectangles {
         at = skip(others, at, rectangle.by_columns());
-        if !has_at(others, at, rectangle) {
+        if !is_needless(rectangle, others, at, windows) {
             left.push(*rectangle)?;
         }
     }
     Ok(left)
+}
+
+/// At most [`MOST_WINDOWS`] windows that have the squares of all rectangles of both lists. They only say what is kept,
+/// so they have no contract.
+pub(crate) fn windows_round(
+    alloc: Global,
+    first: &[Rectangle],
+    second: &[Rectangle],
+) -> Result<Vec<Window>, AllocError> {
+    let mut windows = Windows::none(alloc, MOST_WINDOWS);
+    for rectangle in first.iter().chain(second) {
+        windows.hold(rectangle.window)?;
+    }
+    match windows.into_list() {
+        Some(list) => Ok(list),
+        None => Ok(Vec::new(alloc)),
+    }
 }

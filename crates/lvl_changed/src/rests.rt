@@ -16,7 +16,7 @@ ghost use Rattle.lvl_changed.specs.inside.Shapes.{ShapesCover};
 ghost use Rattle.lvl_changed.specs.inside.Rests.{AreSameWhere, IsKnown, RestCovers};
 
 use crate::figures::Seen;
-use crate::rectangles::{all_joined, apart};
+use crate::rectangles::{all_joined, apart, windows_round};
 use crate::rest::{Rest, cell_of, rest_of};
 use crate::twins::{Repeated, Twins, count_alone, have_many, twins_of};
 use lvl_cells::{Cell, Library, Shapes, check_or_return};
@@ -92,15 +92,19 @@ fn many_twins(
     Ok(Some(twins))
 }
 
-/// What is left of two layouts if the rectangles of each are joined, without those that both then have.
+/// What is left of two layouts if the rectangles of each are joined, without those that both then have, but with those
+/// that are near what only one has: what one layout draws in a part of its own, the other may draw in one of them.
 fn without_joined(alloc: Global, ours: Rest, theirs: Rest) -> Result<(Rest, Rest), AllocError>
     ensures { IfOk result (λ left. AreSameWhere (RestCovers ours) (RestCovers theirs) (RestCovers left.0)
         (RestCovers left.1)) }
 {
     let our_joined = all_joined(alloc, ours.rectangles)?;
     let their_joined = all_joined(alloc, theirs.rectangles)?;
-    let our_left = apart(alloc, &our_joined, &their_joined)?;
-    let their_left = apart(alloc, &their_joined, &our_joined)?;
+    let our_own = apart(alloc, &our_joined, &their_joined, &[])?;
+    let their_own = apart(alloc, &their_joined, &our_joined, &[])?;
+    let windows = windows_round(alloc, &our_own, &their_own)?;
+    let our_left = apart(alloc, &our_joined, &their_joined, &windows)?;
+    let their_left = apart(alloc, &their_joined, &our_joined, &windows)?;
     Ok((
         Rest {
             rectangles: our_left,

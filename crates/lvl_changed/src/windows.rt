@@ -32,7 +32,7 @@ pub(crate) struct Windows {
 }
 
 /// Whether the windows share a square.
-fn meet(first: Window, second: Window) -> bool {
+pub(crate) fn meet(first: Window, second: Window) -> bool {
     let across = first.x0 < second.x1 && second.x0 < first.x1;
     across && first.y0 < second.y1 && second.y0 < first.y1
 }

@@ -3,7 +3,7 @@ use Rattle.lvl_changed.specs.declared.rectangles.Rectangle.{Rectangle}
 use Rattle.lvl_changed.specs.inside.Rectangles.{RectanglesCover}
 use Rattle.lvl_changed.specs.inside.Rests.{IsRest}
 use Rattle.lvl_changed.proofs.Uniting.{rest_among, rest_more}
-use Rattle.lvl_changed.proofs.rectangles.apart.Goals.{then-not-has_at+in_ok-push, else-not-has_at}
+use Rattle.lvl_changed.proofs.rectangles.apart.Goals.{then-not-is_needless+in_ok-push, else-not-is_needless}
 use Rattle.lvl_changed.proofs.rectangles.apart.Goals as goal
 
 pub loop-rectangle-preserved : goal.loop-rectangle-preserved
@@ -14,13 +14,13 @@ loop-rectangle-preserved c =
     let low : i < length xs = c.loop-rectangle-test.true in
     let Next : Vec Rectangle Global → Type 0 = λ v.
     IsRest (RectanglesCover (take (i + 1) xs)) (RectanglesCover others) (RectanglesCover v.items) in
-    elim c.if-not-has_at.branch [
-      | then-not-has_at+in_ok-push w ↦
+    elim c.if-not-is_needless.branch [
+      | then-not-is_needless+in_ok-push w ↦
           subst Next (sym w.left-is)
           (rest_more xs others c.loop-rectangle.left.items w.push.new.self.items i _ low w.in_ok-push.ensures.items
           c.loop-rectangle.invariant)
-      | else-not-has_at w ↦
+      | else-not-is_needless w ↦
           subst Next (sym w.left-is)
-          (rest_among xs others c.loop-rectangle.left.items i _ low (c.has_at.ensures w.if-not-has_at.false)
+          (rest_among xs others c.loop-rectangle.left.items i _ low (c.is_needless.ensures w.if-not-is_needless.false)
           c.loop-rectangle.invariant)
     ]
