@@ -61,7 +61,7 @@ fn has_reference(runs: &[Run], run: usize, reference: usize) -> bool
 /// The index of the run with the reference at this index, if all runs are equally long.
 fn guessed(runs: &[Run], reference: usize) -> usize {
     let count = runs.len();
-    if count == 0 {
+    if count <= 1 {
         return 0;
     }
     let references = runs[count - 1].end as usize;
