@@ -153,6 +153,9 @@ pub(crate) fn is_past(
     let Some(known) = found else {
         return Ok(false);
     };
+    if !has_no_square(&rows_up_to(*window, last_row(window, known.1))) {
+        return Ok(false);
+    }
     let lesser = group.part(alloc, pair, group.span.up_to(known.0))?;
     let rows = rows_before(alloc, pair.view, &lesser, window, &known);
     Ok(has_no_square(&rows))
@@ -311,7 +314,8 @@ fn uncut(
 /// fits the budget, the window is drawn as a whole; else, or if it has more points or doesn't fit in
 /// memory, its halves are searched one after the other. A window of one square may have any number of
 /// points, and so may each window once all cuts are made. Each window looks only at those own shapes
-/// and references of the tops that may cover squares of the one that it is a half of.
+/// and references of the tops that may cover squares of the one that it is a half of, and none is looked
+/// at of which no square may come before what is known.
 ///
 /// There are at most two windows for each cut, and one more.
 pub(crate) fn difference_within(
@@ -330,6 +334,9 @@ pub(crate) fn difference_within(
     ensures few { IfOk result (λ after. after.windows + 2 * cuts_left after.pace
         ≤ before.windows + 2 * cuts_left before.pace + 1) }
 {
+    if is_past(alloc, pair, group, window, before.found)? {
+        return Ok(before);
+    }
     let most = before.pace.points();
     if expected <= most as u64 {
         let tried = whole(alloc, pair, group, wider, window, before, most);

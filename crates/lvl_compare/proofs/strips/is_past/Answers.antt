@@ -23,4 +23,4 @@ returns c = λ past.
     (subst (λ (s : Span). IsLesser c.args.group.now.span.last (Some c.in-Some.known.0) s.last) (sym span)
     c.up_to.ensures.last)
     c.in_ok-lesser.ensures.listed c.rows_before-rows.ensures
-    (λ l q h. absurd (c.has_no_square.ensures past q h.1)) refl)
+    (λ l q h. absurd (c.has_no_square-2.ensures past q h.1)) refl)
