@@ -22,13 +22,11 @@ use crate::partners::{partner_in, partners_of};
 use crate::references::hold_references;
 use crate::shapes::hold_shapes;
 use crate::whole::{Budget, is_same_pair, settled};
+use crate::windows::MOST_WINDOWS;
 use lvl_compare::Pair;
 use lvl_flat::Fitted;
 use lvl_view::View;
 use std::alloc::{AllocError, Global};
-
-/// The greatest number of windows that are kept for a cell.
-const MOST_WINDOWS: u64 = 64;
 
 /// The greatest number of windows of a cell that are placed, at all its places together; but at
 /// least one is kept.
@@ -36,8 +34,8 @@ const MOST_PLACED: u64 = 4096;
 
 /// The greatest number of windows that are kept for a cell that is placed `times` times.
 fn most_windows(times: u64) -> usize {
-    if times <= MOST_PLACED / MOST_WINDOWS {
-        return MOST_WINDOWS as usize;
+    if times <= MOST_PLACED / MOST_WINDOWS as u64 {
+        return MOST_WINDOWS;
     }
     if times < MOST_PLACED {
         return (MOST_PLACED / times) as usize;

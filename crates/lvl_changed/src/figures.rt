@@ -20,48 +20,34 @@ pub(crate) struct Seen<'a> {
     pub view: &'a View,
 }
 
-/// The index of the least point of a ring, by abscissa and then by ordinate. It only guides the search, so it has no
-/// contract.
-fn least_point(ring: &MovedRing<'_>) -> usize {
-    let mut index = 0;
-    let mut least = (i64::MAX, i64::MAX);
-    for k in 0..ring.len() {
-        if let Some(Point { x, y }) = ring.get(k) {
-            if (x, y) < least {
-                index = k;
-                least = (x, y);
-            }
-        }
-    }
-    index
+/// Hashes a point.
+fn hash_point(hasher: &mut FoldHasher, point: Point) {
+    hasher.write_i64(point.x);
+    hasher.write_i64(point.y);
 }
 
-/// Hashes the points of a ring from an index up to another.
-fn hash_points(hasher: &mut FoldHasher, ring: &MovedRing<'_>, from: usize, end: usize) {
-    for k in from..end {
-        if let Some(point) = ring.get(k) {
-            hash_point(hasher, point);
-        }
-    }
+/// The hash of a point.
+fn hash_of(point: Point) -> u64 {
+    let mut hasher = FoldHasher::default();
+    hash_point(&mut hasher, point);
+    hasher.finish()
 }
 
-/// Hashes a ring: of four points its reach, so that a rectangle that is written from another corner has the same
-/// hash, else all points, from the least one on.
+/// Hashes a ring: of four points its reach, else all points in no order, so that a ring that is written from another
+/// corner has the same hash.
 fn hash_ring(hasher: &mut FoldHasher, ring: &MovedRing<'_>) {
     if let (4, Some((low, high))) = (ring.len(), ring.reach()) {
         hash_point(hasher, low);
         hash_point(hasher, high);
         return;
     }
-    let start = least_point(ring);
-    hash_points(hasher, ring, start, ring.len());
-    hash_points(hasher, ring, 0, start);
-}
-
-/// Hashes a point.
-fn hash_point(hasher: &mut FoldHasher, point: Point) {
-    hasher.write_i64(point.x);
-    hasher.write_i64(point.y);
+    let mut all = 0;
+    for k in 0..ring.len() {
+        if let Some(point) = ring.get(k) {
+            all ^= hash_of(point);
+        }
+    }
+    hasher.write_u64(all);
 }
 
 /// The window of the squares that a ring covers, if it is a rectangle of four points.
@@ -104,19 +90,21 @@ fn agree(
     true
 }
 
-/// How many points after its first one a ring goes on as another does from its first one, by an index of a point of
-/// both. Each has this number of points.
-fn turn_of(here: usize, there: usize, count: usize) -> usize
-    ensures { result ≤ count }
+/// The index of the point of the second ring that is the first of the first ring, or its number of points if it has no
+/// such point.
+fn turn_of(first: &MovedRing<'_>, second: &MovedRing<'_>) -> usize
+    ensures { result ≤ length second.now }
 {
-    let turn = match there.checked_sub(here) {
-        Some(turn) => turn,
-        None => count.saturating_sub(here.saturating_sub(there)),
-    };
-    turn.min(count)
+    let start = first.get(0);
+    for k in 0..second.len() {
+        if second.get(k) == start {
+            return k;
+        }
+    }
+    second.len()
 }
 
-/// Whether both rings have the same points in the same order, from some point of each on.
+/// Whether both rings have the same points in the same order, from the first point of the first on.
 fn have_same_points(first: &MovedRing<'_>, second: &MovedRing<'_>) -> bool
     ensures { IsTrue result → (s : Square) → Covers first.now s ↔ Covers second.now s }
 {
@@ -124,7 +112,7 @@ fn have_same_points(first: &MovedRing<'_>, second: &MovedRing<'_>) -> bool
     if second.len() != count {
         return false;
     }
-    let turn = turn_of(least_point(first), least_point(second), count);
+    let turn = turn_of(first, second);
     let rest = count - turn;
     agree(first, 0, second, turn, rest) && agree(first, rest, second, 0, turn)
 }

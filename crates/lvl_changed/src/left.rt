@@ -9,7 +9,7 @@ ghost use Rattle.lvl_changed.specs.inside.Figures.{AreLeft};
 ghost use Rattle.lvl_changed.specs.inside.Shapes.{put_on, ShapesCover};
 
 use crate::figures::{Seen, has_shape};
-use crate::twins::twin_at;
+use crate::twins::Near;
 use lvl_cells::{Cell, References, Shapes};
 use lvl_names::{Layer, Offsets};
 use lvl_view::View;
@@ -68,8 +68,10 @@ fn alone(
         view: other_view,
     };
     let mut left = Shapes::new(alloc);
+    let mut near = Near::none();
     for i in 0..shapes.len() {
-        if !has_shape(there, twin_at(twins, i), seen, i) {
+        let twin = near.twin(there, twins, i);
+        if !has_shape(there, twin, seen, i) {
             push_left(alloc, &mut left, shapes, i)?;
         }
     }

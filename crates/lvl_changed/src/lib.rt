@@ -37,6 +37,8 @@ mod area;
 mod arrays;
 mod cells;
 mod changes;
+mod closeness;
+mod corners;
 mod difference;
 mod drawing;
 mod figures;

@@ -21,6 +21,10 @@ const FEW: usize = 262_144;
 /// About how many spots of a cell are looked at at least.
 const SELDOM: u64 = 8;
 
+/// After how many references of two cells it is seen whether all cells that these place have partners: cells that are
+/// placed all over a layout mostly do by then.
+const SOON: usize = 1024;
+
 /// The cells of two libraries, while they are matched.
 #[derive(Drop)]
 struct Matching<'a> {
@@ -225,8 +229,8 @@ impl<'a> Matching<'a> {
         }
     }
 
-    /// Proposes the cells that two cells place, reference by reference. Returns whether all of these place them at
-    /// the same spots, one after the other.
+    /// Proposes the cells that two cells place, reference by reference. Returns whether no others need be proposed: if
+    /// all references place them at the same spots, one after the other, or if all have partners soon.
     fn propose_in_step(
         &mut self,
         ours: usize,
@@ -248,6 +252,9 @@ impl<'a> Matching<'a> {
                 return Ok(false);
             }
             self.propose(placed.cell, other.cell, round);
+            if j == SOON && !self.places_alone(ours) {
+                return Ok(true);
+            }
         }
         Ok(true)
     }
@@ -267,8 +274,11 @@ impl<'a> Matching<'a> {
             return Ok(());
         }
         if self.propose_in_step(ours, theirs, Round::Named)? {
-            self.propose_in_step(ours, theirs, Round::Free)?;
-            self.propose_in_step(ours, theirs, Round::Shared)?;
+            for round in [Round::Free, Round::Shared] {
+                if self.places_alone(ours) {
+                    self.propose_in_step(ours, theirs, round)?;
+                }
+            }
             return Ok(());
         }
         let references = reference_count(first, ours);

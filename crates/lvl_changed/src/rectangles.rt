@@ -9,13 +9,11 @@ ghost use Rattle.lvl_names.specs.declared.layer.Layer.{Layer as PlainLayer};
 ghost use Rattle.lvl_changed.specs.inside.Rectangles.{RectangleCovers, RectanglesCover};
 ghost use Rattle.lvl_changed.specs.inside.Rests.{IsRest};
 
-use crate::windows::{Windows, meet};
+use crate::closeness::meet;
+use crate::windows::{MOST_WINDOWS, Windows};
 use lvl_grid::Window;
 use lvl_names::Layer;
 use std::alloc::{AllocError, Global};
-
-/// The greatest number of windows round rectangles that only one list has.
-const MOST_WINDOWS: usize = 64;
 
 /// What rectangles are sorted by. Different rectangles may have the same key.
 type Key = (i64, i64, Layer, i64);
@@ -171,7 +169,8 @@ fn is_needless(rectangle: &Rectangle, others: &[Rectangle], at: usize, windows: 
     has_at(others, at, rectangle) && !meets_some(rectangle.window, windows)
 }
 
-/// Those of the rectangles that the others don't have or that meet one of some windows. Both lists should be joined.
+/// Those of the rectangles that the others don't have or that meet one of some windows. Both lists should be
+/// sorted by columns, or more is left than need be.
 pub(crate) fn apart(
     alloc: Global,
     rectangles: &[Rectangle],

@@ -15,7 +15,7 @@ ghost use Rattle.lvl_changed.specs.inside.Shapes.{FigureCovers, put_on, ShapesCo
 use crate::figures::{Seen, has_shape, rectangle_of};
 use crate::left::push_shape;
 use crate::rectangles::Rectangle;
-use crate::twins::twin_at;
+use crate::twins::Near;
 use lvl_cells::{Cell, References, Shapes};
 use lvl_grid::{Point, Window};
 use lvl_names::{Name, Offsets};
@@ -82,8 +82,10 @@ pub(crate) fn rest_of(
         rectangles: Vec::new(alloc),
         shapes: Shapes::new(alloc),
     };
+    let mut near = Near::none();
     for i in 0..seen.shapes.len() {
-        if !has_shape(others, twin_at(twins, i), seen, i) {
+        let twin = near.twin(others, twins, i);
+        if !has_shape(others, twin, seen, i) {
             rest.push(alloc, seen, i)?;
         }
     }

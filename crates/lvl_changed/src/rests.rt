@@ -103,6 +103,8 @@ fn without_joined(alloc: Global, ours: Rest, theirs: Rest) -> Result<(Rest, Rest
     let our_own = apart(alloc, &our_joined, &their_joined, &[])?;
     let their_own = apart(alloc, &their_joined, &our_joined, &[])?;
     let windows = windows_round(alloc, &our_own, &their_own)?;
+    drop(our_own);
+    drop(their_own);
     let our_left = apart(alloc, &our_joined, &their_joined, &windows)?;
     let their_left = apart(alloc, &their_joined, &our_joined, &windows)?;
     Ok((

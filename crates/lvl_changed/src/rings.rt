@@ -7,7 +7,8 @@ ghost use Rattle.lvl_changed.specs.inside.Areas.{Grows, IsIn};
 ghost use Rattle.lvl_changed.specs.inside.Windows.{Has, Widens};
 
 use crate::area::Area;
-use crate::windows::{Windows, spot};
+use crate::corners::spot;
+use crate::windows::Windows;
 use lvl_columns::difference_in;
 use lvl_grid::{Point, Rings, Window};
 use lvl_names::Layer;

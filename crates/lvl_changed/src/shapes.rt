@@ -13,13 +13,13 @@ ghost use Rattle.lvl_changed.specs.inside.Areas.{AlikeOutside, Grows, IsIn};
 ghost use Rattle.lvl_changed.specs.inside.Shapes.{ShapesCover, FlatCovers, HasMoved};
 
 use crate::area::Area;
+use crate::corners::between;
 use crate::figures::Seen;
 use crate::left::left_of;
 use crate::pays::rings_of;
 use crate::rings::hold_rings;
 use crate::shifts::moved;
 use crate::twins::{Repeated, twins_of};
-use crate::windows::between;
 use lvl_cells::{Cell, MovedRing, Shapes};
 use lvl_compare::{lesser, past};
 use lvl_flat::{Flat, flatten_shapes};

@@ -1,10 +1,13 @@
 //! Twins: which shapes of two lists may be the same.
 //!
 //! They only guide a search, so they have no contracts: what they lead to is compared.
+ghost use Rattle.std.specs.Prelude.{◌<◌, length, IsTrue};
+ghost use Rattle.lvl_cells.specs.Cells.{shape_at};
 ghost use Rattle.std.specs.Prelude.{◌<◌, length};
 
 use crate::figures::Seen;
 use crate::table::{Look, Table};
+use lvl_cells::Shapes;
 use std::alloc::{AllocError, Global};
 use std::hash::{FoldHasher, Hasher};
 
@@ -58,10 +61,64 @@ fn word(index: usize) -> u32 {
 }
 
 /// The twin of the shape at an index, if it has one.
-pub(crate) fn twin_at(twins: &[u32], index: usize) -> Option<usize> {
+fn twin_at(twins: &[u32], index: usize) -> Option<usize> {
     match at(twins, index) {
         NONE => None,
         twin => Some(twin as usize),
+    }
+}
+
+/// Whether the list has a shape at an index that has rings.
+fn has_rings(shapes: &Shapes, j: usize) -> bool
+    ensures { IsTrue result → (j < length shapes.now) × (0 < length (shape_at shapes.now j).figure) }
+{
+    j < shapes.len() && shapes.ring_count(j) > 0
+}
+
+/// Whether the list has a shape at an index with a ring that doesn't begin at the greatest abscissa.
+fn is_short_of_the_end(shapes: &Shapes, j: usize) -> bool {
+    if !has_rings(shapes, j) {
+        return false;
+    }
+    match shapes.ring(j, 0).get(0) {
+        Some(point) => point.x < i64::MAX,
+        None => false,
+    }
+}
+
+/// The twins of some shapes that follow one another, which are looked at together: each looked at by itself would wait
+/// for the memory.
+#[derive(Drop)]
+pub(crate) struct Near([Option<usize>; TOGETHER]);
+
+impl Near {
+    /// No twins.
+    pub(crate) fn none() -> Near {
+        Near([None; TOGETHER])
+    }
+
+    /// The twin of the shape at an index, if it has one. The shapes are to be asked for in their order.
+    pub(crate) fn twin(&mut self, others: Seen<'_>, twins: &[u32], index: usize) -> Option<usize> {
+        if index % TOGETHER == 0 {
+            self.look(others, twins, index);
+            self.look_further(others);
+        }
+        self.0[index % TOGETHER]
+    }
+
+    /// Looks where the twins of the shapes from an index on are kept.
+    fn look(&mut self, others: Seen<'_>, twins: &[u32], from: usize) {
+        for k in 0..TOGETHER {
+            let twin = twin_at(twins, from.saturating_add(k));
+            self.0[k] = twin.filter(|twin| has_rings(others.shapes, *twin));
+        }
+    }
+
+    /// Looks where the rings of these twins begin. Almost every twin passes this: it is asked so that it is looked at.
+    fn look_further(&mut self, others: Seen<'_>) {
+        for k in 0..TOGETHER {
+            self.0[k] = self.0[k].filter(|twin| is_short_of_the_end(others.shapes, *twin));
+        }
     }
 }
 

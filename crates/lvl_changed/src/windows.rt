@@ -1,5 +1,5 @@
 //! A few windows that together have all squares of some set, and possibly more.
-ghost use Rattle.std.specs.Prelude.{◌≡◌, ◌<◌, ◌+◌, IsTrue, IfOk, IfSome, OnOk, Contains, vec_len};
+ghost use Rattle.std.specs.Prelude.{◌<◌, ◌≤◌, ◌+◌, IsTrue, IfOk, IfSome, OnOk, Contains, vec_len};
 ghost use Rattle.lvl_grid.specs.declared.point.Point.{Point as GridPoint};
 ghost use Rattle.lvl_grid.specs.declared.point.Square.{Square};
 ghost use Rattle.lvl_grid.specs.Clip.{IsInWindow};
@@ -13,10 +13,15 @@ ghost use Rattle.lvl_changed.specs.inside.Placements.{PlacedCover};
 ghost use Rattle.lvl_changed.specs.inside.Windows.{Has, HasPlaced, Widens};
 
 use crate::arrays::Array;
+use crate::closeness::{cost_of_joining, meet};
+use crate::corners::{between, high_corner, low_corner, spot};
 use crate::shifts::moved;
 use lvl_flat::Fitted;
-use lvl_grid::{Map, Point, Window};
+use lvl_grid::{Map, Window};
 use std::alloc::{AllocError, Global};
+
+/// The greatest number of windows that are kept where many squares may differ.
+pub(crate) const MOST_WINDOWS: usize = 64;
 
 /// The greatest number of places of an array at which windows are placed one by one.
 const MOST_PLACES: u64 = 4096;
@@ -31,72 +36,11 @@ pub(crate) struct Windows {
     anywhere: bool,
 }
 
-/// Whether the windows share a square.
-pub(crate) fn meet(first: Window, second: Window) -> bool {
-    let across = first.x0 < second.x1 && second.x0 < first.x1;
-    across && first.y0 < second.y1 && second.y0 < first.y1
-}
-
 /// Whether the window has no squares.
 fn has_no_square(window: Window) -> bool
     ensures { IsTrue result → (s : Square) → ¬ IsInWindow window s }
 {
     window.x0 >= window.x1 || window.y0 >= window.y1
-}
-
-/// The number of squares of a window.
-fn area(window: Window) -> u128 {
-    u128::from(window.x0.abs_diff(window.x1)) * u128::from(window.y0.abs_diff(window.y1))
-}
-
-/// The number of squares that two windows get if they are joined.
-fn growth(first: Window, second: Window) -> u128 {
-    let both = area(first).saturating_add(area(second));
-    area(first.joined(second)).saturating_sub(both)
-}
-
-/// The window from a point to the same point, which has no squares.
-pub(crate) fn spot(point: Point) -> Window
-    ensures { result ≡ record { x0 = point.x; y0 = point.y; x1 = point.x; y1 = point.y } }
-{
-    Window {
-        x0: point.x,
-        y0: point.y,
-        x1: point.x,
-        y1: point.y,
-    }
-}
-
-/// The window between two corners.
-pub(crate) fn between(low: Point, high: Point) -> Window
-    ensures { result ≡ record { x0 = low.x; y0 = low.y; x1 = high.x; y1 = high.y } }
-{
-    Window {
-        x0: low.x,
-        y0: low.y,
-        x1: high.x,
-        y1: high.y,
-    }
-}
-
-/// The lower left corner of a window.
-fn low_corner(window: &Window) -> Point
-    ensures { result ≡ record { x = window.now.x0; y = window.now.y0 } }
-{
-    Point {
-        x: window.x0,
-        y: window.y0,
-    }
-}
-
-/// The upper right corner of a window.
-fn high_corner(window: &Window) -> Point
-    ensures { result ≡ record { x = window.now.x1; y = window.now.y1 } }
-{
-    Point {
-        x: window.x1,
-        y: window.y1,
-    }
 }
 
 /// The image of a window, or None if a corner of it is outside 64 signed bits.
@@ -203,7 +147,7 @@ impl Windows {
         Ok(())
     }
 
-    /// The index of a window that grows least if it is joined with the next, or None if there is no
+    /// The index of a window that is joined with the next at the least cost, or None if there is no
     /// next one.
     fn closest(&self) -> Option<usize>
         ensures { IfSome result (λ i. i + 1 < vec_len self.now.list) }
@@ -211,10 +155,10 @@ impl Windows {
         let mut closest = None;
         let mut least = u128::MAX;
         for i in 1..self.list.len() {
-            let grown = growth(self.list[i - 1], self.list[i]);
-            if closest.is_none() || grown < least {
+            let cost = cost_of_joining(self.list[i - 1], self.list[i]);
+            if closest.is_none() || cost < least {
                 closest = Some(i - 1);
-                least = grown;
+                least = cost;
             }
         }
         closest
@@ -230,8 +174,35 @@ impl Windows {
         self.list[i] = self.list[i].joined(next);
     }
 
-    /// If there are more than `limit` windows, joins some until there are at most `most`: from left
-    /// to right those that follow one another and grow least.
+    /// Whether a window is to be joined with the next: if there are too many, if that costs at most
+    /// this, and if the next wasn't the last that was joined.
+    fn is_close(&self, i: usize, joined: usize, most_cost: u128) -> bool
+        requires { i + 1 < vec_len self.now.list }
+    {
+        if self.list.len() <= self.most || i + 1 == joined {
+            return false;
+        }
+        cost_of_joining(self.list[i], self.list[i + 1]) <= most_cost
+    }
+
+    /// Joins windows with the next where that costs at most this, from right to left, until there are
+    /// at most `most`. None is joined twice.
+    fn join_at(&mut self, most_cost: u128)
+        ensures kept { Widens self.old self.new }
+        ensures fewer { vec_len self.new.list ≤ vec_len self.old.list }
+    {
+        let mut joined = self.list.len();
+        for i in (0..self.list.len()).rev() {
+            if i + 1 < self.list.len() && self.is_close(i, joined, most_cost) {
+                self.join_next(i);
+                joined = i;
+            }
+        }
+    }
+
+    /// If there are more than `limit` windows, joins some until there are at most `most`: those that
+    /// follow one another from left to right and cost least, and with them those that cost at most
+    /// twice that.
     fn reduce(&mut self, limit: usize)
         ensures { Widens self.old self.new }
     {
@@ -244,7 +215,9 @@ impl Windows {
             let Some(i) = self.closest() else {
                 return;
             };
+            let least = cost_of_joining(self.list[i], self.list[i + 1]);
             self.join_next(i);
+            self.join_at(least.saturating_mul(2));
         }
     }
 

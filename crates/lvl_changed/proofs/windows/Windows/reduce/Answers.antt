@@ -15,7 +15,8 @@ returns-in_default c =
     c.loop-self.invariant
 
 pub loop-self-preserved : goal.loop-self-preserved
-loop-self-preserved c = widens_further _ _ _ c.loop-self.invariant c.join_next.ensures.kept
+loop-self-preserved c =
+    widens_further _ _ _ (widens_further _ _ _ c.loop-self.invariant c.join_next.ensures.kept) c.join_at.ensures.kept
 
 pub returns : goal.returns
 returns c =

@@ -1,0 +1,25 @@
+//! Which windows are best joined. Nothing that is found depends on it, so these functions have no contracts.
+
+use lvl_grid::Window;
+
+/// Which part of the squares of two joined windows is added to what joining them costs: so of windows that get as many
+/// squares the small ones are joined, and not all with the same one.
+const PART: u128 = 64;
+
+/// Whether the windows share a square.
+pub(crate) fn meet(first: Window, second: Window) -> bool {
+    let across = first.x0 < second.x1 && second.x0 < first.x1;
+    across && first.y0 < second.y1 && second.y0 < first.y1
+}
+
+/// The number of squares of a window.
+fn area(window: Window) -> u128 {
+    u128::from(window.x0.abs_diff(window.x1)) * u128::from(window.y0.abs_diff(window.y1))
+}
+
+/// What it costs to join two windows: the squares that they get, and a small part of all that the joined one has.
+pub(crate) fn cost_of_joining(first: Window, second: Window) -> u128 {
+    let both = area(first).saturating_add(area(second));
+    let joined = area(first.joined(second));
+    joined.saturating_sub(both).saturating_add(joined / PART)
+}
