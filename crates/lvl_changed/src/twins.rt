@@ -1,9 +1,8 @@
 //! Twins: which shapes of two lists may be the same.
 //!
-//! They only guide a search, so they have no contracts: what they lead to is compared.
+//! They only guide a search, so no contract says which they are: what they lead to is compared.
 ghost use Rattle.std.specs.Prelude.{◌<◌, length, IsTrue};
 ghost use Rattle.lvl_cells.specs.Cells.{shape_at};
-ghost use Rattle.std.specs.Prelude.{◌<◌, length};
 
 use crate::figures::Seen;
 use crate::table::{Look, Table};
