@@ -30,6 +30,8 @@ mod shifts;
 #[cfg(test)]
 mod texts;
 #[cfg(test)]
+mod tops;
+#[cfg(test)]
 mod views;
 #[cfg(test)]
 mod words;

@@ -1,7 +1,8 @@
 //! The steps for one of two files: read it, check its cells, test where its top places anything outside 64 bits, and
 //! look for its shapes on the sources of a map.
-ghost use Rattle.std.specs.Prelude.{◌≡◌, ◌≢◌, List, ℕ, Some, None, Err, IfOk, IfErr, option_copied};
+ghost use Rattle.std.specs.Prelude.{◌≡◌, List, ℕ, Some, None, Err, IfOk, IfErr, IfSome, option_copied};
 ghost use Rattle.lvl_io.specs.Bytes.{CountsFailure};
+ghost use Rattle.lvl_cells.specs.Soundness.{AreReferred};
 ghost use Rattle.lvl_count.specs.Drawn.{first_undrawn};
 ghost use Rattle.lvl_count.specs.Listed.{tops};
 ghost use Rattle.lvl_flat.specs.Flattened.{IsTopInRange};
@@ -16,8 +17,8 @@ ghost use Rattle.lvl.specs.declared.verdict.Refusal.TheVariants.{File as FileRef
 
 use crate::layout::{Head, read_layout_with};
 use crate::verdict::{CellRefusal, Refusal};
-use lvl_cells::{Checked, Library, check_or_return};
-use lvl_count::{first_undrawn, top_names};
+use lvl_cells::{Checked, Library, Refused, check_or_return};
+use lvl_count::{first_undrawn, top_names, unreferred_names};
 use lvl_flat::Fitted;
 use lvl_io::Read;
 use lvl_names::{Layer, Name};
@@ -25,7 +26,7 @@ use lvl_profile::{Limits, Profile};
 use lvl_refusal::Cause;
 use lvl_region::Side;
 use lvl_view::View;
-use std::alloc::Global;
+use std::alloc::{AllocError, Global};
 
 /// Reads a file, and returns its library and what it says about itself.
 pub(crate) fn read_side<R: Read>(
@@ -64,16 +65,17 @@ fn name_of(top: &Option<Vec<u8>>) -> Option<&[u8]>
 }
 
 /// The names of the cells to which no cell refers, if no top is named.
-fn tops_of(alloc: Global, library: &Library, top: Option<&[u8]>) -> Result<Vec<Name>, Refusal>
-    ensures names { IfOk result (λ names. option_copied top.entry ≡ None → names.items ≡ tops library.now) }
-    ensures memory { IfErr result (λ refusal. refusal ≡ OutOfMemory) }
+fn tops_of(alloc: Global, refused: &Refused, top: Option<&[u8]>) -> Result<Vec<Name>, AllocError>
+    requires { IfSome refused.now.referred (λ marks. AreReferred refused.now.library marks.items) }
+    ensures { IfOk result (λ names. option_copied top.entry ≡ None → names.items ≡ tops refused.now.library) }
 {
     if top.is_some() {
         return Ok(Vec::new(alloc));
     }
-    match top_names(alloc, &library.cells) {
-        Ok(names) => Ok(names),
-        Err(_) => Err(Refusal::OutOfMemory),
+    let cells = &refused.library.cells;
+    match &refused.referred {
+        Some(referred) => unreferred_names(alloc, cells, referred),
+        None => top_names(alloc, cells),
     }
 }
 
@@ -90,8 +92,11 @@ pub(crate) fn check_named(
 {
     match check_or_return(alloc, library, top, limits) {
         Ok(checked) => Ok(checked),
-        Err(Cause::Breach((fault, library))) => {
-            let tops = tops_of(alloc, &library, top)?;
+        Err(Cause::Breach(refused)) => {
+            let Ok(tops) = tops_of(alloc, &refused, top) else {
+                return Err(Refusal::OutOfMemory);
+            };
+            let fault = refused.fault;
             Err(Refusal::Cells(side, CellRefusal { fault, tops }))
         }
         Err(Cause::OutOfMemory) => Err(Refusal::OutOfMemory),

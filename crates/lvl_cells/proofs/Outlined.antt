@@ -1,9 +1,9 @@
 -- Kept rings: what a stretch of points means, and a list of rings after one more is kept.
-use Rattle.std.proofs.Common.{◌≡◌, ◌≤◌, ◌-◌, ◌+◌, ℕ, Bool, true, false, List, [], ◌∷◌, ◌++◌, take, drop, map}
-use Rattle.std.proofs.Common.{not, FitsSigned, w64}
+use Rattle.std.proofs.Common.{◌≡◌, ◌≤◌, ◌<◌, ◌-◌, ◌+◌, ℕ, Bool, true, false, List, [], ◌∷◌, ◌++◌, take, drop, map}
+use Rattle.std.proofs.Common.{not, FitsSigned, IsTrue, w64}
 use Rattle.std.proofs.Common.{rules, length, get_or, All, refl, sym, ap, arith, subst, ◌∙◌}
 use Rattle.std.proofs.lemmas.Int.{ints}
-use Rattle.std.proofs.lemmas.List.{append_assoc, drop_at, length-append, map-append, take_all}
+use Rattle.std.proofs.lemmas.List.{append_assoc, drop_at, get_or_append_left, length-append, map-append, take_all}
 use Rattle.std.proofs.lemmas.List.Elements.{All-cons, All-head, All-push, All-tail, All-weaker}
 use Rattle.lvl_grid.specs.declared.point.Point.{Point}
 use Rattle.lvl_grid.specs.Turn.{FitsPoint, shifted}
@@ -12,7 +12,7 @@ use Rattle.lvl_grid.proofs.Composing.{same_point}
 use Rattle.lvl_cells.specs.declared.outlines.OutlineSpan.{OutlineSpan}
 use Rattle.lvl_cells.specs.Cells.{Rings}
 use Rattle.lvl_cells.specs.inside.Outlines.{beside, on_x, on_y, outline, outline_in, rectangle_to}
-use Rattle.lvl_cells.specs.inside.Outlines.{stretch_in, IsOutline}
+use Rattle.lvl_cells.specs.inside.Outlines.{stretch_in, HasCorners, IsBefore, IsKept, IsOutline}
 use Rattle.lvl_cells.specs.inside.Spans.{origin, IsAgain, IsPrefixOf}
 use Rattle.lvl_names.specs.Shifts.{IsBetween}
 use Rattle.lvl_cells.proofs.Spanned.{grown, stretch_same, no_fewer, goes_on_more}
@@ -41,13 +41,33 @@ pub outline_same : (points points' : List Point) (s : OutlineSpan) → IsPrefixO
 outline_same points points' s on h =
     ap (λ ps. outline ps s.along_y) (stretch_same points points' s.begin s.end on h.order h.inside)
 
+-- the corners before a ring are the same after more points are kept
+before_still : (points points' : List Point) (n : ℕ) (ring : List Point) → IsPrefixOf points points'
+    → n ≤ length points → IsBefore points n ring → IsBefore points' n ring
+before_still points points' n ring on low h =
+    let more = drop (length points) points' in
+    let all : points' ≡ points ++ more = grown points points' on in
+    let two : 2 ≤ n = h.two in
+    let same : (k : ℕ) → k < n → get_or points' k origin ≡ get_or points k origin =
+    λ k lt. ap (λ ps. get_or ps k origin) all ∙ get_or_append_left points more origin k (omega (arith, lt, low)) in
+    record {
+      two = two;
+      around = rw (same (n - 2) (omega (arith, two)), same (n - 1) (omega (arith, two))) h.around;
+    }
+
 outline_still : (points points' : List Point) (s : OutlineSpan) → IsPrefixOf points points' → IsOutline points s
     → IsOutline points' s
-outline_still points points' s on h = record {
-  order = h.order;
-  inside = omega (arith, h.inside, no_fewer points points' on);
-  ring = subst IsRing (sym (outline_same points points' s on h)) h.ring;
-}
+outline_still points points' s on h =
+    let same : outline_in points' s ≡ outline_in points s = outline_same points points' s on h in
+    record {
+      order = h.order;
+      inside = omega (arith, h.inside, no_fewer points points' on);
+      ring = subst IsRing (sym same) h.ring;
+      reach = λ has.
+          subst (IsBefore points' s.begin) (sym same)
+          (before_still points points' s.begin (outline_in points s) on (omega (arith, h.order, h.inside))
+          (h.reach has));
+    }
 
 -- the spans stay valid after more points are kept
 pub still : (points points' : List Point) (spans : List OutlineSpan) → IsPrefixOf points points'
@@ -66,32 +86,40 @@ rings_same points points' (s ∷ spans) on h =
       rings_same points points' spans on (All-tail (IsOutline points) s spans h),
     ) refl
 
--- one more ring, kept by more points
-pub record IsPushed (points more : List Point) (spans : List OutlineSpan) (s : OutlineSpan) (rings : Rings)
+-- one more ring
+pub record IsPushed (points : List Point) (spans : List OutlineSpan) (s : OutlineSpan) (rings : Rings)
     (ring : List Point) : Type 0 where
-  pub are : All (IsOutline (points ++ more)) (spans ++ s ∷ [])
-  pub is : map (outline_in (points ++ more)) (spans ++ s ∷ []) ≡ rings ++ ring ∷ []
+  pub are : All (IsOutline points) (spans ++ s ∷ [])
+  pub is : map (outline_in points) (spans ++ s ∷ []) ≡ rings ++ ring ∷ []
 
-pub pushed : (points more : List Point) (spans : List OutlineSpan) (s : OutlineSpan) (rings : Rings) (ring : List Point)
-    → All (IsOutline points) spans → map (outline_in points) spans ≡ rings → s.begin ≡ length points
+pub pushed : (points points' : List Point) (spans : List OutlineSpan) (s : OutlineSpan) (rings : Rings)
+    (ring : List Point) → IsPrefixOf points points' → All (IsOutline points) spans
+    → map (outline_in points) spans ≡ rings → IsKept points' s ring → IsPushed points' spans s rings ring
+pushed points points' spans s rings ring on h e kept = record {
+  are = All-push (IsOutline points') spans s (still points points' spans on h) kept.valid;
+  is =
+      map-append (outline_in points') spans (s ∷ [])
+      ∙ (ap (λ rs. rs ++ outline_in points' s ∷ []) (rings_same points points' spans on h ∙ e)
+      ∙ ap (λ r. rings ++ r ∷ []) kept.is);
+}
+
+-- the points that are appended are kept
+pub appended : (points more : List Point) (s : OutlineSpan) (ring : List Point) → s.begin ≡ length points
     → s.end ≡ length points + length more → outline more s.along_y ≡ ring → IsRing ring
-    → IsPushed points more spans s rings ring
-pushed points more spans s rings ring h e b d is good =
-    let on : IsPrefixOf points (points ++ more) = goes_on_more points more in
+    → (IsTrue s.has_reach → HasCorners points ring) → IsKept (points ++ more) s ring
+appended points more s ring b d is good corners =
     let means : outline_in (points ++ more) s ≡ ring =
     ap (λ ps. outline ps s.along_y) (stretch_appended points more s.begin s.end b d) ∙ is in
     record {
-      are =
-          All-push (IsOutline (points ++ more)) spans s (still points (points ++ more) spans on h)
-          (record {
-            order = omega (arith, b, d);
-            inside = omega (arith, d, length-append points more);
-            ring = subst IsRing (sym means) good;
-          });
-      is =
-          map-append (outline_in (points ++ more)) spans (s ∷ [])
-          ∙ (ap (λ rs. rs ++ outline_in (points ++ more) s ∷ []) (rings_same points (points ++ more) spans on h ∙ e)
-          ∙ ap (λ r. rings ++ r ∷ []) means);
+      valid = record {
+        order = omega (arith, b, d);
+        inside = omega (arith, d, length-append points more);
+        ring = subst IsRing (sym means) good;
+        reach = λ has.
+            rw (means, b) (before_still points (points ++ more) (length points) ring (goes_on_more points more)
+            (omega arith) (corners has));
+      };
+      is = means;
     }
 
 -- what begins with a list and more begins with the list
@@ -101,11 +129,17 @@ goes_on_twice xs more ys h =
     let all : ys ≡ xs ++ (more ++ rest) = grown (xs ++ more) ys h ∙ append_assoc xs more rest in
     subst (IsPrefixOf xs) (sym all) (goes_on_more xs (more ++ rest))
 
+-- a beginning of a beginning
+pub goes_on_through : {X : Type 0} (xs ys zs : List X) → IsPrefixOf xs ys → IsPrefixOf ys zs → IsPrefixOf xs zs
+goes_on_through xs ys zs h g =
+    goes_on_twice xs (drop (length xs) ys) zs (subst (λ (l : List _). IsPrefixOf l zs) (grown xs ys h) g)
+
 -- a predicate of four points
 all_of_four : (P : Point → Type 0) (p q r t : Point) → P p → P q → P r → P t → All P (p ∷ q ∷ r ∷ t ∷ [])
 all_of_four P p q r t a b c d =
     All-cons P p (q ∷ r ∷ t ∷ []) a
-    (All-cons P q (r ∷ t ∷ []) b (All-cons P r (t ∷ []) c (All-cons P t [] d (λ k e none. absurd (omega (arith, none))))))
+    (All-cons P q (r ∷ t ∷ []) b (All-cons P r (t ∷ []) c
+    (All-cons P t [] d (λ k e none. absurd (omega (arith, none))))))
 
 -- what has the origin and a point between its corners has the rectangle from the one to the other
 pub between_corners : (low high d : Point) (along_y : Bool) → IsBetween low high origin → IsBetween low high d

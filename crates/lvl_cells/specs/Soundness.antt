@@ -1,6 +1,6 @@
 -- When a library is sound for a top (own rules).
 use Rattle.std.specs.Prelude.{◌≡◌, ℕ, ◌<◌, List, map, flat_map, length, ◌↔◌, All, Contains, slice_get, Option, Some}
-use Rattle.std.specs.Prelude.{None}
+use Rattle.std.specs.Prelude.{Bool, None, true}
 use Rattle.std.specs.List.{IsDistinct}
 use Rattle.std.specs.Str.{bytes_eq}
 use Rattle.lvl_cells.specs.Cells.{PlainCell, names}
@@ -20,6 +20,12 @@ IsRanked cells = (rank : List ℕ → ℕ) × All (λ link. rank link.1 < rank l
 -- some cell refers to the name
 abbrev pub IsReferred : {F : Type 0} → List (PlainCell F) → List ℕ → Type 0
 IsReferred cells name = Contains (map (λ link. link.1) (links cells)) name
+
+-- for each cell, whether some cell refers to it
+pub record AreReferred {F : Type 0} (cells : List (PlainCell F)) (marks : List Bool) : Type 0 where
+  pub long : length marks ≡ length cells
+  pub marked : (k : ℕ) (name : List ℕ) → slice_get (names cells) k ≡ Some name
+      → (slice_get marks k ≡ Some true) ↔ IsReferred cells name
 
 -- cell k has the given name; or, if none is given, it is the only cell to which no cell refers
 abbrev pub IsTop : {F : Type 0} → List (PlainCell F) → Option (List ℕ) → ℕ → Type 0

@@ -7,7 +7,7 @@ ghost use Rattle.lvl_cells.specs.Checks.{IsSettled, IsChecked, PlacesFew, IsTarg
 ghost use Rattle.lvl_cells.specs.Faults.{IsFaultOf, IsSoundWith};
 ghost use Rattle.lvl_cells.specs.Cells.{names};
 ghost use Rattle.lvl_cells.specs.Resolving.{IsPlaceOf};
-ghost use Rattle.lvl_cells.specs.Soundness.{AreLinked, IsOrder};
+ghost use Rattle.lvl_cells.specs.Soundness.{AreLinked, AreReferred, IsOrder};
 ghost use Rattle.lvl_cells.specs.Times.{AreTimes};
 ghost use Rattle.lvl_cells.specs.inside.Steps.{AreAllTargets};
 ghost use Rattle.lvl_cells.specs.inside.Times.{IsCountFault};
@@ -22,7 +22,7 @@ use crate::order::order_of;
 use crate::rows::Targets;
 use crate::targets::all_targets;
 use crate::times::times_of;
-use crate::top::top_of;
+use crate::top::{referred_in, top_of};
 use lvl_profile::Limits;
 use lvl_refusal::Cause;
 use std::alloc::{AllocError, Global};
@@ -115,13 +115,62 @@ struct Examined {
     times: Vec<u64>,
 }
 
+/// Why a library is refused.
+#[derive(Drop)]
+struct Reason {
+    fault: CellFault,
+    referred: Option<Vec<bool>>,
+}
+
+/// A library that [`check_or_return`] refuses.
+#[derive(Drop)]
+pub struct Refused {
+    /// The fault.
+    pub fault: CellFault,
+    /// The library.
+    pub library: Library,
+    /// For each cell, whether some cell refers to it; None if the fault is one of names, so that this isn't known.
+    pub referred: Option<Vec<bool>>,
+}
+
+/// An order of the cells, the index of the top, and how often it places each cell.
+fn settle(
+    alloc: Global,
+    cells: &[Cell],
+    targets: &Targets,
+    given: Option<&[u8]>,
+    index: Option<usize>,
+    limits: Limits,
+) -> Result<(Vec<usize>, usize, Vec<u64>), Cause<CellFault>>
+    requires some { 0 < length cells.now }
+    requires linked { AreLinked cells.now }
+    requires targets { AreAllTargets cells.now targets.now }
+    requires index { IsPlaceOf (names cells.now) (option_copied given) index }
+    ensures ok { IfOk result (λ found. IsSettled limits (option_copied given.entry)
+        (record { cells = cells.now; top = found.1; order = found.0.items })) }
+    ensures times { IfOk result (λ found. AreTimes (record { cells = cells.now; top = found.1; order = found.0.items })
+        found.2.items) }
+    ensures err { IfErr result (λ refusal. Says refusal (IsFaultOf limits cells.now (option_copied given.entry))) }
+{
+    let order = order_of(alloc, cells, targets)?;
+    let top = top_of(alloc, cells, targets, &order, given, index)?;
+    let linked = Linked {
+        cells,
+        targets,
+        order: &order,
+        top,
+    };
+    let times = check_counts(alloc, &linked, limits)?;
+    Ok((order, top, times))
+}
+
 /// What is found out about the cells, if [`check_with`] accepts them.
 fn examine(
     alloc: Global,
     cells: &[Cell],
     given: Option<&[u8]>,
     limits: Limits,
-) -> Result<Examined, Cause<CellFault>>
+) -> Result<Examined, Cause<Reason>>
     requires { 0 < length cells.now }
     ensures ok { IfOk result
         (λ found. IsSettled limits (option_copied given.entry)
@@ -130,24 +179,34 @@ fn examine(
     ensures times { IfOk result
         (λ found. AreTimes (record { cells = cells.now; top = found.top; order = found.order.items })
         found.times.items) }
-    ensures err { IfErr result (λ refusal. Says refusal (IsFaultOf limits cells.now (option_copied given.entry))) }
+    ensures err { IfErr result (λ refusal. Says refusal
+        (λ reason. IsFaultOf limits cells.now (option_copied given.entry) reason.fault)) }
+    ensures referred { IfErr result (λ refusal. Says refusal
+        (λ reason. IfSome reason.referred (λ marks. AreReferred cells.now marks.items))) }
 {
-    let (targets, index) = resolve(alloc, cells, given)?;
-    let order = order_of(alloc, cells, &targets)?;
-    let top = top_of(alloc, cells, &targets, &order, given, index)?;
-    let linked = Linked {
-        cells,
-        targets: &targets,
-        order: &order,
-        top,
+    let (targets, index) = match resolve(alloc, cells, given) {
+        Ok(found) => found,
+        Err(Cause::Breach(fault)) => {
+            return Err(Cause::Breach(Reason {
+                fault,
+                referred: None,
+            }));
+        }
+        Err(Cause::OutOfMemory) => return Err(Cause::OutOfMemory),
     };
-    let times = check_counts(alloc, &linked, limits)?;
-    Ok(Examined {
-        top,
-        order,
-        targets,
-        times,
-    })
+    match settle(alloc, cells, &targets, given, index, limits) {
+        Ok((order, top, times)) => Ok(Examined {
+            top,
+            order,
+            targets,
+            times,
+        }),
+        Err(Cause::Breach(fault)) => {
+            let referred = Some(referred_in(alloc, cells, &targets)?);
+            Err(Cause::Breach(Reason { fault, referred }))
+        }
+        Err(Cause::OutOfMemory) => Err(Cause::OutOfMemory),
+    }
 }
 
 /// Checks a library as [`check_with`] does, and gives it back with the fault if it is refused.
@@ -156,16 +215,22 @@ pub fn check_or_return(
     library: Library,
     top: Option<&[u8]>,
     limits: Limits,
-) -> Result<Checked, Cause<(CellFault, Library)>>
+) -> Result<Checked, Cause<Refused>>
     ensures same { IfOk result (λ checked. checked.cells ≡ library) }
     ensures sound { IfOk result (λ checked. IsSettled limits (option_copied top.entry) checked) }
-    ensures fault { IfErr result (λ refusal. Says refusal (λ found.
-        IsFaultOf limits library (option_copied top.entry) found.0)) }
-    ensures returned { IfErr result (λ refusal. Says refusal (λ found. found.1 ≡ library)) }
+    ensures fault { IfErr result (λ refusal. Says refusal (λ refused.
+        IsFaultOf limits library (option_copied top.entry) refused.fault)) }
+    ensures returned { IfErr result (λ refusal. Says refusal (λ refused. refused.library ≡ library)) }
+    ensures referred { IfErr result (λ refusal. Says refusal
+        (λ refused. IfSome refused.referred (λ marks. AreReferred library marks.items))) }
 {
     let Library { cells } = library;
     if cells.is_empty() {
-        return Err(Cause::Breach((CellFault::NoCell, Library { cells })));
+        return Err(Cause::Breach(Refused {
+            fault: CellFault::NoCell,
+            library: Library { cells },
+            referred: None,
+        }));
     }
     let Examined {
         top,
@@ -174,7 +239,13 @@ pub fn check_or_return(
         times,
     } = match examine(alloc, &cells, top, limits) {
         Ok(examined) => examined,
-        Err(Cause::Breach(fault)) => return Err(Cause::Breach((fault, Library { cells }))),
+        Err(Cause::Breach(Reason { fault, referred })) => {
+            return Err(Cause::Breach(Refused {
+                fault,
+                library: Library { cells },
+                referred,
+            }));
+        }
         Err(Cause::OutOfMemory) => return Err(Cause::OutOfMemory),
     };
     let resolved = Resolved {
@@ -182,14 +253,12 @@ pub fn check_or_return(
         order,
         targets,
     };
-    match Rc::new(alloc, resolved) {
-        Ok(resolved) => Ok(Checked {
-            resolved,
-            top,
-            times,
-        }),
-        Err(_) => Err(Cause::OutOfMemory),
-    }
+    let resolved = Rc::new(alloc, resolved)?;
+    Ok(Checked {
+        resolved,
+        top,
+        times,
+    })
 }
 
 /// Checks that a library is sound for its top and that the top places no more than the limits allow (own rules).
@@ -213,7 +282,7 @@ pub fn check_with(
 {
     match check_or_return(alloc, library, top, limits) {
         Ok(checked) => Ok(checked),
-        Err(Cause::Breach(found)) => Err(Cause::Breach(found.0)),
+        Err(Cause::Breach(refused)) => Err(Cause::Breach(refused.fault)),
         Err(Cause::OutOfMemory) => Err(Cause::OutOfMemory),
     }
 }

@@ -130,6 +130,7 @@ fn ring_again(points: &[Point], last: &FewSpan, form: &Form<'_>) -> Option<KeptR
     let outline = Outline {
         points: stretch(points, last.begin, last.end),
         along_y: last.along_y,
+        reach: None,
     };
     Some(KeptRing {
         begin: last.begin,
@@ -258,6 +259,7 @@ impl FewShapes {
         let outline = Outline {
             points: stretch(&self.points, span.begin, span.end),
             along_y: span.along_y,
+            reach: None,
         };
         MovedRing::new(outline, span.by)
     }

@@ -25,7 +25,7 @@
 #![tactic(auto)]
 
 pub use builder::Builder;
-pub use checked::{Checked, check, check_or_return, check_with};
+pub use checked::{Checked, Refused, check, check_or_return, check_with};
 pub use fault::CellFault;
 pub use library::{Cell, Library};
 pub use moved::MovedRing;

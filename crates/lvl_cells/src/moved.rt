@@ -7,7 +7,7 @@ ghost use Rattle.lvl_grid.specs.Placed.{placed_point, IsPlaceOfCovered};
 ghost use Rattle.lvl_grid.specs.Turn.{FitsPoint, shifted};
 ghost use Rattle.lvl_grid.specs.Winding.{Covers};
 ghost use Rattle.lvl_names.specs.Shifts.{IsBetween};
-ghost use Rattle.lvl_cells.specs.inside.Outlines.{ring_of};
+ghost use Rattle.lvl_cells.specs.inside.Outlines.{ring_of, IsInReach};
 ghost use Rattle.lvl_cells.specs.inside.Spans.{IsMovable};
 
 use crate::outline::Outline;
@@ -30,14 +30,14 @@ impl<'a> Model for MovedRing<'a> {
     ghost use Rattle.std.specs.Prelude.{List, map};
     ghost use Rattle.lvl_grid.specs.declared.point.Point.{Point};
     ghost use Rattle.lvl_grid.specs.Turn.{shifted};
-    ghost use Rattle.lvl_cells.specs.inside.Outlines.{ring_of};
+    ghost use Rattle.lvl_cells.specs.inside.Outlines.{ring_of, IsInReach};
     ghost use Rattle.lvl_cells.specs.inside.Spans.{IsMovable};
 
     ghost Value = { List Point };
 
     ghost view = { λ r. map (shifted r.by) (ring_of r.outline) };
 
-    ghost invariant = { λ r. IsMovable r.by (ring_of r.outline) };
+    ghost invariant = { λ r. IsMovable r.by (ring_of r.outline) × IsInReach r.outline };
 }
 
 /// The point moved by another, or None if that is outside 64 bits.
@@ -84,7 +84,8 @@ pub(crate) fn reach_of(points: &[Point]) -> Option<(Point, Point)>
 impl<'a> MovedRing<'a> {
     /// A kept ring, moved.
     pub(crate) fn new(outline: Outline<'a>, by: Point) -> MovedRing<'a>
-        requires { IsMovable by (ring_of outline) }
+        requires ring { IsMovable by (ring_of outline) }
+        requires reach { IsInReach outline }
         ensures { result ≡ map (shifted by) (ring_of outline.entry) }
     {
         MovedRing { outline, by }

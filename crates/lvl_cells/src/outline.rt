@@ -1,7 +1,7 @@
 //! Rings as they are kept: of a rectangle, only its diagonal.
 ghost use Rattle.std.specs.Prelude.{◌≡◌, All, IsTrue, IfSome};
 ghost use Rattle.lvl_names.specs.Shifts.{IsBetween};
-ghost use Rattle.lvl_cells.specs.inside.Outlines.{kept_points, rectangle_to, ring_of};
+ghost use Rattle.lvl_cells.specs.inside.Outlines.{kept_points, rectangle_to, ring_of, IsInReach};
 ghost use Rattle.lvl_cells.specs.inside.Spans.{IsAgain};
 
 use crate::form::{Form, Rectangle};
@@ -15,6 +15,8 @@ use lvl_grid::Point;
 pub(crate) struct Outline<'a> {
     pub points: &'a [Point],
     pub along_y: bool,
+    /// Its least and its greatest coordinates, if they are kept.
+    pub reach: Option<(Point, Point)>,
 }
 
 /// The points of a kept ring.
@@ -70,8 +72,12 @@ impl<'a> Outline<'a> {
 
     /// The least and the greatest coordinates of its points, or None if it has none, which isn't so for a ring.
     pub(crate) fn reach(&self) -> Option<(Point, Point)>
+        requires { IsInReach self.now }
         ensures { IfSome result (λ reach. All (IsBetween reach.0 reach.1) (ring_of self.now)) }
     {
+        if self.reach.is_some() {
+            return self.reach;
+        }
         if self.points.len() == 1 {
             return Some(corners(ORIGIN, ORIGIN, self.points[0]));
         }

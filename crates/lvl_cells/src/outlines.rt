@@ -1,23 +1,31 @@
 //! A list of kept rings.
-ghost use Rattle.std.specs.Prelude.{◌≡◌, ◌<◌, ◌++◌, ◌∷◌, [], length, get_or, OnOk};
+ghost use Rattle.std.specs.Prelude.{◌≡◌, ◌<◌, ◌++◌, ◌∷◌, [], length, get_or, All, IsTrue, IfOk, IfSome, OnOk};
 ghost use Rattle.lvl_grid.specs.Winding.{IsRing};
-ghost use Rattle.lvl_cells.specs.inside.Outlines.{rectangle_to, ring_of};
+ghost use Rattle.lvl_names.specs.Shifts.{IsBetween};
+ghost use Rattle.lvl_cells.specs.inside.Outlines.{outline_in, rectangle_to, ring_of};
+ghost use Rattle.lvl_cells.specs.inside.Outlines.{HasCorners, IsInReach, IsKept, IsOutline};
 ghost use Rattle.lvl_cells.specs.inside.Spans.{IsPrefixOf};
 
 use crate::lists::push_lean;
+use crate::moved::reach_of;
 use crate::outline::Outline;
 use crate::shape_lists::{kept_count, kept_sum};
 use lvl_grid::{Point, Ring};
 use std::alloc::{AllocError, Global};
 use std::marker::Model;
 
+/// The reach of a ring of at least so many points is kept.
+const LONG: usize = 64;
+
 /// A ring: the kept points with an index from `begin` up to `end`, which is excluded. One point is the
-/// diagonal of a rectangle, whose first edge is along y or along x.
+/// diagonal of a rectangle, whose first edge is along y or along x. If `has_reach`, the two points before
+/// them are the corners of the reach of the ring.
 #[derive(Clone, Copy)]
 pub(crate) struct OutlineSpan {
     pub begin: u32,
     pub end: u32,
     pub along_y: bool,
+    pub has_reach: bool,
 }
 
 /// Rings, of which rectangles from the origin are kept by their diagonals.
@@ -37,6 +45,71 @@ impl Model for Outlines {
     ghost view = { λ o. map (outline_in o.points.items) o.spans.items };
 
     ghost invariant = { λ o. All (IsOutline o.points.items) o.spans.items };
+}
+
+/// Appends the corners of the reach of a ring if it is long. Reports whether it did.
+fn keep_reach(points: &mut Vec<Point>, ring: &[Point]) -> Result<bool, AllocError>
+    ensures corners { IfOk result (λ kept. IsTrue kept → HasCorners points.new.items ring.now) }
+    ensures before { IsPrefixOf points.old.items points.new.items }
+{
+    if ring.len() < LONG {
+        return Ok(false);
+    }
+    let Some((low, high)) = reach_of(ring) else {
+        return Ok(false);
+    };
+    points.extend_from_slice(&[low, high])?;
+    Ok(true)
+}
+
+/// Keeps a ring by its points.
+fn keep_points(points: &mut Vec<Point>, ring: &[Point]) -> Result<OutlineSpan, AllocError>
+    requires { IsRing ring.now }
+    ensures kept { IfOk result (λ span. IsKept points.new.items span ring.now) }
+    ensures before { IsPrefixOf points.old.items points.new.items }
+{
+    let has_reach = keep_reach(points, ring)?;
+    let begin = kept_count(points.len())?;
+    let end = kept_sum(points.len(), ring.len())?;
+    points.extend_from_slice(ring)?;
+    Ok(OutlineSpan {
+        begin,
+        end,
+        along_y: false,
+        has_reach,
+    })
+}
+
+/// Keeps the rectangle from the origin to the opposite corner.
+fn keep_diagonal(
+    points: &mut Vec<Point>,
+    diagonal: Point,
+    along_y: bool,
+) -> Result<OutlineSpan, AllocError>
+    ensures kept { IfOk result (λ span. IsKept points.new.items span (rectangle_to diagonal along_y)) }
+    ensures before { IsPrefixOf points.old.items points.new.items }
+{
+    let begin = kept_count(points.len())?;
+    let end = kept_sum(points.len(), 1)?;
+    push_lean(points, diagonal)?;
+    Ok(OutlineSpan {
+        begin,
+        end,
+        along_y,
+        has_reach: false,
+    })
+}
+
+/// The least and the greatest coordinates of a ring, if they are kept.
+fn kept_reach(points: &[Point], span: &OutlineSpan) -> Option<(Point, Point)>
+    requires { IsOutline points.now span.now }
+    ensures { IfSome result (λ reach. All (IsBetween reach.0 reach.1) (outline_in points.now span.now)) }
+{
+    if !span.has_reach {
+        return None;
+    }
+    let begin = span.begin as usize;
+    Some((points[begin - 2], points[begin - 1]))
 }
 
 impl Outlines {
@@ -62,11 +135,13 @@ impl Outlines {
         requires { k < length self.now }
         ensures value { ring_of result ≡ get_or self.now k [] }
         ensures ring { IsRing (ring_of result) }
+        ensures reach { IsInReach result }
     {
         let span = &self.spans[k];
         Outline {
             points: &self.points[span.begin as usize..span.end as usize],
             along_y: span.along_y,
+            reach: kept_reach(&self.points, span),
         }
     }
 
@@ -76,14 +151,7 @@ impl Outlines {
         ensures ok { OnOk result (self.new ≡ self.old ++ ring.now ∷ []) }
         ensures before { IsPrefixOf self.old self.new }
     {
-        let begin = kept_count(self.points.len())?;
-        let end = kept_sum(self.points.len(), ring.len())?;
-        self.points.extend_from_slice(ring)?;
-        let span = OutlineSpan {
-            begin,
-            end,
-            along_y: false,
-        };
+        let span = keep_points(&mut self.points, ring)?;
         push_lean(&mut self.spans, span)?;
         Ok(())
     }
@@ -98,14 +166,7 @@ impl Outlines {
         ensures ok { OnOk result (self.new ≡ self.old ++ rectangle_to diagonal along_y ∷ []) }
         ensures before { IsPrefixOf self.old self.new }
     {
-        let begin = kept_count(self.points.len())?;
-        let end = kept_sum(self.points.len(), 1)?;
-        push_lean(&mut self.points, diagonal)?;
-        let span = OutlineSpan {
-            begin,
-            end,
-            along_y,
-        };
+        let span = keep_diagonal(&mut self.points, diagonal, along_y)?;
         push_lean(&mut self.spans, span)?;
         Ok(())
     }

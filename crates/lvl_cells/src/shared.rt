@@ -32,7 +32,8 @@ pub(crate) fn distance(from: Point, to: Point) -> Option<Point>
     Some(Point { x, y })
 }
 
-/// Whether a ring is the kept one, moved by `by`.
+/// Whether a ring is the kept one, moved by `by`. Within its callers the loop would lack registers.
+#[inline(never)]
 pub(crate) fn is_again(kept: &[Point], by: Point, ring: &[Point]) -> bool
     ensures { IsTrue result → IsAgain kept.now by ring.now }
 {

@@ -95,6 +95,7 @@ impl Single {
         let outline = Outline {
             points: &self.ring,
             along_y: false,
+            reach: None,
         };
         MovedRing::new(outline, ORIGIN)
     }

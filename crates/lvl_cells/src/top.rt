@@ -3,7 +3,7 @@ ghost use Rattle.std.specs.Prelude.{◌≡◌, ◌≢◌, ℕ, ◌<◌, ◌↔�
 ghost use Rattle.std.specs.Prelude.{false, IsTrue, IfOk, IfErr, option_copied};
 ghost use Rattle.lvl_cells.specs.Cells.{names};
 ghost use Rattle.lvl_cells.specs.Resolving.{IsPlaceOf};
-ghost use Rattle.lvl_cells.specs.Soundness.{AreLinked, IsOrder, IsTop};
+ghost use Rattle.lvl_cells.specs.Soundness.{AreLinked, AreReferred, IsOrder, IsTop};
 ghost use Rattle.lvl_cells.specs.inside.Steps.{AreAllTargets, IsTopFault};
 ghost use Rattle.lvl_cells.specs.inside.Walking.{EachTargetWithin};
 ghost use Rattle.lvl_cells.specs.inside.Topping.{IsTarget, HasOtherRoot};
@@ -39,6 +39,21 @@ fn referred_cells(alloc: Global, targets: &Targets) -> Result<Vec<bool>, AllocEr
     for cell in 0..targets.len() {
         mark_all(&mut referred, &targets.row(cell));
     }
+    Ok(referred)
+}
+
+/// For each cell of a library, whether some cell refers to it.
+pub(crate) fn referred_in(
+    alloc: Global,
+    cells: &[Cell],
+    targets: &Targets,
+) -> Result<Vec<bool>, AllocError>
+    requires linked { AreLinked cells.now }
+    requires targets { AreAllTargets cells.now targets.now }
+    ensures { IfOk result (λ marks. AreReferred cells.now marks.items) }
+{
+    let _cells = cells;
+    let referred = referred_cells(alloc, targets)?;
     Ok(referred)
 }
 

@@ -13,6 +13,7 @@ use crate::closeness::meet;
 use crate::windows::{MOST_WINDOWS, Windows};
 use lvl_grid::Window;
 use lvl_names::Layer;
+use lvl_simplify::join_rows;
 use std::alloc::{AllocError, Global};
 
 /// What rectangles are sorted by. Different rectangles may have the same key.
@@ -39,21 +40,6 @@ impl Rectangle {
     }
 }
 
-/// The window that has exactly the squares of both, if they have the same columns and the second begins within the rows
-/// of the first or where these end, else None.
-fn stacked(first: Window, second: Window) -> Option<Window>
-    ensures { IfSome result (λ window. (s : GridSquare)
-        → IsInWindow window s ↔ (IsInWindow first s ⊎ IsInWindow second s)) }
-{
-    if second.x0 != first.x0 || second.x1 != first.x1 {
-        return None;
-    }
-    if second.y0 < first.y0 || first.y1 < second.y0 {
-        return None;
-    }
-    Some(first.joined(second))
-}
-
 /// The window that has exactly the squares of both, if they have the same rows and the second begins within the columns
 /// of the first or where these end, else None.
 fn beside(first: Window, second: Window) -> Option<Window>
@@ -74,7 +60,7 @@ fn union_of(first: Window, second: Window) -> Option<Window>
     ensures { IfSome result (λ window. (s : GridSquare)
         → IsInWindow window s ↔ (IsInWindow first s ⊎ IsInWindow second s)) }
 {
-    match stacked(first, second) {
+    match join_rows(first, second) {
         Some(window) => Some(window),
         None => beside(first, second),
     }

@@ -74,8 +74,8 @@ fn has_rings(shapes: &Shapes, j: usize) -> bool
     j < shapes.len() && shapes.ring_count(j) > 0
 }
 
-/// Whether the list has a shape at an index with a ring that doesn't begin at the greatest abscissa.
-fn is_short_of_the_end(shapes: &Shapes, j: usize) -> bool {
+/// Whether the list has a shape at an index with a ring that begins to the left of the greatest abscissa.
+fn begins_within(shapes: &Shapes, j: usize) -> bool {
     if !has_rings(shapes, j) {
         return false;
     }
@@ -116,7 +116,7 @@ impl Near {
     /// Looks where the rings of these twins begin. Almost every twin passes this: it is asked so that it is looked at.
     fn look_further(&mut self, others: Seen<'_>) {
         for k in 0..TOGETHER {
-            self.0[k] = self.0[k].filter(|twin| is_short_of_the_end(others.shapes, *twin));
+            self.0[k] = self.0[k].filter(|twin| begins_within(others.shapes, *twin));
         }
     }
 }

@@ -69,7 +69,7 @@ fn are_past(
 }
 
 /// The first difference of two layouts on the Layers of a group within a window, if it precedes what is
-/// known, else what is known. Nothing is looked at if no square of the window may come before that.
+/// known, else what is known.
 fn difference_before(
     alloc: Global,
     pair: &Pair<'_>,
@@ -84,9 +84,6 @@ fn difference_before(
     ensures { IfOk result (IsImproved (ours pair.now) (theirs pair.now)
         (on group.now.span (IsInWindow window.now)) known) }
 {
-    if is_past(alloc, pair, group, window, known)? {
-        return Ok(known);
-    }
     let start = Search {
         found: known,
         pace: Pace::new(most),

@@ -4,3 +4,4 @@ pub mod Growing
 pub mod Totals
 pub mod Referring
 pub mod Drawing
+pub mod Marked

@@ -18,7 +18,7 @@ use Rattle.std.proofs.lemmas.Map.Text.{is_eq-slice_cmp}
 use Rattle.std.proofs.lemmas.Slice.Eq.{bytes_eq-Decides}
 use Rattle.lvl_count.specs.inside.Referring.{has_name}
 
-by_bool : (b : Bool) → (b ≡ true) ⊎ (b ≡ false)
+pub by_bool : (b : Bool) → (b ≡ true) ⊎ (b ≡ false)
 by_bool true = inl refl
 by_bool false = inr refl
 

@@ -26,7 +26,7 @@
 
 pub use counts::{LayerRings, rings_by_layer};
 pub use drawn::first_undrawn;
-pub use listed::{ListedCell, listed_cells, top_names};
+pub use listed::{ListedCell, listed_cells, top_names, unreferred_names};
 
 mod counts;
 mod drawn;

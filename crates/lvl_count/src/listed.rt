@@ -2,6 +2,7 @@
 ghost use Rattle.std.specs.Prelude.{◌≡◌, ◌<◌, ◌||◌, ℕ, List, length, not, IfOk, IsTrue, OnOk};
 ghost use Rattle.std.specs.List.{list_any};
 ghost use Rattle.std.specs.Str.{bytes_eq};
+ghost use Rattle.lvl_cells.specs.Soundness.{AreReferred};
 ghost use Rattle.lvl_count.specs.Listed.{listed, tops};
 ghost use Rattle.lvl_count.specs.inside.Referring.{HasReferred, Repeats, has_name};
 
@@ -87,6 +88,25 @@ pub fn top_names(alloc: Global, cells: &[Cell]) -> Result<Vec<Name>, AllocError>
     let mut names = Vec::new(alloc);
     for cell in cells {
         if is_top(&referred, cell) {
+            names.push(cell.name.clone()?)?;
+        }
+    }
+    Ok(names)
+}
+
+/// The names of the cells to which no cell refers, in file order, if it is known of each cell whether some cell refers
+/// to it. No name is sought.
+pub fn unreferred_names(
+    alloc: Global,
+    cells: &[Cell],
+    referred: &[bool],
+) -> Result<Vec<Name>, AllocError>
+    requires { AreReferred cells.now referred.now }
+    ensures { IfOk result (λ names. names.items ≡ tops cells.now) }
+{
+    let mut names = Vec::new(alloc);
+    for (k, cell) in cells.iter().enumerate() {
+        if !referred[k] {
             names.push(cell.name.clone()?)?;
         }
     }

@@ -1,8 +1,11 @@
 //! Estimates of how many points are drawn in a window.
+ghost use Rattle.std.specs.Prelude.{◌<◌, length};
+
 use crate::bounds::Bounds;
 use crate::candidates::Part;
+use crate::extents::{Extent, LONG, extent_of_figure};
 use lvl_cells::{Checked, Shapes};
-use lvl_grid::{Point, Window};
+use lvl_grid::Window;
 use std::alloc::{AllocError, Global};
 use std::rc::Rc;
 
@@ -22,13 +25,23 @@ pub struct Estimate {
     pub high: u64,
 }
 
-/// A part of the top: the number of its points, and how far its places reach from each other along
-/// both axes.
+/// How far the things reach of which a part of the top consists: no point of one of them is outside a window if another
+/// one is in it.
+#[derive(Clone, Copy)]
+enum Things {
+    /// The part is one thing, which has all of its box.
+    One,
+    /// What is left of the box of the part, since its places reach so far from each other.
+    Placed(Extent),
+    /// So far, each.
+    Spread(Extent),
+}
+
+/// A part of the top: the number of its points, and the things that have them.
 #[derive(Clone, Copy)]
 pub(crate) struct Size {
     points: u64,
-    across: u64,
-    up: u64,
+    things: Things,
 }
 
 /// Sizes of what cells place.
@@ -111,16 +124,6 @@ fn points_of_figure(shapes: &Shapes, i: usize) -> u64 {
     points
 }
 
-/// How far places reach from each other.
-fn size_of(points: u64, count: u64, reach: (Point, Point)) -> Size {
-    let (low, high) = reach;
-    Size {
-        points: points.saturating_mul(count),
-        across: low.x.abs_diff(high.x),
-        up: low.y.abs_diff(high.y),
-    }
-}
-
 /// The number of points that a cell places, given those of the cells that it refers to.
 fn points_of_cell(checked: &Checked, cell: usize, known: &[u64]) -> u64 {
     let Some(place) = checked.cells().get(cell) else {
@@ -190,22 +193,39 @@ impl Measures {
         };
         Size {
             points: inner.saturating_mul(places),
-            across: u64::MAX,
-            up: u64::MAX,
+            things: Things::Spread(Extent::NONE),
         }
+    }
+}
+
+/// The things of which a shape of so many points consists.
+fn things_of_shape(shapes: &Shapes, i: usize, points: u64) -> Things
+    requires { i < length shapes.now }
+{
+    if points >= LONG {
+        return Things::Spread(extent_of_figure(shapes, i));
+    }
+    match shapes.shifts(i) {
+        Some(shifts) => {
+            let (low, high) = shifts.reach();
+            Things::Placed(Extent::between(low, high))
+        }
+        None => Things::One,
     }
 }
 
 /// The size of the shape at index `i`.
 fn size_of_shape(shapes: &Shapes, i: usize) -> Size {
-    let origin = Point { x: 0, y: 0 };
     if i >= shapes.len() {
-        return size_of(0, 0, (origin, origin));
+        return Size {
+            points: 0,
+            things: Things::One,
+        };
     }
     let points = points_of_figure(shapes, i);
-    match shapes.shifts(i) {
-        Some(shifts) => size_of(points, shifts.len(), shifts.reach()),
-        None => size_of(points, 1, (origin, origin)),
+    Size {
+        points: points.saturating_mul(shapes.shift_count(i)),
+        things: things_of_shape(shapes, i, points),
     }
 }
 
@@ -268,14 +288,21 @@ impl Count {
 
     /// Adds a part of this size, which is spread over its box and meets the window.
     pub(crate) fn add(&mut self, size: Size, bounds: Bounds) {
-        if size.across == 0 && size.up == 0 {
-            self.add_single(size.points, bounds);
-        } else {
-            self.add_spread(size, bounds);
+        match size.things {
+            Things::One => self.add_single(size.points, bounds),
+            Things::Spread(each) => self.add_spread(size.points, each, bounds),
+            Things::Placed(apart) => {
+                let box_of_all = Extent::between(bounds.low, bounds.high);
+                let each = Extent {
+                    across: box_of_all.across.saturating_sub(apart.across),
+                    up: box_of_all.up.saturating_sub(apart.up),
+                };
+                self.add_spread(size.points, each, bounds);
+            }
         }
     }
 
-    /// Adds a part that has one place.
+    /// Adds a part that is one thing.
     fn add_single(&mut self, points: u64, bounds: Bounds) {
         let left = if bounds.low.x < self.left.to {
             points
@@ -300,8 +327,8 @@ impl Count {
         self.so_far.add(points, left, right, low, high);
     }
 
-    /// Adds a part that has several.
-    fn add_spread(&mut self, size: Size, bounds: Bounds) {
+    /// Adds the points of things that reach so far, each, and are spread over a box.
+    fn add_spread(&mut self, points: u64, each: Extent, bounds: Bounds) {
         let across = Stretch {
             from: bounds.low.x,
             to: bounds.high.x,
@@ -310,16 +337,14 @@ impl Count {
             from: bounds.low.y,
             to: bounds.high.y,
         };
-        let width = across.len().saturating_sub(size.across);
-        let height = up.len().saturating_sub(size.up);
-        let in_columns = share(size.points, across, width, self.columns);
-        let in_rows = share(size.points, up, height, self.rows);
+        let in_columns = share(points, across, each.across, self.columns);
+        let in_rows = share(points, up, each.up, self.rows);
         self.so_far.add(
-            share(in_columns, up, height, self.rows),
-            share(in_rows, across, width, self.left),
-            share(in_rows, across, width, self.right),
-            share(in_columns, up, height, self.low),
-            share(in_columns, up, height, self.high),
+            share(in_columns, up, each.up, self.rows),
+            share(in_rows, across, each.across, self.left),
+            share(in_rows, across, each.across, self.right),
+            share(in_columns, up, each.up, self.low),
+            share(in_columns, up, each.up, self.high),
         );
     }
 }

@@ -37,6 +37,7 @@ mod candidates;
 mod draw;
 mod enter;
 mod estimate;
+mod extents;
 mod fault;
 mod fitted;
 mod flat;

@@ -21,7 +21,7 @@
 
 pub use outline::Outline;
 pub use simplify::simplified;
-pub use spanning::{extent, window_of};
+pub use spanning::{extent, join_rows, window_of};
 
 mod outline;
 mod redraw;

@@ -109,7 +109,7 @@ fn parted(alloc: Global, rings: &Rings) -> Result<(Vec<Window>, Rings), AllocErr
 
 /// The window that has exactly the squares of both, if they have the same abscissas and the second
 /// begins within the rows of the first or where these end, else None.
-fn both(first: Window, second: Window) -> Option<Window>
+pub fn join_rows(first: Window, second: Window) -> Option<Window>
     ensures { IfSome result
         (λ window. (s : GridSquare) → IsInWindow window s ↔ (IsInWindow first s ⊎ IsInWindow second s)) }
 {
@@ -134,7 +134,7 @@ fn push_joined(windows: &mut Vec<Window>, next: Window) -> Result<(), AllocError
         windows.push(next)?;
         return Ok(());
     };
-    if let Some(window) = both(last, next) {
+    if let Some(window) = join_rows(last, next) {
         windows.push(window)?;
         return Ok(());
     }

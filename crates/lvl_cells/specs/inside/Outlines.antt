@@ -1,8 +1,10 @@
 -- Rings as they are kept: by their points or, if they are rectangles, by a diagonal.
-use Rattle.std.specs.Prelude.{ℕ, ◌-◌, ◌≤◌, Bool, true, false, List, [], ◌∷◌, map, take, drop, length, pos}
+use Rattle.std.specs.Prelude.{◌≡◌, ℕ, ◌-◌, ◌≤◌, Bool, true, false, List, [], ◌∷◌, map, take, drop, length, get_or, pos}
+use Rattle.std.specs.Prelude.{All, IsTrue, IfSome}
 use Rattle.lvl_grid.specs.declared.point.Point.{Point}
 use Rattle.lvl_grid.specs.Turn.{shifted}
 use Rattle.lvl_grid.specs.Winding.{IsRing}
+use Rattle.lvl_names.specs.Shifts.{IsBetween}
 use Rattle.lvl_cells.specs.declared.form.Rectangle.{Rectangle}
 use Rattle.lvl_cells.specs.declared.outline.Kept.{Kept}
 use Rattle.lvl_cells.specs.declared.outline.Outline.{Outline}
@@ -38,6 +40,10 @@ outline (p ∷ q ∷ ps) along_y = p ∷ q ∷ ps
 abbrev pub ring_of : Outline → List Point
 ring_of o = outline o.points.now o.along_y
 
+-- the reach of an outline, if it has one, is around all points of the ring
+abbrev pub IsInReach : Outline → Type 0
+IsInReach o = IfSome o.reach (λ reach. All (IsBetween reach.0 reach.1) (ring_of o))
+
 -- the points with an index from `begin` up to `end`, which is excluded
 abbrev pub stretch_in : List Point → ℕ → ℕ → List Point
 stretch_in points begin end = take (end - begin) (drop begin points)
@@ -59,8 +65,24 @@ IsRectangle r ring = IsAgain (rectangle_to r.diagonal r.along_y) r.from ring
 abbrev pub outline_in : List Point → OutlineSpan → List Point
 outline_in points s = outline (stretch_in points s.begin s.end) s.along_y
 
--- the indexes of the span are those of kept points, and what they mean is a ring
+-- the two points before an index are corners of a window that has all the points of a ring
+pub record IsBefore (points : List Point) (n : ℕ) (ring : List Point) : Type 0 where
+  pub two : 2 ≤ n
+  pub around : All (IsBetween (get_or points (n - 2) origin) (get_or points (n - 1) origin)) ring
+
+-- the last two points are such corners
+abbrev pub HasCorners : List Point → List Point → Type 0
+HasCorners points ring = IsBefore points (length points) ring
+
+-- the indexes of the span are those of kept points, what they mean is a ring, and the points before them are its
+-- corners if the span says so
 pub record IsOutline (points : List Point) (s : OutlineSpan) : Type 0 where
   pub order : s.begin ≤ s.end
   pub inside : s.end ≤ length points
   pub ring : IsRing (outline_in points s)
+  pub reach : IsTrue s.has_reach → IsBefore points s.begin (outline_in points s)
+
+-- a span of kept points means the ring
+pub record IsKept (points : List Point) (s : OutlineSpan) (ring : List Point) : Type 0 where
+  pub valid : IsOutline points s
+  pub is : outline_in points s ≡ ring

@@ -1,64 +1,16 @@
+use Rattle.std.proofs.Common.{subst, sym}
 use Rattle.std.specs.Option.{option_copied}
-use Rattle.std.proofs.lemmas.Result.{err_from_is_err_and}
-use Rattle.lvl_refusal.proofs.Saying.{Says-map}
-use Rattle.lvl_cells.specs.Checks.{Settled}
+use Rattle.lvl_profile.specs.declared.limits.Limits.{Limits}
+use Rattle.lvl_refusal.specs.Refused.{Says}
+use Rattle.lvl_refusal.specs.declared.Cause.{Cause}
 use Rattle.lvl_cells.specs.Faults.{IsFaultOf}
-use Rattle.lvl_cells.specs.inside.Steps.{IsCycleFault, IsTopFault}
-use Rattle.lvl_cells.specs.inside.Times.{IsCountFault}
-use Rattle.lvl_cells.proofs.Examining.{ranked_by, cycle_fault, top_fault, count_fault, settled_by}
+use Rattle.lvl_cells.specs.declared.fault.CellFault.{CellFault}
 use Rattle.lvl_cells.proofs.checked.examine.Goals as goal
 
-pub order_of-requires-clause-linked : goal.order_of-requires-clause-linked
-order_of-requires-clause-linked c = c.in_ok-targets.ensures.linked
-
-pub top_of-requires-clause-linked : goal.top_of-requires-clause-linked
-top_of-requires-clause-linked c = c.in_ok-targets.ensures.linked
-
-pub returns-in_err-order-clause-err : goal.returns-in_err-order-clause-err
-returns-in_err-order-clause-err c =
-    let linked = c.in_ok-targets.ensures.linked in
-    let p = err_from_is_err_and c.from_residual-in_err-order.result c.from_residual-in_err-order.ensures.1 in
-    rw (p.1, p.2) (Says-map (IsCycleFault c.args.cells.now) _ _
-    (λ f h. cycle_fault c.args.limits c.args.cells.now (option_copied c.args.given) f linked h) c.in_err-order.ensures.err)
-
-pub returns-in_err-top-clause-err : goal.returns-in_err-top-clause-err
-returns-in_err-top-clause-err c =
-    let linked = c.in_ok-targets.ensures.linked in
-    let ranked = ranked_by c.args.cells.now c.in_ok-order.order.items linked c.in_ok-order.ensures.ok in
-    let p = err_from_is_err_and c.from_residual-in_err-top.result c.from_residual-in_err-top.ensures.1 in
-    rw (p.1, p.2) (Says-map (IsTopFault c.args.cells.now (option_copied c.args.given)) _ _
-    (λ f h. top_fault c.args.limits c.args.cells.now (option_copied c.args.given) f c.requires linked ranked h)
-    c.in_err-top.ensures.err)
-
-pub order_of-requires-clause-targets : goal.order_of-requires-clause-targets
-order_of-requires-clause-targets c = c.in_ok-targets.ensures.targets
-
-pub top_of-requires-clause-index : goal.top_of-requires-clause-index
-top_of-requires-clause-index c = c.in_ok-targets.ensures.index
-
-pub top_of-requires-clause-targets : goal.top_of-requires-clause-targets
-top_of-requires-clause-targets c = c.in_ok-targets.ensures.targets
-
-pub returns-in_err-targets-clause-err : goal.returns-in_err-targets-clause-err
-returns-in_err-targets-clause-err c =
-    let given = option_copied c.args.given in
-    let p = err_from_is_err_and c.from_residual.result c.from_residual.ensures.1 in
-    rw (p.1, p.2) (Says-map _ (IsFaultOf c.args.limits c.args.cells.now given) _ (λ f h. h c.args.limits)
-    c.in_err-targets.ensures.err)
-
-pub returns-in_err-times-clause-err : goal.returns-in_err-times-clause-err
-returns-in_err-times-clause-err c =
-    let given = option_copied c.args.given in
-    let s : Settled =
-    record { cells = c.args.cells.now; top = c.in_ok-top.top; order = c.deref-2.result.now } in
-    let linked = c.in_ok-targets.ensures.linked in
-    let ranked = ranked_by c.args.cells.now c.in_ok-order.order.items linked c.in_ok-order.ensures.ok in
-    let p = err_from_is_err_and c.from_residual-in_err-times.result c.from_residual-in_err-times.ensures.1 in
-    rw (p.1, p.2) (Says-map (IsCountFault c.args.limits s) (IsFaultOf c.args.limits c.args.cells.now given) _
-    (λ f h. count_fault c.args.limits s given f linked ranked c.in_ok-top.ensures.ok.0 h) c.in_err-times.ensures.err)
-
-pub returns-clause-ok : goal.returns-clause-ok
-returns-clause-ok c =
-    settled_by c.args.limits c.args.cells.now (option_copied c.args.given) c.in_ok-order.order.items c.in_ok-top.top
-    c.in_ok-targets.ensures.linked c.in_ok-order.ensures.ok c.in_ok-top.ensures.ok.0 c.in_ok-top.ensures.ok.1
-    c.in_ok-times.ensures.few
+pub returns-in-Err-Breach-clause-err : goal.returns-in-Err-Breach-clause-err
+returns-in-Err-Breach-clause-err c =
+    subst (IsFaultOf c.args.limits c.args.cells.now (option_copied c.args.given)) (sym c.in-Err-Breach.fault-is)
+    (subst
+    (λ (r : Cause CellFault). Says r (λ fault. (limits : Limits)
+    → IsFaultOf limits c.args.cells.now (option_copied c.args.given) fault)) c.in-Err-Breach.field-0-is
+    c.in-Err-Breach.ensures.err c.args.limits)

@@ -26,7 +26,7 @@ returns c =
     let same : points ≡ ring_of c.self.inside.outline = c.as_slice.ensures ∙ c.kept-kept.ensures in
     let low : c.args.k < length points = c.in_ok-point.ensures.lookup.3.0 in
     let fits : FitsPoint (shifted by p) =
-    elim c.self.invariant.fits [
+    elim c.self.invariant.0.fits [
       | inl none ↦ absurd (points_apart by origin c.if-eq.ensures none)
       | inr all ↦
           point_fits points c.args.k by p low c.in_ok-point.ensures.lookup.1

@@ -27,7 +27,8 @@ returns-in-Some-clause-ok c =
 pub returns-in-Some-clause-covers : goal.returns-in-Some-clause-covers
 returns-in-Some-clause-covers c =
     let ring : IsRing c.args.self.now =
-    subst IsRing c.self.view_is (IsRing-moved c.self.inside.by (ring_of c.self.inside.outline) c.self.invariant.ring) in
+    subst IsRing c.self.view_is (IsRing-moved c.self.inside.by (ring_of c.self.inside.outline)
+    c.self.invariant.0.ring) in
     on_ok_weaker c.push_placed.result
     (λ e t. covers_placed c.args.by.now c.args.shift c.args.self.now ring.straight t) c.push_placed.ensures.ok
 
@@ -58,12 +59,14 @@ returns-in-Some-clause-out_of_range c = λ e.
 pub push_placed-requires-2 : goal.push_placed-requires-2
 push_placed-requires-2 c =
     let ring : IsRing c.args.self.now =
-    subst IsRing c.self.view_is (IsRing-moved c.self.inside.by (ring_of c.self.inside.outline) c.self.invariant.ring) in
+    subst IsRing c.self.view_is (IsRing-moved c.self.inside.by (ring_of c.self.inside.outline)
+    c.self.invariant.0.ring) in
     rw (c.deref.ensures.value, c.in-Ok.ensures) ring
 
 pub returns-clause-covers : goal.returns-clause-covers
 returns-clause-covers c =
     let ring : IsRing c.args.self.now =
-    subst IsRing c.self.view_is (IsRing-moved c.self.inside.by (ring_of c.self.inside.outline) c.self.invariant.ring) in
+    subst IsRing c.self.view_is (IsRing-moved c.self.inside.by (ring_of c.self.inside.outline)
+    c.self.invariant.0.ring) in
     on_ok_weaker c.push_placed-2.result
     (λ e t. covers_placed c.args.by.now c.args.shift c.args.self.now ring.straight t) c.push_placed-2.ensures.ok

@@ -33,8 +33,8 @@ move_of-requires c =
     c.index-span.ensures).is.moved in
     omega (arith, moved, ap length c.deref.ensures.value)
 
-pub new-requires : goal.new-requires
-new-requires c =
+pub new-requires-clause-ring : goal.new-requires-clause-ring
+new-requires-clause-ring c =
     let s : Span = c.index-span.result.now in
     let by : c.move_of.result ≡ displaced c.self.inside.moves.items s.moved =
     c.move_of.ensures ∙ ap (λ ms. displaced ms s.moved) c.deref.ensures.value in

@@ -24,7 +24,7 @@ returns-clause-ring c =
     (IsRing-moved origin (outline c.deref.result.now false)
     (subst IsRing (sym (outline_points c.deref.result.now false good)) good))
 
-pub new-requires : goal.new-requires
-new-requires c =
+pub new-requires-clause-ring : goal.new-requires-clause-ring
+new-requires-clause-ring c =
     let good : IsRing c.deref.result.now = subst IsRing (sym c.deref.ensures.value) c.self.invariant in
     record { ring = subst IsRing (sym (outline_points c.deref.result.now false good)) good; fits = inl refl }

@@ -1,7 +1,7 @@
 use Rattle.std.proofs.Common.{arith}
 use Rattle.std.proofs.lemmas.Int.{ints, clamps}
 use Rattle.lvl_simplify.proofs.Joining.{both_have}
-use Rattle.lvl_simplify.proofs.spanning.both.Goals as goal
+use Rattle.lvl_simplify.proofs.spanning.join_rows.Goals as goal
 
 pub returns : goal.returns
 returns c =
