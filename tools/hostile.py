@@ -295,6 +295,21 @@ def many_places():
     yield case("five polygons at 16,384 places on one spot", 10 * 16_384, five(0), five(1))
 
 
+def nearly_over_one_another():
+    """Figures of many points, each a little above the one before it: what they cover differs at one end only."""
+    def combs(kind, apart):
+        deltas = [signed(900), signed(1), signed(-900), signed(1)] * 16_383
+        again = b"\x15\x08" if kind else b"\x15\x10"
+        return one(polygon(deltas, kind), *(again + signed(apart * at) for at in range(1, 100)))
+    yield case("100 combs of 65,534 corners, 900 tall, 20 apart, against 21 apart", 200, combs(1, 20), combs(1, 21))
+    yield case("the same along the other axis", 200, combs(0, 20), combs(0, 21))
+    def paths(apart):
+        first = oas_path([signed(2), signed(900), signed(2), signed(-900)] * 4_000, 1)
+        again = (b"\x16\x08" + signed(apart * at) for at in range(1, 100))
+        return one(first, *again, rectangle(-2, -1, 8, 2_880))
+    yield case("100 paths of 16,000 runs, 900 tall, 20 apart, against 21 apart", 2 * 100 * 16_000, paths(20), paths(21))
+
+
 def layers_and_lists():
     """Many Layers, and many lists of places."""
     for n in (6_000, 20_000, 60_000):
@@ -586,7 +601,8 @@ def deceptive():
 GROUPS = [
     deep_chains, hierarchies, cells_that_double, arrays_of_arrays, cells_that_differ, paths, polygons, full_columns,
     small_cells, records, repetitions, tables, layers, wires, overlaps, scattered, views, far_combs, far_spirals,
-    far_stairs, far_rounds, far_bars, far_lines, deceptive, long_bars, many_places, layers_and_lists,
+    far_stairs, far_rounds, far_bars, far_lines, deceptive, long_bars, many_places,
+    nearly_over_one_another, layers_and_lists,
     placements,
 ]
 
