@@ -310,6 +310,14 @@ def nearly_over_one_another():
     yield case("100 paths of 16,000 runs, 900 tall, 20 apart, against 21 apart", 2 * 100 * 16_000, paths(20), paths(21))
 
 
+def distinct_polygons():
+    """Polygons with a byte for each corner, no two alike: each corner is kept in 16 bytes."""
+    lengths = bytes((at % 63 + 1) << 1 | at >> 7 for at in range(256))
+    rng = random.Random(1)
+    rings = (polygon([rng.randbytes(1_000).translate(lengths)], 1, 1_000, (3 * at, 5 * at)) for at in range(30_000))
+    yield case("30,000 polygons of 1,000 corners, no two alike", 30_000, one(*rings))
+
+
 def layers_and_lists():
     """Many Layers, and many lists of places."""
     for n in (6_000, 20_000, 60_000):
@@ -602,7 +610,7 @@ GROUPS = [
     deep_chains, hierarchies, cells_that_double, arrays_of_arrays, cells_that_differ, paths, polygons, full_columns,
     small_cells, records, repetitions, tables, layers, wires, overlaps, scattered, views, far_combs, far_spirals,
     far_stairs, far_rounds, far_bars, far_lines, deceptive, long_bars, many_places,
-    nearly_over_one_another, layers_and_lists,
+    nearly_over_one_another, distinct_polygons, layers_and_lists,
     placements,
 ]
 
