@@ -21,6 +21,7 @@ use Rattle.lvl_grid.proofs.Anyone.{Any-map, Any-same}
 use Rattle.lvl_grid.proofs.Composing.{same_point}
 use Rattle.lvl_grid.specs.Winding.{IsRing, IsStraight}
 use Rattle.lvl_grid.proofs.Placing.{straight_ring}
+use Rattle.lvl_names.specs.Shifts.{IsBetween}
 use Rattle.lvl_cells.specs.Cells.{Rings}
 use Rattle.lvl_cells.specs.inside.Spans.{origin, FitsMoved, IsMovable, IsAgain}
 
@@ -148,3 +149,13 @@ leaves_twice m by d ps h =
     (λ v.
     subst (λ q. (¬ FitsPoint (placed_point m (shifted by d) v)) ↔ (¬ FitsPoint (image m q))) (move_twice by d v)
     (λ f. f, λ f. f))).0 h)
+
+-- a point between two corners, after all three are moved
+pub between_moved : (by low high p : Point) → IsBetween low high p
+    → IsBetween (shifted by low) (shifted by high) (shifted by p)
+between_moved by low high p w = record {
+  left = let l = w.left in omega (arith, ints, l);
+  right = let l = w.right in omega (arith, ints, l);
+  below = let l = w.below in omega (arith, ints, l);
+  above = let l = w.above in omega (arith, ints, l);
+}

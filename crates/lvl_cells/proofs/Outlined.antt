@@ -1,9 +1,11 @@
 -- Kept rings: what a stretch of points means, and a list of rings after one more is kept.
-use Rattle.std.proofs.Common.{◌≡◌, ◌≤◌, ◌<◌, ◌-◌, ◌+◌, ℕ, Bool, true, false, List, [], ◌∷◌, ◌++◌, take, drop, map}
-use Rattle.std.proofs.Common.{not, FitsSigned, IsTrue, w64}
+use Rattle.std.proofs.Common.{◌≡◌, ◌≤◌, ◌<◌, ◌-◌, ◌+◌, ◌*◌, ℕ, Bool, true, false, List, [], ◌∷◌, ◌++◌, take, drop, map}
+use Rattle.std.proofs.Common.{not, inl, inr, FitsSigned, IsTrue, w64}
 use Rattle.std.proofs.Common.{rules, length, get_or, All, refl, sym, ap, arith, subst, ◌∙◌}
+use Rattle.std.proofs.lemmas.Bool.{cases_lt}
 use Rattle.std.proofs.lemmas.Int.{ints}
-use Rattle.std.proofs.lemmas.List.{append_assoc, drop_at, get_or_append_left, length-append, map-append, take_all}
+use Rattle.std.proofs.lemmas.List.{append_assoc, drop_at, get_or-append_right, get_or-drop, get_or-take}
+use Rattle.std.proofs.lemmas.List.{get_or_append_left, length-append, map-append, take_all}
 use Rattle.std.proofs.lemmas.List.Elements.{All-cons, All-head, All-push, All-tail, All-weaker}
 use Rattle.lvl_grid.specs.declared.point.Point.{Point}
 use Rattle.lvl_grid.specs.Turn.{FitsPoint, shifted}
@@ -12,7 +14,9 @@ use Rattle.lvl_grid.proofs.Composing.{same_point}
 use Rattle.lvl_cells.specs.declared.outlines.OutlineSpan.{OutlineSpan}
 use Rattle.lvl_cells.specs.Cells.{Rings}
 use Rattle.lvl_cells.specs.inside.Outlines.{beside, on_x, on_y, outline, outline_in, rectangle_to}
-use Rattle.lvl_cells.specs.inside.Outlines.{stretch_in, HasCorners, IsBefore, IsKept, IsOutline}
+use Rattle.lvl_cells.specs.Stretches.{stretch_at}
+use Rattle.lvl_cells.specs.inside.Outlines.{stretch_in, AddsStretches, AreStretches, HasCornersBefore, IsAround}
+use Rattle.lvl_cells.specs.inside.Outlines.{IsKept, IsOutline}
 use Rattle.lvl_cells.specs.inside.Spans.{origin, IsAgain, IsPrefixOf}
 use Rattle.lvl_names.specs.Shifts.{IsBetween}
 use Rattle.lvl_cells.proofs.Spanned.{grown, stretch_same, no_fewer, goes_on_more}
@@ -41,9 +45,9 @@ pub outline_same : (points points' : List Point) (s : OutlineSpan) → IsPrefixO
 outline_same points points' s on h =
     ap (λ ps. outline ps s.along_y) (stretch_same points points' s.begin s.end on h.order h.inside)
 
--- the corners before a ring are the same after more points are kept
-before_still : (points points' : List Point) (n : ℕ) (ring : List Point) → IsPrefixOf points points'
-    → n ≤ length points → IsBefore points n ring → IsBefore points' n ring
+-- the corners before an index are the same after more points are kept
+pub before_still : (points points' : List Point) (n : ℕ) (ring : List Point) → IsPrefixOf points points'
+    → n ≤ length points → HasCornersBefore points n ring → HasCornersBefore points' n ring
 before_still points points' n ring on low h =
     let more = drop (length points) points' in
     let all : points' ≡ points ++ more = grown points points' on in
@@ -55,6 +59,63 @@ before_still points points' n ring on low h =
       around = rw (same (n - 2) (omega (arith, two)), same (n - 1) (omega (arith, two))) h.around;
     }
 
+-- and so are the corners of stretches
+pub stretches_still : (points points' : List Point) (from count : ℕ) (ring : List Point) → IsPrefixOf points points'
+    → from + 2 * count ≤ length points → AreStretches points from count ring → AreStretches points' from count ring
+stretches_still points points' from count ring on room h =
+    let more = drop (length points) points' in
+    let all : points' ≡ points ++ more = grown points points' on in
+    let same : (k : ℕ) → k < length points → get_or points' k origin ≡ get_or points k origin =
+    λ k lt. ap (λ ps. get_or ps k origin) all ∙ get_or_append_left points more origin k lt in
+    λ k lt.
+    rw (same (from + 2 * k) (omega (arith, lt, room)), same (from + 2 * k + 1) (omega (arith, lt, room))) (h k lt)
+
+-- the corners of one stretch more
+pub stretch_added : (points points' : List Point) (count : ℕ) (ring : List Point) (low high : Point)
+    → AddsStretches points points' count ring → All (IsBetween low high) (stretch_at ring count)
+    → AddsStretches points (points' ++ low ∷ high ∷ []) (count + 1) ring
+stretch_added points points' count ring low high h all =
+    let more : List Point = low ∷ high ∷ [] in
+    let from : ℕ = length points in
+    let first : from + 2 * count - length points' ≡ 0 = omega (arith, h.size) in
+    let second : from + 2 * count + 1 - length points' ≡ 1 = omega (arith, h.size) in
+    let is_low : get_or (points' ++ more) (from + 2 * count) origin ≡ low =
+    get_or-append_right points' more (length points') (from + 2 * count) origin refl (omega (arith, h.size))
+    ∙ ap (λ i. get_or more i origin) first in
+    let is_high : get_or (points' ++ more) (from + 2 * count + 1) origin ≡ high =
+    get_or-append_right points' more (length points') (from + 2 * count + 1) origin refl (omega (arith, h.size))
+    ∙ ap (λ i. get_or more i origin) second in
+    record {
+      size = omega (arith, h.size, length-append points' more);
+      are = λ k lt.
+          elim (cases_lt k count) [
+            | inl below ↦
+                stretches_still points' (points' ++ more) from count ring (goes_on_more points' more)
+                (omega (arith, h.size)) h.are k below
+            | inr past ↦
+                let last : count ≡ k = omega (arith, lt, past) in
+                subst (λ i. IsAround (points' ++ more) (from + 2 * i) ring i) last (rw (is_low, is_high) all)
+          ];
+    }
+
+-- they are the same in the part of the points that has them alone
+pub stretches_in : (points : List Point) (from count begin : ℕ) (ring : List Point) → from + 2 * count ≡ begin
+    → AreStretches points from count ring → AreStretches (stretch_in points from begin) 0 count ring
+stretches_in points from count begin ring size h = λ k lt.
+    let at : (i : ℕ) → i < 2 * count
+    → get_or (stretch_in points from begin) i origin ≡ get_or points (from + i) origin =
+    λ i low.
+    get_or-take (begin - from) (drop from points) i origin (omega (arith, size, low))
+    ∙ get_or-drop from points i origin in
+    let none : 0 + 2 * k ≡ 2 * k = omega arith in
+    let next : from + (2 * k + 1) ≡ from + 2 * k + 1 = omega arith in
+    let one : get_or (stretch_in points from begin) (0 + 2 * k) origin ≡ get_or points (from + 2 * k) origin =
+    ap (λ i. get_or (stretch_in points from begin) i origin) none ∙ at (2 * k) (omega (arith, lt)) in
+    let two : get_or (stretch_in points from begin) (0 + 2 * k + 1) origin ≡ get_or points (from + 2 * k + 1) origin =
+    ap (λ i. get_or (stretch_in points from begin) (i + 1) origin) none
+    ∙ (at (2 * k + 1) (omega (arith, lt)) ∙ ap (λ i. get_or points i origin) next) in
+    rw (one, two) (h k lt)
+
 outline_still : (points points' : List Point) (s : OutlineSpan) → IsPrefixOf points points' → IsOutline points s
     → IsOutline points' s
 outline_still points points' s on h =
@@ -63,10 +124,15 @@ outline_still points points' s on h =
       order = h.order;
       inside = omega (arith, h.inside, no_fewer points points' on);
       ring = subst IsRing (sym same) h.ring;
+      room = h.room;
+      stretches =
+          subst (AreStretches points' (s.begin - 2 * s.stretches) s.stretches) (sym same)
+          (stretches_still points points' (s.begin - 2 * s.stretches) s.stretches (outline_in points s) on
+          (omega (arith, h.order, h.inside, h.room)) h.stretches);
       reach = λ has.
-          subst (IsBefore points' s.begin) (sym same)
-          (before_still points points' s.begin (outline_in points s) on (omega (arith, h.order, h.inside))
-          (h.reach has));
+          subst (HasCornersBefore points' (s.begin - 2 * s.stretches)) (sym same)
+          (before_still points points' (s.begin - 2 * s.stretches) (outline_in points s) on
+          (omega (arith, h.order, h.inside)) (h.reach has));
     }
 
 -- the spans stay valid after more points are kept
@@ -103,11 +169,20 @@ pushed points points' spans s rings ring on h e kept = record {
       ∙ ap (λ r. rings ++ r ∷ []) kept.is);
 }
 
--- the points that are appended are kept
+-- the corners of a ring and of its stretches that a span says to be the last points
+pub record HasLastCorners (points : List Point) (s : OutlineSpan) (ring : List Point) : Type 0 where
+  pub room : 2 * s.stretches ≤ length points
+  pub stretches : AreStretches points (length points - 2 * s.stretches) s.stretches ring
+  pub reach : IsTrue s.has_reach → HasCornersBefore points (length points - 2 * s.stretches) ring
+
+-- the points that are appended after their corners are kept
 pub appended : (points more : List Point) (s : OutlineSpan) (ring : List Point) → s.begin ≡ length points
     → s.end ≡ length points + length more → outline more s.along_y ≡ ring → IsRing ring
-    → (IsTrue s.has_reach → HasCorners points ring) → IsKept (points ++ more) s ring
-appended points more s ring b d is good corners =
+    → HasLastCorners points s ring → IsKept (points ++ more) s ring
+appended points more s ring b d is good last =
+    let on : IsPrefixOf points (points ++ more) = goes_on_more points more in
+    let from : ℕ = length points - 2 * s.stretches in
+    let room : 2 * s.stretches ≤ length points = last.room in
     let means : outline_in (points ++ more) s ≡ ring =
     ap (λ ps. outline ps s.along_y) (stretch_appended points more s.begin s.end b d) ∙ is in
     record {
@@ -115,9 +190,12 @@ appended points more s ring b d is good corners =
         order = omega (arith, b, d);
         inside = omega (arith, d, length-append points more);
         ring = subst IsRing (sym means) good;
+        room = rw b room;
+        stretches =
+            rw (means, b) (stretches_still points (points ++ more) from s.stretches ring on (omega (arith, room))
+            last.stretches);
         reach = λ has.
-            rw (means, b) (before_still points (points ++ more) (length points) ring (goes_on_more points more)
-            (omega arith) (corners has));
+            rw (means, b) (before_still points (points ++ more) from ring on (omega arith) (last.reach has));
       };
       is = means;
     }

@@ -131,6 +131,7 @@ fn ring_again(points: &[Point], last: &FewSpan, form: &Form<'_>) -> Option<KeptR
         points: stretch(points, last.begin, last.end),
         along_y: last.along_y,
         reach: None,
+        corners: &[],
     };
     Some(KeptRing {
         begin: last.begin,
@@ -260,6 +261,7 @@ impl FewShapes {
             points: stretch(&self.points, span.begin, span.end),
             along_y: span.along_y,
             reach: None,
+            corners: &[],
         };
         MovedRing::new(outline, span.by)
     }

@@ -7,6 +7,7 @@ ghost use Rattle.lvl_grid.specs.Placed.{placed_point, IsPlaceOfCovered};
 ghost use Rattle.lvl_grid.specs.Turn.{FitsPoint, shifted};
 ghost use Rattle.lvl_grid.specs.Winding.{Covers};
 ghost use Rattle.lvl_names.specs.Shifts.{IsBetween};
+ghost use Rattle.lvl_cells.specs.Stretches.{stretch_at};
 ghost use Rattle.lvl_cells.specs.inside.Outlines.{ring_of, IsInReach};
 ghost use Rattle.lvl_cells.specs.inside.Spans.{IsMovable};
 
@@ -17,6 +18,9 @@ use std::marker::Model;
 
 /// No displacement.
 pub(crate) const ORIGIN: Point = Point { x: 0, y: 0 };
+
+/// The number of points of a stretch of a ring.
+pub const STRETCH: usize = 128;
 
 /// A ring as a shape has it: a kept one, each of its points moved by the same displacement. Shapes that draw
 /// the same ring at different places share it.
@@ -117,6 +121,16 @@ impl<'a> MovedRing<'a> {
         ensures { IfSome result (λ reach. All (IsBetween reach.0 reach.1) self.now) }
     {
         let (low, high) = self.outline.reach()?;
+        Some((moved(low, self.by)?, moved(high, self.by)?))
+    }
+
+    /// The least and the greatest coordinates of the points of stretch `k`, which are [`STRETCH`] points from index
+    /// `k * STRETCH` on, or None if they aren't kept: those of a stretch with fewer points never are, nor those of a
+    /// ring of few points in all.
+    pub fn reach_of_stretch(&self, k: usize) -> Option<(Point, Point)>
+        ensures { IfSome result (λ reach. All (IsBetween reach.0 reach.1) (stretch_at self.now k)) }
+    {
+        let (low, high) = self.outline.reach_of_stretch(k)?;
         Some((moved(low, self.by)?, moved(high, self.by)?))
     }
 

@@ -1,6 +1,7 @@
 //! Rings as they are kept: of a rectangle, only its diagonal.
 ghost use Rattle.std.specs.Prelude.{◌≡◌, All, IsTrue, IfSome};
 ghost use Rattle.lvl_names.specs.Shifts.{IsBetween};
+ghost use Rattle.lvl_cells.specs.Stretches.{stretch_at};
 ghost use Rattle.lvl_cells.specs.inside.Outlines.{kept_points, rectangle_to, ring_of, IsInReach};
 ghost use Rattle.lvl_cells.specs.inside.Spans.{IsAgain};
 
@@ -17,6 +18,8 @@ pub(crate) struct Outline<'a> {
     pub along_y: bool,
     /// Its least and its greatest coordinates, if they are kept.
     pub reach: Option<(Point, Point)>,
+    /// The least and the greatest coordinates of each of its first stretches, by two points each.
+    pub corners: &'a [Point],
 }
 
 /// The points of a kept ring.
@@ -82,6 +85,16 @@ impl<'a> Outline<'a> {
             return Some(corners(ORIGIN, ORIGIN, self.points[0]));
         }
         reach_of(self.points)
+    }
+
+    /// The least and the greatest coordinates of the points of a stretch, if they are kept.
+    pub(crate) fn reach_of_stretch(&self, k: usize) -> Option<(Point, Point)>
+        requires { IsInReach self.now }
+        ensures { IfSome result (λ reach. All (IsBetween reach.0 reach.1) (stretch_at (ring_of self.now) k)) }
+    {
+        let low = k.checked_mul(2)?;
+        let high = low.checked_add(1)?;
+        Some((*self.corners.get(low)?, *self.corners.get(high)?))
     }
 
     /// Whether a rectangle, moved to the origin, is this ring.

@@ -1,13 +1,16 @@
 //! A list of kept rings.
 ghost use Rattle.std.specs.Prelude.{◌≡◌, ◌<◌, ◌++◌, ◌∷◌, [], length, get_or, All, IsTrue, IfOk, IfSome, OnOk};
+ghost use Rattle.std.specs.Prelude.{◌+◌, ◌*◌};
 ghost use Rattle.lvl_grid.specs.Winding.{IsRing};
 ghost use Rattle.lvl_names.specs.Shifts.{IsBetween};
+ghost use Rattle.lvl_cells.specs.Stretches.{stretch_at};
 ghost use Rattle.lvl_cells.specs.inside.Outlines.{outline_in, rectangle_to, ring_of};
-ghost use Rattle.lvl_cells.specs.inside.Outlines.{HasCorners, IsInReach, IsKept, IsOutline};
+ghost use Rattle.lvl_cells.specs.inside.Outlines.{AddsStretches, AreStretches, HasCorners, IsInReach};
+ghost use Rattle.lvl_cells.specs.inside.Outlines.{IsKept, IsOutline};
 ghost use Rattle.lvl_cells.specs.inside.Spans.{IsPrefixOf};
 
 use crate::lists::push_lean;
-use crate::moved::reach_of;
+use crate::moved::{STRETCH, reach_of};
 use crate::outline::Outline;
 use crate::shape_lists::{kept_count, kept_sum};
 use lvl_grid::{Point, Ring};
@@ -18,14 +21,15 @@ use std::marker::Model;
 const LONG: usize = 64;
 
 /// A ring: the kept points with an index from `begin` up to `end`, which is excluded. One point is the
-/// diagonal of a rectangle, whose first edge is along y or along x. If `has_reach`, the two points before
-/// them are the corners of the reach of the ring.
+/// diagonal of a rectangle, whose first edge is along y or along x. Before them are, by two points each, the
+/// corners of the reaches of the ring's `stretches`, and before these, if `has_reach`, those of its own reach.
 #[derive(Clone, Copy)]
 pub(crate) struct OutlineSpan {
     pub begin: u32,
     pub end: u32,
     pub along_y: bool,
     pub has_reach: bool,
+    pub stretches: u16,
 }
 
 /// Rings, of which rectangles from the origin are kept by their diagonals.
@@ -62,6 +66,33 @@ fn keep_reach(points: &mut Vec<Point>, ring: &[Point]) -> Result<bool, AllocErro
     Ok(true)
 }
 
+/// The least and the greatest coordinates of the points of a stretch of a ring, or None if it has fewer.
+fn reach_of_stretch(ring: &[Point], k: u16) -> Option<(Point, Point)>
+    ensures { IfSome result (λ reach. All (IsBetween reach.0 reach.1) (stretch_at ring.now k)) }
+{
+    let begin = STRETCH * usize::from(k);
+    if ring.len() < begin + STRETCH {
+        return None;
+    }
+    reach_of(&ring[begin..begin + STRETCH])
+}
+
+/// Appends the corners of the reach of each stretch of a ring. Returns the number of stretches.
+fn keep_stretches(points: &mut Vec<Point>, ring: &[Point]) -> Result<u16, AllocError>
+    ensures added { IfOk result (λ count. AddsStretches points.old.items points.new.items count ring.now) }
+    ensures before { IsPrefixOf points.old.items points.new.items }
+{
+    let mut count = 0;
+    while count < u16::MAX {
+        let Some((low, high)) = reach_of_stretch(ring, count) else {
+            return Ok(count);
+        };
+        points.extend_from_slice(&[low, high])?;
+        count += 1;
+    }
+    Ok(count)
+}
+
 /// Keeps a ring by its points.
 fn keep_points(points: &mut Vec<Point>, ring: &[Point]) -> Result<OutlineSpan, AllocError>
     requires { IsRing ring.now }
@@ -69,6 +100,7 @@ fn keep_points(points: &mut Vec<Point>, ring: &[Point]) -> Result<OutlineSpan, A
     ensures before { IsPrefixOf points.old.items points.new.items }
 {
     let has_reach = keep_reach(points, ring)?;
+    let stretches = keep_stretches(points, ring)?;
     let begin = kept_count(points.len())?;
     let end = kept_sum(points.len(), ring.len())?;
     points.extend_from_slice(ring)?;
@@ -77,6 +109,7 @@ fn keep_points(points: &mut Vec<Point>, ring: &[Point]) -> Result<OutlineSpan, A
         end,
         along_y: false,
         has_reach,
+        stretches,
     })
 }
 
@@ -97,6 +130,7 @@ fn keep_diagonal(
         end,
         along_y,
         has_reach: false,
+        stretches: 0,
     })
 }
 
@@ -108,8 +142,18 @@ fn kept_reach(points: &[Point], span: &OutlineSpan) -> Option<(Point, Point)>
     if !span.has_reach {
         return None;
     }
-    let begin = span.begin as usize;
-    Some((points[begin - 2], points[begin - 1]))
+    let end = span.begin as usize - 2 * usize::from(span.stretches);
+    Some((points[end - 2], points[end - 1]))
+}
+
+/// The corners of the reaches of the stretches of a ring that are kept.
+fn kept_stretches<'a>(points: &'a [Point], span: &OutlineSpan) -> &'a [Point]
+    requires { IsOutline points.now span.now }
+    ensures size { length result.now ≡ 2 * span.now.stretches }
+    ensures are { AreStretches result.now 0 span.now.stretches (outline_in points.now span.now) }
+{
+    let end = span.begin as usize;
+    &points[end - 2 * usize::from(span.stretches)..end]
 }
 
 impl Outlines {
@@ -142,6 +186,7 @@ impl Outlines {
             points: &self.points[span.begin as usize..span.end as usize],
             along_y: span.along_y,
             reach: kept_reach(&self.points, span),
+            corners: kept_stretches(&self.points, span),
         }
     }
 

@@ -7,7 +7,7 @@ ghost use Rattle.lvl_cells.specs.Cells.{shape_at};
 ghost use Rattle.lvl_cells.specs.inside.Boxed.{stored_shapes};
 
 use crate::few_shapes::{FewShapes, are_few};
-use crate::moved::MovedRing;
+use crate::moved::{MovedRing, STRETCH};
 use crate::shape_lists::ShapeLists;
 use crate::single::Single;
 use lvl_grid::{Point, Ring};
@@ -53,6 +53,27 @@ impl Model for Shapes {
     ghost view = { λ s. stored_shapes s.stored };
 }
 
+/// The stored form of the only shape of a cell, of one ring. A ring that has stretches is kept in lists, which keep
+/// their reaches.
+fn one_shape(
+    alloc: Global,
+    layer: Layer,
+    ring: &[Point],
+    shifts: &Offsets,
+) -> Result<StoredShapes, AllocError>
+    requires { IsRing ring.now }
+    ensures { IfOk result (λ stored. stored_shapes stored
+        ≡ record { layer = layer; figure = ring.now ∷ []; shifts = shifts.now } ∷ []) }
+{
+    if ring.len() < STRETCH {
+        let single = Single::of(alloc, layer, ring, shifts)?;
+        return Ok(StoredShapes::One(Box::new(alloc, single)?));
+    }
+    let mut lists = ShapeLists::new(alloc);
+    lists.push_ring(layer, ring, shifts)?;
+    Ok(StoredShapes::Several(Box::new(alloc, lists)?))
+}
+
 /// The stored form of the only shape of a cell and one more, of one ring.
 fn two_shapes(
     alloc: Global,
@@ -65,7 +86,7 @@ fn two_shapes(
     ensures { IfOk result (λ stored. stored_shapes stored ≡ first.now
         ∷ record { layer = layer; figure = ring.now ∷ []; shifts = shifts.now } ∷ []) }
 {
-    if are_few(first.point_count().saturating_add(ring.len())) {
+    if ring.len() < STRETCH && are_few(first.point_count().saturating_add(ring.len())) {
         let mut few = first.few(alloc)?;
         few.push_ring(layer, ring, shifts)?;
         return Ok(StoredShapes::Few(Box::new(alloc, few)?));
@@ -227,13 +248,12 @@ impl Shapes {
     {
         match &mut self.stored {
             StoredShapes::None => {
-                let single = Single::of(self.alloc, layer, ring, shifts)?;
-                self.stored = StoredShapes::One(Box::new(self.alloc, single)?);
+                self.stored = one_shape(self.alloc, layer, ring, shifts)?;
             }
             StoredShapes::One(first) => {
                 self.stored = two_shapes(self.alloc, first, layer, ring, shifts)?;
             }
-            StoredShapes::Few(few) if few.has_room(ring.len()) => {
+            StoredShapes::Few(few) if ring.len() < STRETCH && few.has_room(ring.len()) => {
                 few.push_ring(layer, ring, shifts)?;
             }
             StoredShapes::Few(few) => {

@@ -96,6 +96,7 @@ impl Single {
             points: &self.ring,
             along_y: false,
             reach: None,
+            corners: &[],
         };
         MovedRing::new(outline, ORIGIN)
     }

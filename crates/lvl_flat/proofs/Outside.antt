@@ -26,7 +26,7 @@ use Rattle.lvl_cells.specs.Coverage.{moved_back, ShapeCovers, PullsBack, CoversW
 use Rattle.lvl_flat.specs.declared.bounds.Bounds.{Bounds}
 use Rattle.lvl_flat.specs.Boxes.{HoldsPoint, HoldsShape, HoldsCell, HoldsChains, AreBoxes}
 use Rattle.lvl_flat.specs.inside.Bounds.{HasSquare, HoldsOwn}
-use Rattle.lvl_flat.specs.inside.Bounds.{IsInside, IsPlacedOutside}
+use Rattle.lvl_flat.specs.inside.Bounds.{IsBeside, IsInside, IsOutside, IsPlacedOutside}
 use Rattle.lvl_flat.specs.Flattened.{AllInRange}
 use Rattle.lvl_flat.specs.inside.Visits.{FitsUnder, PickCovers}
 use Rattle.lvl_flat.proofs.Covering.{Under, some_is}
@@ -61,6 +61,24 @@ inside_by b w l r d u = record {
     y_from = omega (arith, ints, d, has.low.below);
     y_below = omega (arith, ints, u, has.high.above);
   };
+}
+
+-- a box on one side of a window has no square of it
+pub beside_outside : (b : Bounds) (w : Window) → IsBeside b w → IsOutside b w
+beside_outside b w h = record {
+  none = λ s has i.
+      elim h [
+        | inl left ↦ omega (arith, ints, left, has.high.right, i.x_from)
+        | inr other ↦
+            elim other [
+              | inl right ↦ omega (arith, ints, right, has.low.left, i.x_below)
+              | inr rest ↦
+                  elim rest [
+                    | inl below ↦ omega (arith, ints, below, has.high.above, i.y_from)
+                    | inr above ↦ omega (arith, ints, above, has.low.below, i.y_below)
+                  ]
+            ]
+      ];
 }
 
 -- a square that a ring covers is in a box that has the ring's points

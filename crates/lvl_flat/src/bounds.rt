@@ -3,7 +3,7 @@ ghost use Rattle.std.specs.Prelude.{◌≡◌, IfSome, IsTrue};
 ghost use Rattle.lvl_grid.specs.declared.point.Point.{Point as GridPoint};
 ghost use Rattle.lvl_grid.specs.Turn.{image, shifted, FitsPoint};
 ghost use Rattle.lvl_flat.specs.Boxes.{HoldsPoint, FitsBounds};
-ghost use Rattle.lvl_flat.specs.inside.Bounds.{Widens, IsOutside, IsInside};
+ghost use Rattle.lvl_flat.specs.inside.Bounds.{Widens, IsBeside, IsOutside, IsInside};
 ghost use Rattle.lvl_flat.specs.inside.Passing.{IsSpreadOutside};
 
 use lvl_grid::{Map, Point, Window};
@@ -112,14 +112,21 @@ impl Bounds {
         Some(Bounds::around(low).joined(Bounds::around(high)))
     }
 
-    /// Whether the box and the window don't overlap, so that no square of the box is in the window.
-    pub(crate) fn misses(self, window: &Window) -> bool
-        ensures { IsTrue result → IsOutside self window.now }
+    /// Whether the box is on one side of the window.
+    pub(crate) fn is_beside(self, window: &Window) -> bool
+        ensures { IsTrue result → IsBeside self window.now }
     {
         if self.high.x <= window.x0 || window.x1 <= self.low.x {
             return true;
         }
         self.high.y <= window.y0 || window.y1 <= self.low.y
+    }
+
+    /// Whether the box and the window don't overlap, so that no square of the box is in the window.
+    pub(crate) fn misses(self, window: &Window) -> bool
+        ensures { IsTrue result → IsOutside self window.now }
+    {
+        self.is_beside(window)
     }
 
     /// Whether the box, after a move by any displacement in `by` and mapped, is within 64 bits and

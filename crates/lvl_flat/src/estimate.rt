@@ -25,8 +25,8 @@ pub struct Estimate {
     pub high: u64,
 }
 
-/// How far the things reach of which a part of the top consists: no point of one of them is outside a window if another
-/// one is in it.
+/// How far the things reach of which a part of the top consists: all points of one of them count in each window that it
+/// meets.
 #[derive(Clone, Copy)]
 enum Things {
     /// The part is one thing, which has all of its box.

@@ -39,7 +39,7 @@ impl Extent {
     }
 
     /// The mean of so many whose sum this is.
-    fn over(self, count: usize) -> Extent {
+    fn mean(self, count: usize) -> Extent {
         let count = count.max(1) as u64;
         Extent {
             across: self.across / count,
@@ -49,7 +49,7 @@ impl Extent {
 }
 
 /// About how far the two edges at a corner of a ring reach.
-fn extent_of_corner(ring: &MovedRing<'_>) -> Extent {
+fn extent_of_corners(ring: &MovedRing<'_>) -> Extent {
     let step = ring.len() / SAMPLES;
     let mut sum = Extent::NONE;
     for k in 0..SAMPLES {
@@ -58,13 +58,13 @@ fn extent_of_corner(ring: &MovedRing<'_>) -> Extent {
             sum = sum.plus(Extent::between(from, to));
         }
     }
-    sum.over(SAMPLES)
+    sum.mean(SAMPLES)
 }
 
 /// How far a ring reaches, or the edges at one of its corners if it is long.
 fn extent_of_ring(ring: &MovedRing<'_>) -> Extent {
     if ring.len() as u64 >= LONG {
-        return extent_of_corner(ring);
+        return extent_of_corners(ring);
     }
     match ring.reach() {
         Some((low, high)) => Extent::between(low, high),
@@ -86,5 +86,5 @@ pub(crate) fn extent_of_figure(shapes: &Shapes, i: usize) -> Extent
             sum = sum.plus(extent_of_ring(&shapes.ring(i, j)));
         }
     }
-    sum.over(samples)
+    sum.mean(samples)
 }

@@ -1,5 +1,6 @@
 -- Rings as they are kept: by their points or, if they are rectangles, by a diagonal.
-use Rattle.std.specs.Prelude.{◌≡◌, ℕ, ◌-◌, ◌≤◌, Bool, true, false, List, [], ◌∷◌, map, take, drop, length, get_or, pos}
+use Rattle.std.specs.Prelude.{◌≡◌, ℕ, ◌+◌, ◌-◌, ◌*◌, ◌<◌, ◌≤◌, Bool, true, false, List, [], ◌∷◌, map, take, drop}
+use Rattle.std.specs.Prelude.{length, get_or, pos}
 use Rattle.std.specs.Prelude.{All, IsTrue, IfSome}
 use Rattle.lvl_grid.specs.declared.point.Point.{Point}
 use Rattle.lvl_grid.specs.Turn.{shifted}
@@ -10,6 +11,7 @@ use Rattle.lvl_cells.specs.declared.outline.Kept.{Kept}
 use Rattle.lvl_cells.specs.declared.outline.Outline.{Outline}
 use Rattle.lvl_cells.specs.declared.outline.Kept.TheVariants.{Points, Corners}
 use Rattle.lvl_cells.specs.declared.outlines.OutlineSpan.{OutlineSpan}
+use Rattle.lvl_cells.specs.Stretches.{stretch_at}
 use Rattle.lvl_cells.specs.inside.Spans.{IsAgain, origin}
 
 -- the point on the axis x with the abscissa of another
@@ -40,9 +42,18 @@ outline (p ∷ q ∷ ps) along_y = p ∷ q ∷ ps
 abbrev pub ring_of : Outline → List Point
 ring_of o = outline o.points.now o.along_y
 
--- the reach of an outline, if it has one, is around all points of the ring
-abbrev pub IsInReach : Outline → Type 0
-IsInReach o = IfSome o.reach (λ reach. All (IsBetween reach.0 reach.1) (ring_of o))
+-- the points at an index and after it are corners of a window that has all the points of a stretch of a ring
+abbrev pub IsAround : List Point → ℕ → List Point → ℕ → Type 0
+IsAround corners i ring k = All (IsBetween (get_or corners i origin) (get_or corners (i + 1) origin)) (stretch_at ring k)
+
+-- from an index on there are such corners for each of the first stretches of a ring
+abbrev pub AreStretches : List Point → ℕ → ℕ → List Point → Type 0
+AreStretches corners from count ring = (k : ℕ) → k < count → IsAround corners (from + 2 * k) ring k
+
+-- the reach of an outline, if it has one, is around all points of the ring, and its corners are those of stretches
+pub record IsInReach (o : Outline) : Type 0 where
+  pub reach : IfSome o.reach (λ reach. All (IsBetween reach.0 reach.1) (ring_of o))
+  pub stretches : (k : ℕ) → 2 * k + 1 < length o.corners.now → IsAround o.corners.now (2 * k) (ring_of o) k
 
 -- the points with an index from `begin` up to `end`, which is excluded
 abbrev pub stretch_in : List Point → ℕ → ℕ → List Point
@@ -66,21 +77,32 @@ abbrev pub outline_in : List Point → OutlineSpan → List Point
 outline_in points s = outline (stretch_in points s.begin s.end) s.along_y
 
 -- the two points before an index are corners of a window that has all the points of a ring
-pub record IsBefore (points : List Point) (n : ℕ) (ring : List Point) : Type 0 where
+pub record HasCornersBefore (points : List Point) (n : ℕ) (ring : List Point) : Type 0 where
   pub two : 2 ≤ n
   pub around : All (IsBetween (get_or points (n - 2) origin) (get_or points (n - 1) origin)) ring
 
 -- the last two points are such corners
 abbrev pub HasCorners : List Point → List Point → Type 0
-HasCorners points ring = IsBefore points (length points) ring
+HasCorners points ring = HasCornersBefore points (length points) ring
 
--- the indexes of the span are those of kept points, what they mean is a ring, and the points before them are its
--- corners if the span says so
+-- the index of the first corner of a stretch of the ring
+abbrev pub stretches_from : OutlineSpan → ℕ
+stretches_from s = s.begin - 2 * s.stretches
+
+-- the corners of the first stretches of a ring are appended
+pub record AddsStretches (points points' : List Point) (count : ℕ) (ring : List Point) : Type 0 where
+  pub size : length points' ≡ length points + 2 * count
+  pub are : AreStretches points' (length points) count ring
+
+-- the indexes of the span are those of kept points, what they mean is a ring, the points before them are the corners of
+-- its stretches, and those before these are its own corners if the span says so
 pub record IsOutline (points : List Point) (s : OutlineSpan) : Type 0 where
   pub order : s.begin ≤ s.end
   pub inside : s.end ≤ length points
   pub ring : IsRing (outline_in points s)
-  pub reach : IsTrue s.has_reach → IsBefore points s.begin (outline_in points s)
+  pub room : 2 * s.stretches ≤ s.begin
+  pub stretches : AreStretches points (stretches_from s) s.stretches (outline_in points s)
+  pub reach : IsTrue s.has_reach → HasCornersBefore points (stretches_from s) (outline_in points s)
 
 -- a span of kept points means the ring
 pub record IsKept (points : List Point) (s : OutlineSpan) (ring : List Point) : Type 0 where

@@ -1,5 +1,5 @@
 -- Boxes of points: widened, placed, and against a window.
-use Rattle.std.specs.Prelude.{◌≡◌, ℕ, List, slice_get, Option, Some, All, Contains, ◌+ℤ◌, pos}
+use Rattle.std.specs.Prelude.{◌≡◌, ◌⊎◌, ℕ, List, slice_get, Option, Some, All, Contains, ◌+ℤ◌, ◌≤ℤ◌, pos}
 use Rattle.lvl_grid.specs.declared.point.Point.{Point}
 use Rattle.lvl_grid.specs.declared.point.Square.{Square}
 use Rattle.lvl_grid.specs.declared.point.Window.{Window}
@@ -37,6 +37,10 @@ HoldsPicks cells b references = All (λ r. (e : Point) → Contains r.shifts e �
 pub record HasSquare (b : Bounds) (s : Square) : Type 0 where
   pub low : HoldsPoint b (record { x = s.x; y = s.y })
   pub high : HoldsPoint b (record { x = s.x +ℤ pos 1; y = s.y +ℤ pos 1 })
+
+-- the box is on one side of the window
+abbrev pub IsBeside : Bounds → Window → Type 0
+IsBeside b w = (b.high.x ≤ℤ w.x0) ⊎ ((w.x1 ≤ℤ b.low.x) ⊎ ((b.high.y ≤ℤ w.y0) ⊎ (w.y1 ≤ℤ b.low.y)))
 
 -- no square in the box is in the window
 pub record IsOutside (b : Bounds) (w : Window) : Type 0 where

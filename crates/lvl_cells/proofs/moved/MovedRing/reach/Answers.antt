@@ -1,20 +1,11 @@
-use Rattle.std.proofs.Common.{◌≡◌, List, All, subst, arith}
-use Rattle.std.proofs.lemmas.Int.{ints}
+use Rattle.std.proofs.Common.{◌≡◌, List, All, subst}
 use Rattle.std.proofs.lemmas.List.Elements.{All-map}
 use Rattle.lvl_grid.specs.declared.point.Point.{Point}
 use Rattle.lvl_grid.specs.Turn.{shifted}
 use Rattle.lvl_names.specs.Shifts.{IsBetween}
 use Rattle.lvl_cells.specs.inside.Outlines.{ring_of}
+use Rattle.lvl_cells.proofs.Moving.{between_moved}
 use Rattle.lvl_cells.proofs.moved.MovedRing.reach.Goals as goal
-
-between_moved : (by low high p : Point) → IsBetween low high p
-    → IsBetween (shifted by low) (shifted by high) (shifted by p)
-between_moved by low high p w = record {
-  left = let l = w.left in omega (arith, ints, l);
-  right = let l = w.right in omega (arith, ints, l);
-  below = let l = w.below in omega (arith, ints, l);
-  above = let l = w.above in omega (arith, ints, l);
-}
 
 pub returns : goal.returns
 returns c =

@@ -3,7 +3,7 @@ use Rattle.std.specs.Option.{option_copied}
 use Rattle.lvl_cells.specs.Cells.{names}
 use Rattle.lvl_cells.specs.Resolving.{IsPlaceOf, place_in_index}
 use Rattle.lvl_cells.proofs.Examining.{linked_by}
-use Rattle.lvl_cells.proofs.checked.resolve.Goals as goal
+use Rattle.lvl_cells.proofs.examine.resolve.Goals as goal
 
 pub returns-in_default-clause-linked : goal.returns-in_default-clause-linked
 returns-in_default-clause-linked c =

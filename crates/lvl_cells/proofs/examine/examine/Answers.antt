@@ -5,7 +5,7 @@ use Rattle.lvl_refusal.specs.Refused.{Says}
 use Rattle.lvl_refusal.specs.declared.Cause.{Cause}
 use Rattle.lvl_cells.specs.Faults.{IsFaultOf}
 use Rattle.lvl_cells.specs.declared.fault.CellFault.{CellFault}
-use Rattle.lvl_cells.proofs.checked.examine.Goals as goal
+use Rattle.lvl_cells.proofs.examine.examine.Goals as goal
 
 pub returns-in-Err-Breach-clause-err : goal.returns-in-Err-Breach-clause-err
 returns-in-Err-Breach-clause-err c =

@@ -6,7 +6,7 @@ use Rattle.lvl_cells.specs.Faults.{IsFaultOf}
 use Rattle.lvl_cells.specs.inside.Steps.{IsCycleFault, IsTopFault}
 use Rattle.lvl_cells.specs.inside.Times.{IsCountFault}
 use Rattle.lvl_cells.proofs.Examining.{ranked_by, cycle_fault, top_fault, count_fault, settled_by}
-use Rattle.lvl_cells.proofs.checked.settle.Goals as goal
+use Rattle.lvl_cells.proofs.examine.settle.Goals as goal
 
 pub returns-in_err-order-clause-err : goal.returns-in_err-order-clause-err
 returns-in_err-order-clause-err c =

@@ -1,0 +1,172 @@
+-- A ring of which stretches are replaced, one after another.
+use Rattle.std.proofs.Common.{◌≡◌, ◌↔◌, ◌+◌, ◌-◌, ◌*◌, ◌≤◌, ◌<◌, ℕ, List, [], ◌∷◌, ◌++◌, take, drop}
+use Rattle.std.proofs.Common.{length, get_or, slice_get}
+use Rattle.std.proofs.Common.{map, Some, All, inl, inr, refl, sym, ap, subst, ◌∙◌, arith, add-one, drop-cons}
+use Rattle.std.proofs.lemmas.Bool.{cases_lt}
+use Rattle.std.proofs.lemmas.Int.{ints}
+use Rattle.std.proofs.lemmas.List.{append_assoc, append-nil, drop_all, drop-drop, get_or-drop, get_or-take}
+use Rattle.std.proofs.lemmas.List.{length-drop, length-take-le, take-append-drop, take_all, take_more}
+use Rattle.std.proofs.lemmas.List.Elements.{All-head}
+use Rattle.std.proofs.lemmas.Option.{get_or_from_slice_get, slice_get_within}
+use Rattle.lvl_grid.specs.declared.map.Map.{Map}
+use Rattle.lvl_grid.specs.declared.point.Point.{Point}
+use Rattle.lvl_grid.specs.declared.point.Window.{Window}
+use Rattle.lvl_grid.specs.declared.point.Square.{Square}
+use Rattle.lvl_grid.specs.Clip.{IsInWindow}
+use Rattle.lvl_grid.specs.Placed.{placed_point, IsPlaceOfCovered}
+use Rattle.lvl_grid.specs.Winding.{last_or, winding, Covers, IsRing}
+use Rattle.lvl_grid.proofs.Paths.{last_or-get_or}
+use Rattle.lvl_grid.proofs.Placed.{covers_placed}
+use Rattle.lvl_cells.specs.Stretches.{stretch_at}
+use Rattle.lvl_flat.specs.declared.bounds.Bounds.{Bounds}
+use Rattle.lvl_flat.specs.Boxes.{HoldsPoint}
+use Rattle.lvl_flat.specs.inside.Bounds.{IsBeside}
+use Rattle.lvl_flat.specs.inside.Near.{AddsStretch, MayBe, WindAlike}
+use Rattle.lvl_flat.proofs.Beside.{above_counts, below_counts, ends_alike, last_has, left_counts, right_counts}
+use Rattle.lvl_flat.proofs.Beside.{IsAbove, IsBelow, IsLeft, IsRight}
+
+-- a list from an index on
+drop_first : (ring : List Point) (i : ℕ) (d : Point) → i < length ring
+    → drop i ring ≡ get_or ring i d ∷ drop (i + 1) ring
+drop_first ring i d h = rw (add-one, drop-cons ring i d) refl
+
+-- points may be in their own place
+pub may_be_same : (m : Map) (e : Point) (w : Window) (ps : List Point) → MayBe m e w ps ps
+may_be_same m e w ps = record { alike = λ before after s i. refl }
+
+-- a ring from a stretch on is the stretch and the rest
+stretch_first : (ring : List Point) (k : ℕ) → drop (128 * k) ring ≡ stretch_at ring k ++ drop (128 * (k + 1)) ring
+stretch_first ring k =
+    let on : 128 * k + 128 ≡ 128 * (k + 1) = omega arith in
+    sym (take-append-drop 128 (drop (128 * k) ring))
+    ∙ ap (λ ps. stretch_at ring k ++ ps) (drop-drop 128 (128 * k) ring ∙ ap (λ n. drop n ring) on)
+
+-- one stretch more
+pub near_more : (m : Map) (e : Point) (w : Window) (ring from to : List Point) (k : ℕ)
+    → WindAlike m e w ring (from ++ drop (128 * k) ring) → AddsStretch m e w (stretch_at ring k) from to
+    → WindAlike m e w ring (to ++ drop (128 * (k + 1)) ring)
+near_more m e w ring from to k h step =
+    let rest : List Point = drop (128 * (k + 1)) ring in
+    let stretch : List Point = stretch_at ring k in
+    let before : WindAlike m e w ring (from ++ (stretch ++ rest)) =
+    subst (λ ps. WindAlike m e w ring (from ++ ps)) (stretch_first ring k) h in
+    let after : to ++ rest ≡ from ++ (step.part ++ rest) =
+    ap (λ ps. ps ++ rest) step.added ∙ append_assoc from step.part rest in
+    subst (WindAlike m e w ring) (sym after)
+    (λ s i. before s i ∙ step.may_be.alike from rest s i)
+
+-- all of them
+pub near_all : (m : Map) (e : Point) (w : Window) (ring points : List Point) (n : ℕ) → length ring ≤ n
+    → WindAlike m e w ring (points ++ drop n ring) → WindAlike m e w ring points
+near_all m e w ring points n past h =
+    subst (WindAlike m e w ring) (ap (λ ps. points ++ ps) (drop_all n ring past) ∙ append-nil points) h
+
+-- a stretch from its first point to its last
+record HasEnds (stretch : List Point) (p q : Point) : Type 0 where
+  rest : List Point
+  is : stretch ≡ p ∷ rest
+  last : last_or p rest ≡ q
+
+has_ends : (ring : List Point) (k : ℕ) (p q : Point) → slice_get ring (128 * k) ≡ Some p
+    → slice_get ring (128 * k + 127) ≡ Some q → HasEnds (stretch_at ring k) p q
+has_ends ring k p q at at' =
+    let there : 128 * k < length ring = slice_get_within ring (128 * k) p at in
+    let there' : 128 * k + 127 < length ring = slice_get_within ring (128 * k + 127) q at' in
+    let rest : List Point = take 127 (drop (128 * k + 1) ring) in
+    let first : drop (128 * k) ring ≡ p ∷ drop (128 * k + 1) ring =
+    drop_first ring (128 * k) p there
+    ∙ ap (λ v. v ∷ drop (128 * k + 1) ring) (get_or_from_slice_get ring (128 * k) p p at) in
+    let is : stretch_at ring k ≡ p ∷ rest = ap (take 128) first in
+    let size : length rest ≡ 127 =
+    length-take-le 127 (drop (128 * k + 1) ring) (omega (arith, there', length-drop (128 * k + 1) ring)) in
+    let last : get_or (p ∷ rest) (length rest) q ≡ q =
+    ap (λ n. get_or (p ∷ rest) n q) size
+    ∙ (ap (λ ps. get_or ps 127 q) (sym is)
+    ∙ (get_or-take 128 (drop (128 * k) ring) 127 q (omega arith)
+    ∙ (get_or-drop (128 * k) ring 127 q ∙ get_or_from_slice_get ring (128 * k + 127) q q at'))) in
+    record { rest = rest; is = is; last = last_or-get_or p rest q ∙ last }
+
+-- a stretch in a box, which is placed on one side of a window, may be replaced by its ends and a corner between them
+pub beside_ends : (m : Map) (e : Point) (w : Window) (b placed : Bounds) (ring : List Point) (k : ℕ) (p q : Point)
+    → IsBeside placed w → ((v : Point) → HoldsPoint b v → HoldsPoint placed (placed_point m e v))
+    → All (HoldsPoint b) (stretch_at ring k) → slice_get ring (128 * k) ≡ Some p
+    → slice_get ring (128 * k + 127) ≡ Some q
+    → MayBe m e w (stretch_at ring k) (p ∷ record { x = p.x; y = q.y } ∷ q ∷ [])
+beside_ends m e w b placed ring k p q beside held all at at' =
+    let Q : Point → Type 0 = HoldsPoint b in
+    let ends : HasEnds (stretch_at ring k) p q = has_ends ring k p q at at' in
+    let ps : List Point = ends.rest in
+    let all' : All Q (p ∷ ps) = subst (All Q) ends.is all in
+    let first : Q p = All-head Q p ps all' in
+    let last : Q q = subst Q ends.last (last_has Q p ps all') in
+    let corner : Point = record { x = p.x; y = q.y } in
+    let there : Q corner = record { left = first.left; right = first.right; below = last.below; above = last.above } in
+    let image : Point → Point = placed_point m e in
+    let done : MayBe m e w (p ∷ ps) (p ∷ corner ∷ last_or p ps ∷ []) =
+    elim beside [
+      | inl left ↦
+          ends_alike m e w (IsLeft w) Q (left_counts w)
+          (λ v h. let g = (held v h).right in omega (arith, ints, g, left)) p corner ps all' there
+      | inr other ↦
+          elim other [
+            | inl right ↦
+                ends_alike m e w (IsRight w) Q (right_counts w)
+                (λ v h. let g = (held v h).left in omega (arith, ints, g, right)) p corner ps all' there
+            | inr rest ↦
+                elim rest [
+                  | inl below ↦
+                      ends_alike m e w (IsBelow w) Q (below_counts w)
+                      (λ v h. let g = (held v h).above in omega (arith, ints, g, below)) p corner ps all' there
+                  | inr above ↦
+                      ends_alike m e w (IsAbove w) Q (above_counts w)
+                      (λ v h. let g = (held v h).below in omega (arith, ints, g, above)) p corner ps all' there
+                ]
+          ]
+    ] in
+    subst (λ v. MayBe m e w (stretch_at ring k) (p ∷ corner ∷ v ∷ [])) ends.last
+    (subst (λ s. MayBe m e w s (p ∷ corner ∷ last_or p ps ∷ [])) (sym ends.is) done)
+
+-- one point more
+pub point_more : (ring old points : List Point) (begin i : ℕ) (p : Point) → begin ≤ i → slice_get ring i ≡ Some p
+    → points ≡ old ++ take (i - begin) (drop begin ring)
+    → points ++ p ∷ [] ≡ old ++ take (i + 1 - begin) (drop begin ring)
+point_more ring old points begin i p on at is =
+    let rest : List Point = drop begin ring in
+    let there : i < length ring = slice_get_within ring i p at in
+    let low : i - begin < length rest = omega (arith, on, there, length-drop begin ring) in
+    let index : begin + (i - begin) ≡ i = omega (arith, on) in
+    let next : i - begin + 1 ≡ i + 1 - begin = omega (arith, on) in
+    let point : get_or rest (i - begin) p ≡ p =
+    get_or-drop begin ring (i - begin) p
+    ∙ (ap (λ n. get_or ring n p) index ∙ get_or_from_slice_get ring i p p at) in
+    let more : take (i - begin) rest ++ p ∷ [] ≡ take (i + 1 - begin) rest =
+    ap (λ q. take (i - begin) rest ++ q ∷ []) (sym point)
+    ∙ (sym (take_more rest (i - begin) p low) ∙ ap (λ n. take n rest) next) in
+    ap (λ ps. ps ++ p ∷ []) is ∙ (append_assoc old (take (i - begin) rest) (p ∷ []) ∙ ap (λ ps. old ++ ps) more)
+
+-- the points of a stretch, which may be the last one
+pub stretch_is : (ring : List Point) (k begin end : ℕ) → begin ≡ 128 * k → end ≤ begin + 128
+    → (end < begin + 128 → end ≡ length ring) → take (end - begin) (drop begin ring) ≡ stretch_at ring k
+stretch_is ring k begin end is most short =
+    let rest : List Point = drop begin ring in
+    let whole : take 128 rest ≡ stretch_at ring k = ap (λ n. take 128 (drop n ring)) is in
+    elim (cases_lt end (begin + 128)) [
+      | inl less ↦
+          let all : end ≡ length ring = short less in
+          let few : length rest ≤ end - begin = omega (arith, all, length-drop begin ring) in
+          let few' : length rest ≤ 128 = omega (arith, few, most) in
+          take_all (end - begin) rest few ∙ (sym (take_all 128 rest few') ∙ whole)
+      | inr full ↦
+          let size : end - begin ≡ 128 = omega (arith, most, full) in
+          ap (λ n. take n rest) size ∙ whole
+    ]
+
+-- what winds as a placed ring does within a window covers what the ring covers there
+pub near_covers : (m : Map) (e : Point) (w : Window) (ring points placed : List Point) → IsRing ring
+    → WindAlike m e w ring points → placed ≡ map (placed_point m e) points → (q : Square) → IsInWindow w q
+    → Covers placed q ↔ IsPlaceOfCovered m e ring q
+near_covers m e w ring points placed h alike is q i =
+    let both = covers_placed m e ring h.straight q in
+    let same : winding (map (placed_point m e) ring) q ≡ winding placed q =
+    alike q i ∙ ap (λ (ps : List Point). winding ps q) (sym is) in
+    (λ c. both.0 (λ none. c (sym same ∙ none)), λ p none. both.1 p (same ∙ none))
