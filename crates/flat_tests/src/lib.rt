@@ -14,6 +14,8 @@ mod joined;
 #[cfg(test)]
 mod made;
 #[cfg(test)]
+mod near;
+#[cfg(test)]
 mod places;
 #[cfg(test)]
 mod rows;

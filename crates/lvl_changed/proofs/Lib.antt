@@ -24,6 +24,7 @@ pub mod Turned
 pub mod Leaving
 pub mod Remaining
 pub mod Resting
+pub mod Singles
 pub mod Tops
 pub mod Rowing
 pub mod Apart

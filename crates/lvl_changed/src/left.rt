@@ -38,7 +38,12 @@ pub(crate) fn push_shape(
 }
 
 /// Appends shape `i`, its rings as shapes of their own.
-fn push_left(alloc: Global, left: &mut Shapes, shapes: &Shapes, i: usize) -> Result<(), AllocError>
+pub(crate) fn push_left(
+    alloc: Global,
+    left: &mut Shapes,
+    shapes: &Shapes,
+    i: usize,
+) -> Result<(), AllocError>
     requires { i < length shapes.now }
     ensures { OnOk result ((layer : PlainLayer) (s : Square) → ShapesCover left.new layer s
         ↔ (ShapesCover left.old layer s ⊎ ShapeCovers SomeCovers layer s (shape_at shapes.now i))) }

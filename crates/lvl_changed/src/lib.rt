@@ -61,6 +61,7 @@ mod rings;
 mod rows;
 mod shapes;
 mod shifts;
+mod singly;
 mod spots;
 mod table;
 mod twins;

@@ -12,12 +12,13 @@ ghost use Rattle.lvl_flat.specs.Flattened.{TopCovers};
 ghost use Rattle.lvl_region.specs.Region.{IsAlone};
 ghost use Rattle.lvl_view.specs.Moved.{IsMoved};
 ghost use Rattle.lvl_compare.specs.Pairs.{ours, theirs};
-ghost use Rattle.lvl_changed.specs.inside.Shapes.{ShapesCover};
+ghost use Rattle.lvl_changed.specs.inside.Shapes.{CoverSame, ShapesCover};
 ghost use Rattle.lvl_changed.specs.inside.Rests.{AreSameWhere, IsKnown, RestCovers};
 
 use crate::figures::Seen;
 use crate::rectangles::{all_joined, apart, windows_round};
 use crate::rest::{Rest, cell_of, rest_of};
+use crate::singly::singles_of;
 use crate::twins::{Repeated, Twins, count_alone, have_many, twins_of};
 use lvl_cells::{Cell, Library, Shapes, check_or_return};
 use lvl_compare::{Pair, difference_by_strips, difference_in_windows};
@@ -31,8 +32,9 @@ use lvl_view::View;
 use std::alloc::{AllocError, Global};
 use std::slice;
 
-/// The least number of shapes of both layouts for which it pays to leave some out.
-const FEWEST: usize = 65_536;
+/// The least number of points that the shapes of both layouts have at one place each for which it pays to leave some
+/// shapes out.
+const FEWEST: usize = 262_144;
 
 /// What is known of two layouts by what is left of them.
 #[derive(Clone, Copy)]
@@ -74,17 +76,33 @@ fn layout_of(alloc: Global, cell: Cell) -> Result<Option<Fitted>, AllocError>
     }
 }
 
-/// Which shapes of two tops may be the same, or None if they have few in common or few at all.
+/// About the number of points that the shapes have at one place each, or some number of at least [`FEWEST`].
+fn points_of(shapes: &Shapes) -> usize {
+    let mut points: usize = 0;
+    for i in 0..shapes.len() {
+        if points >= FEWEST {
+            break;
+        }
+        let count = shapes.ring_count(i);
+        if count > 0 {
+            points = points.saturating_add(shapes.ring(i, 0).len().saturating_mul(count));
+        }
+    }
+    points
+}
+
+/// Which shapes of two tops may be the same, or None if they have few in common or few points at all.
 fn many_twins(
     alloc: Global,
     ours: Seen<'_>,
     theirs: Seen<'_>,
 ) -> Result<Option<Twins>, AllocError> {
-    let all = ours.shapes.len().saturating_add(theirs.shapes.len());
-    if all < FEWEST || !have_many(alloc, ours, theirs)? {
+    let points = points_of(ours.shapes).saturating_add(points_of(theirs.shapes));
+    if points < FEWEST || !have_many(alloc, ours, theirs)? {
         return Ok(None);
     }
     let twins = twins_of(alloc, ours, theirs, Repeated::Alone)?;
+    let all = ours.shapes.len().saturating_add(theirs.shapes.len());
     let left = count_alone(&twins.ours).saturating_add(count_alone(&twins.theirs));
     if left > all / 8 * 3 {
         return Ok(None);
@@ -120,8 +138,8 @@ fn without_joined(alloc: Global, ours: Rest, theirs: Rest) -> Result<(Rest, Rest
 }
 
 /// What is left of two lists of shapes without those that both have, under their views' maps of Layers. None if they
-/// have few in common, or few at all.
-fn left_of_both(
+/// have few in common, or few points at all.
+fn left_of_lists(
     alloc: Global,
     shapes: &Shapes,
     view: &View,
@@ -144,6 +162,36 @@ fn left_of_both(
     drop(twins);
     let left = without_joined(alloc, rest, their_rest)?;
     Ok(Some(left))
+}
+
+/// The shapes as singles, if they are made, or as given.
+fn as_singles<'a>(singles: &'a Option<Shapes>, shapes: &'a Shapes) -> &'a Shapes
+    requires { IfSome singles.now (λ found. CoverSame found shapes.now) }
+    ensures { CoverSame result.now shapes.now }
+{
+    match singles {
+        Some(found) => found,
+        None => shapes,
+    }
+}
+
+/// What is left of two lists of shapes as [`left_of_lists`] says, where long rings at several places are looked for at
+/// each.
+fn left_of_both(
+    alloc: Global,
+    shapes: &Shapes,
+    view: &View,
+    others: &Shapes,
+    other_view: &View,
+) -> Result<Option<(Rest, Rest)>, AllocError>
+    ensures { IfOk result (λ found. IfSome found (λ left. AreSameWhere (IsMoved view.now.pairs (ShapesCover shapes.now))
+        (IsMoved other_view.now.pairs (ShapesCover others.now)) (RestCovers left.0) (RestCovers left.1))) }
+{
+    let singles = singles_of(alloc, shapes)?;
+    let others_singles = singles_of(alloc, others)?;
+    let ours = as_singles(&singles, shapes);
+    let theirs = as_singles(&others_singles, others);
+    left_of_lists(alloc, ours, view, theirs, other_view)
 }
 
 /// What is left of the shapes of two cells without those that both have, under the view's map of Layers. None if they

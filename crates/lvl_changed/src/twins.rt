@@ -312,7 +312,7 @@ pub(crate) fn have_many(
 ) -> Result<bool, AllocError> {
     let keys = sampled_keys(alloc, ours)?;
     let found = found_keys(alloc, theirs, &keys)?;
-    Ok(found as u64 >= SAMPLED / 2)
+    Ok(found as u64 >= SAMPLED.min(theirs.shapes.len() as u64) / 2)
 }
 
 /// How many shapes of a list have no twin.
