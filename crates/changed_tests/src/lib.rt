@@ -10,4 +10,6 @@ mod made;
 #[cfg(test)]
 mod pairs;
 #[cfg(test)]
+mod singles;
+#[cfg(test)]
 mod views;

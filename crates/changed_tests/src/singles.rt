@@ -1,0 +1,64 @@
+//! A long ring at many places, against the same places in other lists.
+use lvl_cells::{Builder, check};
+use lvl_changed::difference_by_changes;
+use lvl_flat::Fitted;
+use lvl_grid::Point;
+use lvl_names::{Layer, Offsets};
+use lvl_view::View;
+use std::alloc::Global;
+use std::rt::HostRuntime;
+use std::test::Fail;
+
+const METAL: Layer = Layer {
+    layer: 1,
+    datatype: 0,
+};
+
+/// From one place to the next.
+const STEP: Point = Point { x: 7, y: 3 };
+
+/// A comb of 512 teeth, each one square wide and 5 tall, two apart, at the given number of steps.
+fn comb(alloc: Global, steps: i64) -> Result<Vec<Point>, Fail> {
+    let mut points = Vec::new(alloc);
+    for x in 0..1024 {
+        let (from, to) = if x % 2 == 0 { (0, 5) } else { (5, 0) };
+        for y in [from, to] {
+            points.push(Point {
+                x: x + 7 * steps,
+                y: y + 3 * steps,
+            })?;
+        }
+    }
+    Ok(points)
+}
+
+/// A top that draws the comb in lists of so many places, each of which begins where the one before ends.
+fn lists(alloc: Global, counts: &[i64]) -> Result<Fitted, Fail> {
+    let mut builder = Builder::new(alloc);
+    builder.open(alloc, b"TOP")?;
+    let mut steps = 0;
+    for count in counts {
+        let shifts = Offsets::lattice(STEP, *count as u64, Point { x: 0, y: 0 }, 1);
+        builder.add_ring(METAL, &comb(alloc, steps)?, &shifts.ok_or("lattice")?)?;
+        steps += *count;
+    }
+    builder.close(alloc)?;
+    Fitted::new(alloc, check(alloc, builder.finish(), None)?).map_err(Fail::from)
+}
+
+/// Whether a list of 150 places and these lists draw the same.
+fn draws_same(alloc: Global, counts: &[i64]) -> Result<bool, Fail> {
+    let first = lists(alloc, &[150])?;
+    let second = lists(alloc, counts)?;
+    let view = View::whole(alloc);
+    let found = difference_by_changes(alloc, &first, &second, &view, 600_000)?;
+    Ok(found.is_none())
+}
+
+#[test]
+fn a_long_ring_in_other_lists(rt: HostRuntime) -> Result<(), Fail> {
+    assert!(rt; draws_same(rt.alloc(), &[75, 75])?);
+    assert!(rt; draws_same(rt.alloc(), &[1, 148, 1])?);
+    assert!(rt; !draws_same(rt.alloc(), &[75, 74])?);
+    Ok(())
+}
