@@ -273,12 +273,17 @@ fn scattered(number: u64, count: usize) -> usize {
     (product >> 64) as usize
 }
 
-/// The keys of some shapes, sorted.
+/// The keys of some shapes, or of all if they are few, sorted.
 fn sampled_keys(alloc: Global, seen: Seen<'_>) -> Result<Vec<u64>, AllocError> {
     let mut keys = Vec::new(alloc);
-    for number in 0..SAMPLED {
-        let shape = scattered(number, seen.shapes.len());
-        if shape < seen.shapes.len() {
+    let count = seen.shapes.len();
+    for number in 0..SAMPLED.min(count as u64) {
+        let shape = if count as u64 <= SAMPLED {
+            number as usize
+        } else {
+            scattered(number, count)
+        };
+        if shape < count {
             keys.push(seen.key(shape))?;
         }
     }
@@ -312,7 +317,7 @@ pub(crate) fn have_many(
 ) -> Result<bool, AllocError> {
     let keys = sampled_keys(alloc, ours)?;
     let found = found_keys(alloc, theirs, &keys)?;
-    Ok(found as u64 >= SAMPLED.min(theirs.shapes.len() as u64) / 2)
+    Ok(found.saturating_mul(2) as u64 >= SAMPLED.min(theirs.shapes.len() as u64))
 }
 
 /// How many shapes of a list have no twin.
