@@ -2,7 +2,7 @@
 use lvl_cells::{Builder, check};
 use lvl_changed::difference_by_changes;
 use lvl_flat::Fitted;
-use lvl_grid::Point;
+use lvl_grid::{Point, Ring};
 use lvl_names::{Layer, Offsets};
 use lvl_view::View;
 use std::alloc::Global;
@@ -17,37 +17,42 @@ const METAL: Layer = Layer {
 /// From one place to the next.
 const STEP: Point = Point { x: 7, y: 3 };
 
-/// A comb of 512 teeth, each one square wide and 5 tall, two apart, at the given number of steps.
-fn comb(alloc: Global, steps: i64) -> Result<Vec<Point>, Fail> {
+/// A comb of 512 teeth, each one square wide and 5 tall, two apart, that begins at a point.
+fn comb(alloc: Global, at: Point) -> Result<Ring, Fail> {
     let mut points = Vec::new(alloc);
     for x in 0..1024 {
         let (from, to) = if x % 2 == 0 { (0, 5) } else { (5, 0) };
         for y in [from, to] {
             points.push(Point {
-                x: x + 7 * steps,
-                y: y + 3 * steps,
+                x: at.x.saturating_add(x),
+                y: at.y.saturating_add(y),
             })?;
         }
     }
-    Ok(points)
+    Ring::new(points).map_err(Fail::from)
 }
 
 /// A top that draws the comb in lists of so many places, each of which begins where the one before ends.
-fn lists(alloc: Global, counts: &[i64]) -> Result<Fitted, Fail> {
+fn lists(alloc: Global, counts: &[u32]) -> Result<Fitted, Fail> {
     let mut builder = Builder::new(alloc);
     builder.open(alloc, b"TOP")?;
-    let mut steps = 0;
+    let mut steps: i64 = 0;
     for count in counts {
-        let shifts = Offsets::lattice(STEP, *count as u64, Point { x: 0, y: 0 }, 1);
-        builder.add_ring(METAL, &comb(alloc, steps)?, &shifts.ok_or("lattice")?)?;
-        steps += *count;
+        let shifts = Offsets::lattice(STEP, u64::from(*count), Point { x: 0, y: 0 }, 1);
+        let at = Point {
+            x: STEP.x.saturating_mul(steps),
+            y: STEP.y.saturating_mul(steps),
+        };
+        let ring = comb(alloc, at)?;
+        builder.add_ring(METAL, ring.points(), &shifts.ok_or("lattice")?)?;
+        steps = steps.saturating_add(i64::from(*count));
     }
     builder.close(alloc)?;
     Fitted::new(alloc, check(alloc, builder.finish(), None)?).map_err(Fail::from)
 }
 
 /// Whether a list of 150 places and these lists draw the same.
-fn draws_same(alloc: Global, counts: &[i64]) -> Result<bool, Fail> {
+fn draws_same(alloc: Global, counts: &[u32]) -> Result<bool, Fail> {
     let first = lists(alloc, &[150])?;
     let second = lists(alloc, counts)?;
     let view = View::whole(alloc);

@@ -2,28 +2,28 @@
 use crate::cells::{METAL, ORIGIN, add_placing, checked, moved};
 use lvl_cells::Builder;
 use lvl_flat::Fitted;
-use lvl_grid::{Map, Point, Square, Turn, Window};
+use lvl_grid::{Map, Point, Ring, Square, Turn, Window};
 use lvl_names::Offsets;
 use std::alloc::Global;
 use std::rt::HostRuntime;
 use std::test::Fail;
 
 /// A comb of 400 teeth, each one square wide and 10 tall, two apart: the first is at the origin.
-fn comb(alloc: Global) -> Result<Vec<Point>, Fail> {
+fn comb(alloc: Global) -> Result<Ring, Fail> {
     let mut points = Vec::new(alloc);
     for x in 0..800 {
         let (from, to) = if x % 2 == 0 { (0, 10) } else { (10, 0) };
         points.push(Point { x, y: from })?;
         points.push(Point { x, y: to })?;
     }
-    Ok(points)
+    Ring::new(points).map_err(Fail::from)
 }
 
 /// A cell that draws the comb at these shifts, placed by the map.
 fn placed(alloc: Global, map: Map, shifts: &Offsets) -> Result<Fitted, Fail> {
     let mut builder = Builder::new(alloc);
     builder.open(alloc, b"A")?;
-    builder.add_ring(METAL, &comb(alloc)?, shifts)?;
+    builder.add_ring(METAL, comb(alloc)?.points(), shifts)?;
     builder.close(alloc)?;
     add_placing(alloc, &mut builder, b"TOP", b"A", map, Offsets::single())?;
     Fitted::new(alloc, checked(alloc, builder)?).map_err(Fail::from)
