@@ -14,6 +14,8 @@ mod libraries;
 #[cfg(test)]
 mod limits;
 #[cfg(test)]
+mod moved;
+#[cfg(test)]
 mod names;
 #[cfg(test)]
 mod offsets;

@@ -1,16 +1,17 @@
 -- Points and rings that are moved, and comparisons of points.
-use Rattle.std.proofs.Common.{◌≡◌, ◌≢◌, ◌<◌, ◌+◌, ℕ, get_or, slice_get, List, [], ◌∷◌, ◌++◌, take, map, length, All}
+use Rattle.std.proofs.Common.{◌≡◌, ◌≢◌, ◌<◌, ◌+◌, ℕ, get_or, slice_get, List, [], ◌∷◌, ◌++◌, take, drop, map, length}
 use Rattle.std.proofs.Common.{inl, inr, Any, ◌↔◌, refl, sym, ap, subst, ◌∙◌, ◌+ℤ◌, pos, Bool, true, false, not, ◌&&◌}
-use Rattle.std.proofs.Common.{Option}
-use Rattle.std.proofs.Common.{Some, None, SomeIff, arith}
+use Rattle.std.proofs.Common.{ℤ, negsuc, ◌≤ℤ◌, Option, Some, None, SomeIff, All, arith}
+use Rattle.std.specs.Int.{w64}
+use Rattle.std.specs.Prelude.{FitsSigned}
 use Rattle.std.specs.Option.{option_map}
 use Rattle.std.specs.Ordering.{int_eq}
 use Rattle.std.proofs.Math.IntN.{+ℤ_idr}
 use Rattle.std.proofs.lemmas.Bool.{false≢true}
 use Rattle.std.proofs.lemmas.Bool.Decides.{Decides-int_eq}
-use Rattle.std.proofs.lemmas.List.{get_or-map, length-map, map_more, take_more}
+use Rattle.std.proofs.lemmas.List.{drop-map, get_or-map, length-map, map_more, take-map, take_more}
 use Rattle.std.proofs.lemmas.List.Elements.{All-get_or, All-head, All-map, All-push, All-weaker}
-use Rattle.std.proofs.lemmas.Option.{slice_get-map, slice_get-get_or, slice_get_within, get_or_from_slice_get}
+use Rattle.std.proofs.lemmas.Option.{slice_get-map, slice_get_within, get_or_from_slice_get}
 use Rattle.lvl_grid.specs.declared.point.Point.{Point}
 use Rattle.lvl_grid.specs.Turn.{FitsPoint, shifted}
 use Rattle.std.proofs.lemmas.Int.{ints}
@@ -102,17 +103,16 @@ again_more kept by ring k p h l so_far fits moved same = record {
 }
 
 -- a point of a ring that is moved
-pub kept_point : (points : List Point) (k : ℕ) (by p : Point) → k < length points → p ≡ get_or points k p
+pub kept_point : (points : List Point) (k : ℕ) (by p : Point) → slice_get points k ≡ Some p
     → slice_get (map (shifted by) points) k ≡ Some (shifted by p)
-kept_point points k by p low is =
-    slice_get-map (shifted by) points k
-    ∙ ap (option_map (shifted by)) (slice_get-get_or points k p low ∙ ap Some (sym is))
+kept_point points k by p is = slice_get-map (shifted by) points k ∙ ap (option_map (shifted by)) is
 
 -- if all of its points fit, each does
-pub point_fits : (points : List Point) (k : ℕ) (by p : Point) → k < length points → p ≡ get_or points k p
+pub point_fits : (points : List Point) (k : ℕ) (by p : Point) → slice_get points k ≡ Some p
     → All FitsPoint (map (shifted by) points) → FitsPoint (shifted by p)
-point_fits points k by p low is all =
-    subst FitsPoint (get_or-map (shifted by) points k p p low ∙ ap (shifted by) (sym is))
+point_fits points k by p is all =
+    let low : k < length points = slice_get_within points k p is in
+    subst FitsPoint (get_or-map (shifted by) points k p p low ∙ ap (shifted by) (get_or_from_slice_get points k p p is))
     (All-get_or FitsPoint (map (shifted by) points) k p (rw length-map low) all)
 
 -- one more point of a list
@@ -159,3 +159,51 @@ between_moved by low high p w = record {
   below = let l = w.below in omega (arith, ints, l);
   above = let l = w.above in omega (arith, ints, l);
 }
+
+fits_amid : (a b z : ℤ) → FitsSigned w64 a → FitsSigned w64 b → a ≤ℤ z → z ≤ℤ b → FitsSigned w64 z
+fits_amid a (pos m) (pos n) f g low high = record { sfits = omega (arith, ints, g.sfits, high) }
+fits_amid a (negsuc m) (pos n) f g low high = record { sfits = omega (arith, ints, high) }
+fits_amid (pos m) b (negsuc n) f g low high = record { sfits = omega (arith, ints, low) }
+fits_amid (negsuc m) b (negsuc n) f g low high = record { sfits = omega (arith, ints, f.sfits, low) }
+
+-- a point between two points that fit
+fits_between : (low high p : Point) → FitsPoint low → FitsPoint high → IsBetween low high p → FitsPoint p
+fits_between low high p f g w = record {
+  x_fits = fits_amid low.x high.x p.x f.x_fits g.x_fits w.left w.right;
+  y_fits = fits_amid low.y high.y p.y f.y_fits g.y_fits w.below w.above;
+}
+
+-- if two corners fit after they are moved, all points between them do
+pub all_fit_between : (by low high : Point) (ps : List Point) → All (IsBetween low high) ps → FitsPoint (shifted by low)
+    → FitsPoint (shifted by high) → All FitsPoint (map (shifted by) ps)
+all_fit_between by low high ps all f g =
+    All-map FitsPoint (shifted by) ps
+    (All-weaker (IsBetween low high) (λ p. FitsPoint (shifted by p))
+    (λ p w. fits_between (shifted by low) (shifted by high) (shifted by p) f g (between_moved by low high p w)) ps all)
+
+-- points that are moved twice
+pub moved_twice : (by d : Point) (ps : List Point)
+    → map (shifted by) (map (shifted d) ps) ≡ map (shifted (shifted by d)) ps
+moved_twice by d [] = refl
+moved_twice by d (p ∷ ps) =
+    rw (
+      same_point (shifted by (shifted d p)) (shifted (shifted by d) p) (omega (arith, ints)) (omega (arith, ints)),
+      moved_twice by d ps,
+    ) refl
+
+-- some of the points, moved
+part_moved : (by : Point) (ps : List Point) (from count : ℕ)
+    → map (shifted by) (take count (drop from ps)) ≡ take count (drop from (map (shifted by) ps))
+part_moved by ps from count = rw (drop-map (shifted by) from ps, take-map (shifted by) count) refl
+
+-- parts of two moved lists are the same if the one, moved by the difference of both displacements, is the other
+pub same_parts : (by e d : Point) (xs ys part other : List Point) (from at count : ℕ)
+    → shifted e d ≡ by → part ≡ take count (drop from xs) → other ≡ take count (drop at ys)
+    → map (shifted d) part ≡ other
+    → take count (drop from (map (shifted by) xs)) ≡ take count (drop at (map (shifted e) ys))
+same_parts by e d xs ys part other from at count sum ours theirs again =
+    sym (part_moved by xs from count)
+    ∙ (ap (map (shifted by)) (sym ours)
+    ∙ (ap (λ b. map (shifted b) part) (sym sum)
+    ∙ (sym (moved_twice e d part)
+    ∙ (ap (map (shifted e)) (again ∙ theirs) ∙ part_moved e ys at count))))

@@ -1,17 +1,18 @@
 //! Rings of shapes: points that shapes can share, with a displacement.
 ghost use Rattle.std.specs.Prelude.{◌≡◌, ◌↔◌, length, map, slice_get, All, Any, OnOk, OnErr, IfOk, Err};
-ghost use Rattle.std.specs.Prelude.{SomeIff, IfSome, IsTrue, ◌++◌, ◌∷◌, []};
+ghost use Rattle.std.specs.Prelude.{SomeIff, IfSome, IsTrue, ◌++◌, ◌∷◌, [], take, drop};
 ghost use Rattle.lvl_grid.specs.declared.point.Point.{Point as GridPoint};
 ghost use Rattle.lvl_grid.specs.declared.point.Square.{Square as GridSquare};
 ghost use Rattle.lvl_grid.specs.Placed.{placed_point, IsPlaceOfCovered};
 ghost use Rattle.lvl_grid.specs.Turn.{FitsPoint, shifted};
-ghost use Rattle.lvl_grid.specs.Winding.{Covers};
+ghost use Rattle.lvl_grid.specs.Winding.{Covers, IsRing};
 ghost use Rattle.lvl_names.specs.Shifts.{IsBetween};
 ghost use Rattle.lvl_cells.specs.Stretches.{stretch_at};
 ghost use Rattle.lvl_cells.specs.inside.Outlines.{ring_of, IsInReach};
 ghost use Rattle.lvl_cells.specs.inside.Spans.{IsMovable};
 
 use crate::outline::Outline;
+use crate::shared::{distance, is_again};
 use lvl_grid::{Map, PlaceFault, Point, Rings};
 use std::alloc::{AllocError, Global};
 use std::marker::Model;
@@ -85,6 +86,17 @@ pub(crate) fn reach_of(points: &[Point]) -> Option<(Point, Point)>
     Some((low, high))
 }
 
+/// Some of the points, from an index on, or None if there are fewer.
+fn part_of(points: &[Point], from: usize, count: usize) -> Option<&[Point]>
+    ensures { IfSome result (λ part. part.now ≡ take count (drop from points.now)) }
+{
+    let end = from.checked_add(count)?;
+    if end > points.len() {
+        return None;
+    }
+    Some(&points[from..end])
+}
+
 impl<'a> MovedRing<'a> {
     /// A kept ring, moved.
     pub(crate) fn new(outline: Outline<'a>, by: Point) -> MovedRing<'a>
@@ -106,12 +118,11 @@ impl<'a> MovedRing<'a> {
     pub fn get(&self, k: usize) -> Option<Point>
         ensures { result ≡ slice_get self.now k }
     {
-        let kept = self.outline.kept();
-        let point = kept.as_slice().get(k)?;
+        let point = self.outline.get(k)?;
         if self.by == ORIGIN {
-            return Some(*point);
+            return Some(point);
         }
-        moved(*point, self.by)
+        moved(point, self.by)
     }
 
     /// The least and the greatest coordinates of its points, or None if it has no points or one of them would
@@ -139,6 +150,38 @@ impl<'a> MovedRing<'a> {
         ensures { IsTrue result → self.now ≡ other.now }
     {
         self.by == other.by && self.outline.is_same_rectangle(&other.outline)
+    }
+
+    /// Whether `count` of its points, from an index on, are those of another ring from index `at` on. The points are
+    /// compared as they are kept, by the difference of both displacements. `false` says nothing.
+    pub fn has_points_of(&self, from: usize, other: &MovedRing<'_>, at: usize, count: usize) -> bool
+        ensures { IsTrue result → take count (drop from self.now) ≡ take count (drop at other.now) }
+    {
+        let Some(by) = distance(other.by, self.by) else {
+            return false;
+        };
+        let ours = self.outline.kept();
+        let theirs = other.outline.kept();
+        match (
+            part_of(ours.as_slice(), from, count),
+            part_of(theirs.as_slice(), at, count),
+        ) {
+            (Some(ours), Some(theirs)) => is_again(ours, by, theirs),
+            _ => false,
+        }
+    }
+
+    /// The ring, moved on, or None if its displacement or one of its points would be outside 64 bits. No point is
+    /// looked at if the ring's reach is kept.
+    pub fn moved_on(&self, shift: Point) -> Option<MovedRing<'a>>
+        ensures is { IfSome result (λ ring. ring ≡ map (shifted shift) self.now) }
+        ensures ring { IfSome result (λ ring. IsRing ring) }
+    {
+        let (least, greatest) = self.outline.reach()?;
+        let by = moved(self.by, shift)?;
+        moved(least, by)?;
+        moved(greatest, by)?;
+        Some(MovedRing::new(self.outline, by))
     }
 
     /// A copy of its points, moved.

@@ -1,5 +1,5 @@
 //! Rings as they are kept: of a rectangle, only its diagonal.
-ghost use Rattle.std.specs.Prelude.{◌≡◌, All, IsTrue, IfSome};
+ghost use Rattle.std.specs.Prelude.{◌≡◌, slice_get, All, IsTrue, IfSome};
 ghost use Rattle.lvl_names.specs.Shifts.{IsBetween};
 ghost use Rattle.lvl_cells.specs.Stretches.{stretch_at};
 ghost use Rattle.lvl_cells.specs.inside.Outlines.{kept_points, rectangle_to, ring_of, IsInReach};
@@ -71,6 +71,16 @@ impl<'a> Outline<'a> {
             return Kept::Corners(rectangle(self.points[0], self.along_y));
         }
         Kept::Points(self.points)
+    }
+
+    /// Its point at this index, or None if there is none.
+    pub(crate) fn get(&self, k: usize) -> Option<Point>
+        ensures { result ≡ slice_get (ring_of self.now) k }
+    {
+        if self.points.len() == 1 {
+            return rectangle(self.points[0], self.along_y).get(k).copied();
+        }
+        self.points.get(k).copied()
     }
 
     /// The least and the greatest coordinates of its points, or None if it has none, which isn't so for a ring.

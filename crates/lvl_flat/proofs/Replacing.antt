@@ -2,11 +2,12 @@
 use Rattle.std.proofs.Common.{◌≡◌, ◌↔◌, ◌+◌, ◌-◌, ◌*◌, ◌≤◌, ◌<◌, ℕ, List, [], ◌∷◌, ◌++◌, take, drop}
 use Rattle.std.proofs.Common.{length, get_or, slice_get}
 use Rattle.std.proofs.Common.{map, Some, All, inl, inr, refl, sym, ap, subst, ◌∙◌, arith, add-one, drop-cons}
+use Rattle.std.proofs.Common.{suc, take-add}
 use Rattle.std.proofs.lemmas.Bool.{cases_lt}
 use Rattle.std.proofs.lemmas.Int.{ints}
 use Rattle.std.proofs.lemmas.List.{append_assoc, append-nil, drop_all, drop-drop, get_or-drop, get_or-take}
 use Rattle.std.proofs.lemmas.List.{length-drop, length-take-le, take-append-drop, take_all, take_more}
-use Rattle.std.proofs.lemmas.List.Elements.{All-head}
+use Rattle.std.proofs.lemmas.List.Elements.{All-append, All-head, All-weaker}
 use Rattle.std.proofs.lemmas.Option.{get_or_from_slice_get, slice_get_within}
 use Rattle.lvl_grid.specs.declared.map.Map.{Map}
 use Rattle.lvl_grid.specs.declared.point.Point.{Point}
@@ -20,8 +21,7 @@ use Rattle.lvl_grid.proofs.Placed.{covers_placed}
 use Rattle.lvl_cells.specs.Stretches.{stretch_at}
 use Rattle.lvl_flat.specs.declared.bounds.Bounds.{Bounds}
 use Rattle.lvl_flat.specs.Boxes.{HoldsPoint}
-use Rattle.lvl_flat.specs.inside.Bounds.{IsBeside}
-use Rattle.lvl_flat.specs.inside.Near.{AddsStretch, MayBe, WindAlike}
+use Rattle.lvl_flat.specs.inside.Near.{run_at, AddsRun, AreEnds, IsPlacedBeside, MayBe, WindAlike}
 use Rattle.lvl_flat.proofs.Beside.{above_counts, below_counts, ends_alike, last_has, left_counts, right_counts}
 use Rattle.lvl_flat.proofs.Beside.{IsAbove, IsBelow, IsLeft, IsRight}
 
@@ -34,22 +34,23 @@ drop_first ring i d h = rw (add-one, drop-cons ring i d) refl
 pub may_be_same : (m : Map) (e : Point) (w : Window) (ps : List Point) → MayBe m e w ps ps
 may_be_same m e w ps = record { alike = λ before after s i. refl }
 
--- a ring from a stretch on is the stretch and the rest
-stretch_first : (ring : List Point) (k : ℕ) → drop (128 * k) ring ≡ stretch_at ring k ++ drop (128 * (k + 1)) ring
-stretch_first ring k =
-    let on : 128 * k + 128 ≡ 128 * (k + 1) = omega arith in
-    sym (take-append-drop 128 (drop (128 * k) ring))
-    ∙ ap (λ ps. stretch_at ring k ++ ps) (drop-drop 128 (128 * k) ring ∙ ap (λ n. drop n ring) on)
+-- a ring from a stretch on is some of its stretches and the rest
+run_first : (ring : List Point) (k end : ℕ) → k ≤ end → drop (128 * k) ring ≡ run_at ring k end ++ drop (128 * end) ring
+run_first ring k end le =
+    let n : ℕ = 128 * (end - k) in
+    let on : 128 * k + n ≡ 128 * end = omega (arith, le) in
+    sym (take-append-drop n (drop (128 * k) ring))
+    ∙ ap (λ ps. run_at ring k end ++ ps) (drop-drop n (128 * k) ring ∙ ap (λ i. drop i ring) on)
 
--- one stretch more
-pub near_more : (m : Map) (e : Point) (w : Window) (ring from to : List Point) (k : ℕ)
-    → WindAlike m e w ring (from ++ drop (128 * k) ring) → AddsStretch m e w (stretch_at ring k) from to
-    → WindAlike m e w ring (to ++ drop (128 * (k + 1)) ring)
-near_more m e w ring from to k h step =
-    let rest : List Point = drop (128 * (k + 1)) ring in
-    let stretch : List Point = stretch_at ring k in
-    let before : WindAlike m e w ring (from ++ (stretch ++ rest)) =
-    subst (λ ps. WindAlike m e w ring (from ++ ps)) (stretch_first ring k) h in
+-- some stretches more
+pub near_more : (m : Map) (e : Point) (w : Window) (ring from to : List Point) (k end : ℕ) → k < end
+    → WindAlike m e w ring (from ++ drop (128 * k) ring) → AddsRun m e w (run_at ring k end) from to
+    → WindAlike m e w ring (to ++ drop (128 * end) ring)
+near_more m e w ring from to k end lt h step =
+    let rest : List Point = drop (128 * end) ring in
+    let run : List Point = run_at ring k end in
+    let before : WindAlike m e w ring (from ++ (run ++ rest)) =
+    subst (λ ps. WindAlike m e w ring (from ++ ps)) (run_first ring k end (omega (arith, lt))) h in
     let after : to ++ rest ≡ from ++ (step.part ++ rest) =
     ap (λ ps. ps ++ rest) step.added ∙ append_assoc from step.part rest in
     subst (WindAlike m e w ring) (sym after)
@@ -61,49 +62,78 @@ pub near_all : (m : Map) (e : Point) (w : Window) (ring points : List Point) (n 
 near_all m e w ring points n past h =
     subst (WindAlike m e w ring) (ap (λ ps. points ++ ps) (drop_all n ring past) ∙ append-nil points) h
 
--- a stretch from its first point to its last
-record HasEnds (stretch : List Point) (p q : Point) : Type 0 where
-  rest : List Point
-  is : stretch ≡ p ∷ rest
-  last : last_or p rest ≡ q
-
-has_ends : (ring : List Point) (k : ℕ) (p q : Point) → slice_get ring (128 * k) ≡ Some p
-    → slice_get ring (128 * k + 127) ≡ Some q → HasEnds (stretch_at ring k) p q
-has_ends ring k p q at at' =
-    let there : 128 * k < length ring = slice_get_within ring (128 * k) p at in
-    let there' : 128 * k + 127 < length ring = slice_get_within ring (128 * k + 127) q at' in
-    let rest : List Point = take 127 (drop (128 * k + 1) ring) in
-    let first : drop (128 * k) ring ≡ p ∷ drop (128 * k + 1) ring =
-    drop_first ring (128 * k) p there
-    ∙ ap (λ v. v ∷ drop (128 * k + 1) ring) (get_or_from_slice_get ring (128 * k) p p at) in
-    let is : stretch_at ring k ≡ p ∷ rest = ap (take 128) first in
-    let size : length rest ≡ 127 =
-    length-take-le 127 (drop (128 * k + 1) ring) (omega (arith, there', length-drop (128 * k + 1) ring)) in
+-- stretches that are whole have ends
+pub has_ends : (ring : List Point) (k end : ℕ) (p q : Point) → k < end → 128 * end ≤ length ring
+    → slice_get ring (128 * k) ≡ Some p → slice_get ring (128 * end - 1) ≡ Some q
+    → AreEnds (run_at ring k end) (p ∷ record { x = p.x; y = q.y } ∷ q ∷ [])
+has_ends ring k end p q lt whole at at' =
+    let i : ℕ = 128 * k in
+    let n : ℕ = 128 * (end - k) - 1 in
+    let there : i < length ring = slice_get_within ring i p at in
+    let rest : List Point = take n (drop (i + 1) ring) in
+    let first : drop i ring ≡ p ∷ drop (i + 1) ring =
+    drop_first ring i p there ∙ ap (λ v. v ∷ drop (i + 1) ring) (get_or_from_slice_get ring i p p at) in
+    let count : 128 * (end - k) ≡ suc n = omega (arith, lt) in
+    let is : run_at ring k end ≡ p ∷ rest =
+    ap (take (128 * (end - k))) first ∙ ap (λ c. take c (p ∷ drop (i + 1) ring)) count in
+    let size : length rest ≡ n =
+    length-take-le n (drop (i + 1) ring) (omega (arith, whole, lt, length-drop (i + 1) ring)) in
+    let index : i + n ≡ 128 * end - 1 = omega (arith, lt) in
     let last : get_or (p ∷ rest) (length rest) q ≡ q =
-    ap (λ n. get_or (p ∷ rest) n q) size
-    ∙ (ap (λ ps. get_or ps 127 q) (sym is)
-    ∙ (get_or-take 128 (drop (128 * k) ring) 127 q (omega arith)
-    ∙ (get_or-drop (128 * k) ring 127 q ∙ get_or_from_slice_get ring (128 * k + 127) q q at'))) in
-    record { rest = rest; is = is; last = last_or-get_or p rest q ∙ last }
+    ap (λ c. get_or (p ∷ rest) c q) size
+    ∙ (ap (λ ps. get_or ps n q) (sym is)
+    ∙ (get_or-take (128 * (end - k)) (drop i ring) n q (omega (arith, lt))
+    ∙ (get_or-drop i ring n q
+    ∙ (ap (λ c. get_or ring c q) index ∙ get_or_from_slice_get ring (128 * end - 1) q q at')))) in
+    let ends : last_or p rest ≡ q = last_or-get_or p rest q ∙ last in
+    record {
+      first = p;
+      rest = rest;
+      is = is;
+      ends_are = ap (λ (v : Point). p ∷ record { x = p.x; y = v.y } ∷ v ∷ []) (sym ends);
+    }
 
--- a stretch in a box, which is placed on one side of a window, may be replaced by its ends and a corner between them
-pub beside_ends : (m : Map) (e : Point) (w : Window) (b placed : Bounds) (ring : List Point) (k : ℕ) (p q : Point)
-    → IsBeside placed w → ((v : Point) → HoldsPoint b v → HoldsPoint placed (placed_point m e v))
-    → All (HoldsPoint b) (stretch_at ring k) → slice_get ring (128 * k) ≡ Some p
-    → slice_get ring (128 * k + 127) ≡ Some q
-    → MayBe m e w (stretch_at ring k) (p ∷ record { x = p.x; y = q.y } ∷ q ∷ [])
-beside_ends m e w b placed ring k p q beside held all at at' =
+-- one stretch more in a box
+pub run_more : (ring : List Point) (k end : ℕ) (b next wider : Bounds) → k < end
+    → All (HoldsPoint b) (run_at ring k end)
+    → All (HoldsPoint next) (stretch_at ring end) → ((p : Point) → HoldsPoint b p → HoldsPoint wider p)
+    → ((p : Point) → HoldsPoint next p → HoldsPoint wider p) → All (HoldsPoint wider) (run_at ring k (end + 1))
+run_more ring k end b next wider lt all one to to' =
+    let n : ℕ = 128 * (end - k) in
+    let count : 128 * (end + 1 - k) ≡ n + 128 = omega (arith, lt) in
+    let index : 128 * k + n ≡ 128 * end = omega (arith, lt) in
+    let is : run_at ring k (end + 1) ≡ run_at ring k end ++ stretch_at ring end =
+    ap (λ c. take c (drop (128 * k) ring)) count
+    ∙ (take-add n 128 (drop (128 * k) ring)
+    ∙ ap (λ ps. run_at ring k end ++ take 128 ps) (drop-drop n (128 * k) ring ∙ ap (λ i. drop i ring) index)) in
+    subst (All (HoldsPoint wider)) (sym is)
+    (All-append (HoldsPoint wider) (run_at ring k end) (stretch_at ring end)
+    (All-weaker (HoldsPoint b) (HoldsPoint wider) to (run_at ring k end) all)
+    (All-weaker (HoldsPoint next) (HoldsPoint wider) to' (stretch_at ring end) one))
+
+-- one stretch is a run
+pub run_of_one : (ring : List Point) (k : ℕ) → run_at ring k (k + 1) ≡ stretch_at ring k
+run_of_one ring k =
+    let one : 128 * (k + 1 - k) ≡ 128 = omega arith in
+    ap (λ c. take c (drop (128 * k) ring)) one
+
+-- points in a box that is placed on one side of a window may be replaced by their ends and a corner between them
+pub beside_ends : (m : Map) (e : Point) (w : Window) (b : Bounds) (run ends : List Point) → IsPlacedBeside m e w b
+    → All (HoldsPoint b) run → AreEnds run ends → MayBe m e w run ends
+beside_ends m e w b run ends placed all are =
     let Q : Point → Type 0 = HoldsPoint b in
-    let ends : HasEnds (stretch_at ring k) p q = has_ends ring k p q at at' in
-    let ps : List Point = ends.rest in
-    let all' : All Q (p ∷ ps) = subst (All Q) ends.is all in
+    let p : Point = are.first in
+    let ps : List Point = are.rest in
+    let q : Point = last_or p ps in
+    let held = placed.held in
+    let all' : All Q (p ∷ ps) = subst (All Q) are.is all in
     let first : Q p = All-head Q p ps all' in
-    let last : Q q = subst Q ends.last (last_has Q p ps all') in
+    let last : Q q = last_has Q p ps all' in
     let corner : Point = record { x = p.x; y = q.y } in
     let there : Q corner = record { left = first.left; right = first.right; below = last.below; above = last.above } in
     let image : Point → Point = placed_point m e in
     let done : MayBe m e w (p ∷ ps) (p ∷ corner ∷ last_or p ps ∷ []) =
-    elim beside [
+    elim placed.beside [
       | inl left ↦
           ends_alike m e w (IsLeft w) Q (left_counts w)
           (λ v h. let g = (held v h).right in omega (arith, ints, g, left)) p corner ps all' there
@@ -123,8 +153,8 @@ beside_ends m e w b placed ring k p q beside held all at at' =
                 ]
           ]
     ] in
-    subst (λ v. MayBe m e w (stretch_at ring k) (p ∷ corner ∷ v ∷ [])) ends.last
-    (subst (λ s. MayBe m e w s (p ∷ corner ∷ last_or p ps ∷ [])) (sym ends.is) done)
+    subst (MayBe m e w run) (sym are.ends_are)
+    (subst (λ s. MayBe m e w s (p ∷ corner ∷ q ∷ [])) (sym are.is) done)
 
 -- one point more
 pub point_more : (ring old points : List Point) (begin i : ℕ) (p : Point) → begin ≤ i → slice_get ring i ≡ Some p

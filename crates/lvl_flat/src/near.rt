@@ -1,11 +1,13 @@
-//! A ring near a window: its stretches on one side of the window count by their ends alone.
-ghost use Rattle.std.specs.Prelude.{◌≡◌, ◌≤◌, ◌-◌, ◌*◌, ◌↔◌, ◌++◌, take, drop, length, IfOk, IfSome, OnOk};
+//! A ring near a window: stretches on one side of the window count by their ends alone.
+ghost use Rattle.std.specs.Prelude.{◌≡◌, ◌<◌, ◌≤◌, ◌-◌, ◌*◌, ◌↔◌, ◌++◌, take, drop, length, All};
+ghost use Rattle.std.specs.Prelude.{IfOk, IfSome, IsTrue, OnOk};
 ghost use Rattle.lvl_grid.specs.declared.point.Square.{Square as GridSquare};
 ghost use Rattle.lvl_grid.specs.Clip.{IsInWindow};
 ghost use Rattle.lvl_grid.specs.Placed.{IsPlaceOfCovered};
 ghost use Rattle.lvl_grid.specs.Winding.{Covers, IsRing};
 ghost use Rattle.lvl_cells.specs.Stretches.{stretch_at};
-ghost use Rattle.lvl_flat.specs.inside.Near.{AddsStretch, MayBe, WindAlike};
+ghost use Rattle.lvl_flat.specs.Boxes.{HoldsPoint};
+ghost use Rattle.lvl_flat.specs.inside.Near.{run_at, AddsRun, AreEnds, IsPlacedBeside, IsRunBeside, WindAlike};
 
 use crate::bounds::Bounds;
 use crate::within::placed_bounds;
@@ -13,25 +15,66 @@ use lvl_cells::{MovedRing, STRETCH};
 use lvl_grid::{Map, PlaceFault, Point, Ring, Window};
 use std::alloc::{AllocError, Global};
 
-/// The ends of stretch `k` of a ring and a corner between them, if the stretch is found to be on one side of the
-/// window where it is placed.
-fn ends_beside(
+/// Whether the box is found to be on one side of the window where it is placed.
+fn is_placed_beside(bounds: Bounds, shift: Point, map: &Map, window: &Window) -> bool
+    ensures { IsTrue result → IsPlacedBeside map.now shift window.now bounds }
+{
+    match placed_bounds(bounds, shift, map) {
+        Some(placed) => placed.is_beside(window),
+        None => false,
+    }
+}
+
+/// The box of the points of stretch `k` of a ring, or None if it isn't kept.
+fn bounds_of_stretch(ring: &MovedRing<'_>, k: usize) -> Option<Bounds>
+    ensures { IfSome result (λ bounds. All (HoldsPoint bounds) (stretch_at ring.now k)) }
+{
+    let (low, high) = ring.reach_of_stretch(k)?;
+    Some(Bounds { low, high })
+}
+
+/// The end, which is excluded, of the stretches from stretch `k` on that are found to be on one side of the window
+/// together. None if stretch `k` isn't.
+fn end_beside(
     ring: &MovedRing<'_>,
     k: usize,
     shift: Point,
     map: &Map,
     window: &Window,
-) -> Option<[Point; 3]>
-    ensures { IfSome result (MayBe map.now shift window.now (stretch_at ring.now k)) }
+) -> Option<usize>
+    ensures { IfSome result (IsRunBeside map.now shift window.now ring.now k) }
 {
-    let (low, high) = ring.reach_of_stretch(k)?;
-    let placed = placed_bounds(Bounds { low, high }, shift, map)?;
-    if !placed.is_beside(window) {
+    let count = ring.len() / STRETCH;
+    if k >= count {
         return None;
     }
-    let begin = k.checked_mul(STRETCH)?;
-    let first = ring.get(begin)?;
-    let last = ring.get(begin.checked_add(STRETCH - 1)?)?;
+    let mut bounds = bounds_of_stretch(ring, k)?;
+    if !is_placed_beside(bounds, shift, map, window) {
+        return None;
+    }
+    let mut end = k + 1;
+    while end < count {
+        let Some(next) = bounds_of_stretch(ring, end) else {
+            break;
+        };
+        let wider = bounds.joined(next);
+        if !is_placed_beside(wider, shift, map, window) {
+            break;
+        }
+        bounds = wider;
+        end += 1;
+    }
+    Some(end)
+}
+
+/// The ends of the stretches from stretch `k` up to another, which is excluded, and a corner between them.
+fn ends_of(ring: &MovedRing<'_>, k: usize, end: usize) -> Option<[Point; 3]>
+    requires order { k < end }
+    requires whole { 128 * end ≤ length ring.now }
+    ensures { IfSome result (AreEnds (run_at ring.now k end)) }
+{
+    let first = ring.get(k.checked_mul(STRETCH)?)?;
+    let last = ring.get(end.checked_mul(STRETCH)?.checked_sub(1)?)?;
     let corner = Point {
         x: first.x,
         y: last.y,
@@ -59,30 +102,35 @@ fn push_points(
     Ok(())
 }
 
-/// Appends the points of stretch `k` of a ring, or only its ends and a corner between them.
-fn push_stretch(
+/// Appends the points of stretch `k` of a ring, or only the ends of the stretches from it on that are on one side of
+/// the window, and a corner between them. Returns the stretch after these.
+fn push_run(
     points: &mut Vec<Point>,
     ring: &MovedRing<'_>,
     k: usize,
     shift: Point,
     map: &Map,
     window: &Window,
-) -> Result<(), AllocError>
+) -> Result<usize, AllocError>
     requires { 128 * k ≤ length ring.now }
-    ensures { OnOk result
-        (AddsStretch map.now shift window.now (stretch_at ring.now k) points.old.items points.new.items) }
+    ensures later { IfOk result (λ end. k < end) }
+    ensures added { IfOk result (λ end.
+        AddsRun map.now shift window.now (run_at ring.now k end) points.old.items points.new.items) }
 {
-    let Some(ends) = ends_beside(ring, k, shift, map, window) else {
-        let len = ring.len();
-        let begin = k * STRETCH;
-        push_points(points, ring, begin, len.min(begin.saturating_add(STRETCH)))?;
-        return Ok(());
-    };
-    points.extend_from_slice(&ends)?;
-    Ok(())
+    if let Some(end) = end_beside(ring, k, shift, map, window) {
+        if let Some(ends) = ends_of(ring, k, end) {
+            points.extend_from_slice(&ends)?;
+            return Ok(end);
+        }
+    }
+    let len = ring.len();
+    let begin = k * STRETCH;
+    push_points(points, ring, begin, len.min(begin.saturating_add(STRETCH)))?;
+    Ok(k + 1)
 }
 
-/// The points of a ring, of which stretches on one side of the window have only their ends and a corner between them.
+/// The points of a ring, of which stretches that are on one side of the window have only their ends and a corner
+/// between them.
 fn near_points(
     alloc: Global,
     ring: &MovedRing<'_>,
@@ -93,8 +141,10 @@ fn near_points(
     ensures { IfOk result (λ points. WindAlike map.now shift window.now ring.now points.items) }
 {
     let mut points = Vec::new(alloc);
-    for k in 0..ring.len() / STRETCH + 1 {
-        push_stretch(&mut points, ring, k, shift, map, window)?;
+    let count = ring.len() / STRETCH;
+    let mut k = 0;
+    while k <= count {
+        k = push_run(&mut points, ring, k, shift, map, window)?;
     }
     Ok(points)
 }
