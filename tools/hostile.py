@@ -293,6 +293,13 @@ def many_places():
     def five(step):
         return one(*(bent.replace(b"\x3F\1\0", b"\x3F\1" + bytes([at]), 1) + line(16_384, 0, step) for at in range(5)))
     yield case("five polygons at 16,384 places on one spot", 10 * 16_384, five(0), five(1))
+    tooth = [signed(8_200), *comb(1)[1:]]
+    for n in (200, 1_000):
+        def placed(*rings):
+            return one(*(ring.replace(b"\x15\x3B", b"\x15\x3F", 1) + line(n, 7, 3) for ring in rings))
+        halves = polygon(comb(8_191), 1), polygon([*tooth, *comb(8_191)], 1, at=(16_382, 0))
+        yield case("a polygon of 65,534 corners at %d places over one another, each cut in two" % n, 3 * n,
+                   placed(polygon(comb(16_383), 1)), placed(*halves))
 
 
 def nearly_over_one_another():

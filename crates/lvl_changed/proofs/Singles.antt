@@ -4,16 +4,18 @@ use Rattle.std.proofs.Common.{inl, inr, refl, sym, ap, ◌∙◌, subst, arith}
 use Rattle.std.proofs.lemmas.Int.{ints}
 use Rattle.lvl_grid.specs.declared.point.Point.{Point}
 use Rattle.lvl_grid.specs.declared.point.Square.{Square}
-use Rattle.lvl_grid.specs.Turn.{image_square}
-use Rattle.lvl_grid.specs.Placed.{moved_square, IsPlaceOfCovered}
-use Rattle.lvl_grid.specs.Winding.{Covers, SomeCovers}
+use Rattle.lvl_grid.specs.Turn.{image_square, shifted}
+use Rattle.lvl_grid.specs.Placed.{moved_square, placed_point, IsPlaceOfCovered}
+use Rattle.lvl_grid.specs.Winding.{Covers, IsRing, SomeCovers}
 use Rattle.lvl_grid.proofs.Anyone.{Any-nil, Any-push}
+use Rattle.lvl_grid.proofs.Placed.{covers_placed}
 use Rattle.lvl_names.specs.declared.layer.Layer.{Layer}
 use Rattle.lvl_names.specs.Shifts.{one_place}
 use Rattle.lvl_cells.specs.Cells.{PlainShape, Rings}
 use Rattle.lvl_cells.specs.Chains.{unmoved}
 use Rattle.lvl_cells.specs.Coverage.{moved_back, ShapeCovers}
 use Rattle.lvl_flat.proofs.Advancing.{under_unmoved}
+use Rattle.lvl_flat.proofs.Ranging.{image-unmoved}
 use Rattle.lvl_simplify.proofs.Joining.{any_next}
 use Rattle.lvl_view.specs.declared.map.LayerPair.{LayerPair}
 use Rattle.lvl_view.specs.Moved.{IsMoved}
@@ -39,12 +41,24 @@ place_is e ring s =
           record { from = moved_back e u.0; place = ap (image_square unmoved) (on u.0) ∙ u.1; covered = u.2 },
     )
 
+placed_unmoved : (e : Point) (ps : List Point) → map (placed_point unmoved e) ps ≡ map (shifted e) ps
+placed_unmoved e [] = refl
+placed_unmoved e (p ∷ ps) = rw (image-unmoved (shifted e p), placed_unmoved e ps) refl
+
+covers_moved : (e : Point) (ring : List Point) (s : Square) → IsRing ring
+    → Covers (map (shifted e) ring) s ↔ IsPlaceOfCovered unmoved e ring s
+covers_moved e ring s is =
+    subst (λ ps. Covers ps s ↔ IsPlaceOfCovered unmoved e ring s) (placed_unmoved e ring)
+    (covers_placed unmoved e ring is.straight s)
+
 -- a ring at one of its places is one shape more
 pub ring_at : (old new : List (PlainShape Rings)) (on : Layer) (e : Point) (ring placed shifts : List Point) (l : Layer)
     (s : Square) → new ≡ old ++ record { layer = on; figure = placed ∷ []; shifts = shifts } ∷ []
-    → shifts ≡ one_place → Covers placed s ↔ IsPlaceOfCovered unmoved e ring s
+    → shifts ≡ one_place → placed ≡ map (shifted e) ring → IsRing ring
     → ShapesCover new l s ↔ (ShapesCover old l s ⊎ ((on ≡ l) × Covers ring (moved_back e s)))
-ring_at old new on e ring placed shifts l s is one same =
+ring_at old new on e ring placed shifts l s is one at ring_is =
+    let same : Covers placed s ↔ IsPlaceOfCovered unmoved e ring s =
+    subst (λ ps. Covers ps s ↔ IsPlaceOfCovered unmoved e ring s) (sym at) (covers_moved e ring s ring_is) in
     let h : PlainShape Rings = record { layer = on; figure = placed ∷ []; shifts = shifts } in
     let push = Any-push (ShapeCovers SomeCovers l s) old h in
     let there = ring_there h placed s refl one in

@@ -1,22 +1,12 @@
 -- Rings that are written from another of their points on.
-use Rattle.std.proofs.Common.{◌≡◌, ◌≢◌, ◌↔◌, ◌<◌, ◌+◌, ◌++◌, ◌∷◌, [], ℕ, ℤ, pos, List, Some, drop, take, length}
-use Rattle.std.proofs.Common.{slice_get, sym, ap, ◌∙◌, subst, arith}
-use Rattle.std.proofs.lemmas.List.{append-nil, append_assoc, get_or-drop, length-drop, take-append-drop, take_all}
-use Rattle.std.proofs.lemmas.List.{take_more}
-use Rattle.std.proofs.lemmas.Option.{slice_get_within, get_or_from_slice_get}
+use Rattle.std.proofs.Common.{◌≡◌, ◌≢◌, ◌↔◌, ◌+◌, ◌++◌, ◌∷◌, [], ℕ, ℤ, pos, List, drop, take, length}
+use Rattle.std.proofs.Common.{sym, ap, ◌∙◌, subst, arith}
+use Rattle.std.proofs.lemmas.List.{append-nil, append_assoc, length-drop, take-append-drop, take_all}
 use Rattle.lvl_grid.specs.declared.point.Point.{Point}
 use Rattle.lvl_grid.specs.declared.point.Square.{Square}
 use Rattle.lvl_grid.specs.Tidy.{WindsAs}
 use Rattle.lvl_grid.specs.Winding.{Covers, winding}
 use Rattle.lvl_grid.proofs.Tidying.{turned_on, WindsAs-same, WindsAs-then}
-
--- one more element of a list from an index on
-pub take_drop_next : {X : Type 0} (xs : List X) (n k : ℕ) (x : X) → slice_get xs (n + k) ≡ Some x
-    → take (k + 1) (drop n xs) ≡ take k (drop n xs) ++ x ∷ []
-take_drop_next {X} xs n k x at =
-    let low : k < length (drop n xs) = omega (arith, length-drop n xs, slice_get_within xs (n + k) x at) in
-    take_more (drop n xs) k x low
-    ∙ ap (λ (y : X). take k (drop n xs) ++ y ∷ []) (get_or-drop n xs k x ∙ get_or_from_slice_get xs (n + k) x x at)
 
 -- the first points may come after the others
 turned : (xs ys : List Point) → WindsAs (xs ++ ys) (ys ++ xs)

@@ -1,5 +1,5 @@
 //! Comparison of shapes: the Layers as which they count, their figures and their shifts.
-ghost use Rattle.std.specs.Prelude.{◌≡◌, ◌<◌, ◌≤◌, ◌↔◌, drop, length, take, IsTrue, IfSome};
+ghost use Rattle.std.specs.Prelude.{◌≡◌, ◌<◌, ◌≤◌, ◌↔◌, length, IsTrue, IfSome};
 ghost use Rattle.lvl_grid.specs.declared.point.Square.{Square};
 ghost use Rattle.lvl_grid.specs.Clip.{IsInWindow};
 ghost use Rattle.lvl_grid.specs.Winding.{Covers, SomeCovers};
@@ -26,11 +26,14 @@ fn hash_point(hasher: &mut FoldHasher, point: Point) {
     hasher.write_i64(point.y);
 }
 
-/// The hash of a point.
-fn hash_of(point: Point) -> u64 {
-    let mut hasher = FoldHasher::default();
-    hash_point(&mut hasher, point);
-    hasher.finish()
+/// A number that few other points have. A hasher, which reads bytes, takes several times as long.
+fn mixed(point: Point) -> u64 {
+    let x = u64::from_ne_bytes(point.x.to_ne_bytes()) ^ 0x9E37_79B9_7F4A_7C15;
+    let y = u64::from_ne_bytes(point.y.to_ne_bytes()) ^ 0xC2B2_AE3D_27D4_EB4F;
+    let product = u128::from(x).saturating_mul(u128::from(y));
+    let low = (product & 0xFFFF_FFFF_FFFF_FFFF) as u64;
+    let high = (product >> 64) as u64;
+    low ^ high
 }
 
 /// Hashes a ring: of four points its reach, else all points in no order, so that a ring that is written from another
@@ -44,7 +47,7 @@ fn hash_ring(hasher: &mut FoldHasher, ring: &MovedRing<'_>) {
     let mut all = 0;
     for k in 0..ring.len() {
         if let Some(point) = ring.get(k) {
-            all ^= hash_of(point);
+            all ^= mixed(point);
         }
     }
     hasher.write_u64(all);
@@ -64,30 +67,6 @@ pub(crate) fn rectangle_of(ring: &MovedRing<'_>) -> Option<Window>
         return None;
     };
     window_of(&[a, b, c, d])
-}
-
-/// Whether `count` points of the first ring, from an index on, are those of the second from another index on.
-fn agree(
-    first: &MovedRing<'_>,
-    from: usize,
-    second: &MovedRing<'_>,
-    other: usize,
-    count: usize,
-) -> bool
-    ensures { IsTrue result → take count (drop from first.now) ≡ take count (drop other second.now) }
-{
-    for k in 0..count {
-        let (Some(i), Some(j)) = (from.checked_add(k), other.checked_add(k)) else {
-            return false;
-        };
-        let (Some(ours), Some(theirs)) = (first.get(i), second.get(j)) else {
-            return false;
-        };
-        if ours.x != theirs.x || ours.y != theirs.y {
-            return false;
-        }
-    }
-    true
 }
 
 /// The index of the point of the second ring that is the first of the first ring, or its number of points if it has no
@@ -114,7 +93,7 @@ fn have_same_points(first: &MovedRing<'_>, second: &MovedRing<'_>) -> bool
     }
     let turn = turn_of(first, second);
     let rest = count - turn;
-    agree(first, 0, second, turn, rest) && agree(first, rest, second, 0, turn)
+    first.has_points_of(0, second, turn, rest) && first.has_points_of(rest, second, 0, turn)
 }
 
 /// Whether both rings have the same points in the same order, from some point of each on, or are the same rectangle.

@@ -10,16 +10,9 @@ ghost use Rattle.lvl_changed.specs.inside.Shapes.{CoverSame, ShapesCover};
 
 use crate::left::push_left;
 use lvl_cells::{MovedRing, Shapes};
-use lvl_grid::{Map, PlaceFault, Point, Rings, Turn};
+use lvl_grid::{PlaceFault, Point};
 use lvl_names::{Layer, Offsets};
 use std::alloc::{AllocError, Global};
-
-/// The map that moves no point.
-const STILL: Map = Map {
-    flip: false,
-    turn: Turn::R0,
-    at: Point { x: 0, y: 0 },
-};
 
 /// A ring of at least so many points is long.
 const LONG: usize = 1_024;
@@ -80,9 +73,13 @@ fn push_at(
     ensures { OnOk result ((layer : PlainLayer) (s : Square) → ShapesCover singles.new layer s
         ↔ (ShapesCover singles.old layer s ⊎ ((on ≡ layer) × Covers ring.now (moved_back shift s)))) }
 {
-    let mut rings = Rings::new(alloc);
-    ring.push_placed(alloc, &mut rings, shift, &STILL)?;
-    let Ok(()) = singles.push_ring(on, rings.ring(0), &Offsets::single()) else {
+    let Some(moved) = ring.moved_on(shift) else {
+        return Err(PlaceFault::OutOfRange);
+    };
+    let Ok(points) = moved.to_points(alloc) else {
+        return Err(PlaceFault::OutOfMemory);
+    };
+    let Ok(()) = singles.push_ring(on, &points, &Offsets::single()) else {
         return Err(PlaceFault::OutOfMemory);
     };
     Ok(())

@@ -19,6 +19,9 @@ const TOGETHER: usize = 64;
 /// The number of shapes of the first list that are looked for in the second by a sample.
 const SAMPLED: u64 = 128;
 
+/// Of so few shapes no sample is taken: it would take almost as long as to look for all.
+const FEW: usize = 1_024;
+
 /// The number of bits that tell most keys from those of the sampled shapes.
 const BITS: u64 = 4096;
 
@@ -273,16 +276,12 @@ fn scattered(number: u64, count: usize) -> usize {
     (product >> 64) as usize
 }
 
-/// The keys of some shapes, or of all if they are few, sorted.
+/// The keys of some shapes, sorted.
 fn sampled_keys(alloc: Global, seen: Seen<'_>) -> Result<Vec<u64>, AllocError> {
     let mut keys = Vec::new(alloc);
     let count = seen.shapes.len();
-    for number in 0..SAMPLED.min(count as u64) {
-        let shape = if count as u64 <= SAMPLED {
-            number as usize
-        } else {
-            scattered(number, count)
-        };
+    for number in 0..SAMPLED {
+        let shape = scattered(number, count);
         if shape < count {
             keys.push(seen.key(shape))?;
         }
@@ -309,15 +308,18 @@ fn found_keys(alloc: Global, seen: Seen<'_>, keys: &[u64]) -> Result<usize, Allo
     Ok(found)
 }
 
-/// Whether a sample says that the second list has half of the shapes of the first.
+/// Whether the second list may have half of the shapes of the first: if they aren't few, a sample says so.
 pub(crate) fn have_many(
     alloc: Global,
     ours: Seen<'_>,
     theirs: Seen<'_>,
 ) -> Result<bool, AllocError> {
+    if ours.shapes.len().max(theirs.shapes.len()) <= FEW {
+        return Ok(true);
+    }
     let keys = sampled_keys(alloc, ours)?;
     let found = found_keys(alloc, theirs, &keys)?;
-    Ok(found.saturating_mul(2) as u64 >= SAMPLED.min(theirs.shapes.len() as u64))
+    Ok(found.saturating_mul(2) as u64 >= SAMPLED)
 }
 
 /// How many shapes of a list have no twin.

@@ -7,7 +7,7 @@ use Rattle.std.proofs.lemmas.Bool.{cases_lt}
 use Rattle.std.proofs.lemmas.Int.{ints}
 use Rattle.std.proofs.lemmas.List.{append_assoc, append-nil, drop_all, drop-drop, get_or-drop, get_or-take}
 use Rattle.std.proofs.lemmas.List.{length-drop, length-take-le, take-append-drop, take_all, take_more}
-use Rattle.std.proofs.lemmas.List.Elements.{All-append, All-head, All-weaker}
+use Rattle.std.proofs.lemmas.List.Elements.{All-append, All-head, All-nil, All-weaker}
 use Rattle.std.proofs.lemmas.Option.{get_or_from_slice_get, slice_get_within}
 use Rattle.lvl_grid.specs.declared.map.Map.{Map}
 use Rattle.lvl_grid.specs.declared.point.Point.{Point}
@@ -21,6 +21,7 @@ use Rattle.lvl_grid.proofs.Placed.{covers_placed}
 use Rattle.lvl_cells.specs.Stretches.{stretch_at}
 use Rattle.lvl_flat.specs.declared.bounds.Bounds.{Bounds}
 use Rattle.lvl_flat.specs.Boxes.{HoldsPoint}
+use Rattle.lvl_flat.specs.inside.Bounds.{Widens}
 use Rattle.lvl_flat.specs.inside.Near.{run_at, AddsRun, AreEnds, IsPlacedBeside, MayBe, WindAlike}
 use Rattle.lvl_flat.proofs.Beside.{above_counts, below_counts, ends_alike, last_has, left_counts, right_counts}
 use Rattle.lvl_flat.proofs.Beside.{IsAbove, IsBelow, IsLeft, IsRight}
@@ -93,29 +94,50 @@ has_ends ring k end p q lt whole at at' =
       ends_are = ap (λ (v : Point). p ∷ record { x = p.x; y = v.y } ∷ v ∷ []) (sym ends);
     }
 
--- one stretch more in a box
-pub run_more : (ring : List Point) (k end : ℕ) (b next wider : Bounds) → k < end
-    → All (HoldsPoint b) (run_at ring k end)
-    → All (HoldsPoint next) (stretch_at ring end) → ((p : Point) → HoldsPoint b p → HoldsPoint wider p)
-    → ((p : Point) → HoldsPoint next p → HoldsPoint wider p) → All (HoldsPoint wider) (run_at ring k (end + 1))
-run_more ring k end b next wider lt all one to to' =
-    let n : ℕ = 128 * (end - k) in
-    let count : 128 * (end + 1 - k) ≡ n + 128 = omega (arith, lt) in
-    let index : 128 * k + n ≡ 128 * end = omega (arith, lt) in
-    let is : run_at ring k (end + 1) ≡ run_at ring k end ++ stretch_at ring end =
-    ap (λ c. take c (drop (128 * k) ring)) count
-    ∙ (take-add n 128 (drop (128 * k) ring)
-    ∙ ap (λ ps. run_at ring k end ++ take 128 ps) (drop-drop n (128 * k) ring ∙ ap (λ i. drop i ring) index)) in
-    subst (All (HoldsPoint wider)) (sym is)
-    (All-append (HoldsPoint wider) (run_at ring k end) (stretch_at ring end)
-    (All-weaker (HoldsPoint b) (HoldsPoint wider) to (run_at ring k end) all)
-    (All-weaker (HoldsPoint next) (HoldsPoint wider) to' (stretch_at ring end) one))
-
 -- one stretch is a run
 pub run_of_one : (ring : List Point) (k : ℕ) → run_at ring k (k + 1) ≡ stretch_at ring k
 run_of_one ring k =
     let one : 128 * (k + 1 - k) ≡ 128 = omega arith in
     ap (λ c. take c (drop (128 * k) ring)) one
+
+-- no stretch
+no_run : (ring : List Point) (k : ℕ) → run_at ring k k ≡ []
+no_run ring k =
+    let none : 128 * (k - k) ≡ 0 = omega arith in
+    ap (λ c. take c (drop (128 * k) ring)) none
+
+pub none_held : (b : Bounds) (ring : List Point) (k : ℕ) → All (HoldsPoint b) (run_at ring k k)
+none_held b ring k = subst (All (HoldsPoint b)) (sym (no_run ring k)) (All-nil (HoldsPoint b))
+
+-- stretches and those after them
+run_on : (ring : List Point) (k end to : ℕ) → k ≤ end → end ≤ to
+    → run_at ring k to ≡ run_at ring k end ++ run_at ring end to
+run_on ring k end to le le' =
+    let n : ℕ = 128 * (end - k) in
+    let m : ℕ = 128 * (to - end) in
+    let count : 128 * (to - k) ≡ n + m = omega (arith, le, le') in
+    let index : 128 * k + n ≡ 128 * end = omega (arith, le) in
+    ap (λ c. take c (drop (128 * k) ring)) count
+    ∙ (take-add n m (drop (128 * k) ring)
+    ∙ ap (λ ps. run_at ring k end ++ take m ps) (drop-drop n (128 * k) ring ∙ ap (λ i. drop i ring) index))
+
+-- more stretches in a box that has all points of the box of those before
+pub run_more : (ring : List Point) (k end to : ℕ) (b wider : Bounds) → k ≤ end → end ≤ to
+    → All (HoldsPoint b) (run_at ring k end) → Widens b wider → All (HoldsPoint wider) (run_at ring end to)
+    → All (HoldsPoint wider) (run_at ring k to)
+run_more ring k end to b wider le le' all widens rest =
+    subst (All (HoldsPoint wider)) (sym (run_on ring k end to le le'))
+    (All-append (HoldsPoint wider) (run_at ring k end) (run_at ring end to)
+    (All-weaker (HoldsPoint b) (HoldsPoint wider) widens.holds (run_at ring k end) all) rest)
+
+-- and one stretch more
+pub stretch_more : (ring : List Point) (k end : ℕ) (b next wider : Bounds) → k ≤ end
+    → All (HoldsPoint b) (run_at ring k end) → All (HoldsPoint next) (stretch_at ring end) → Widens b wider
+    → Widens next wider → All (HoldsPoint wider) (run_at ring k (end + 1))
+stretch_more ring k end b next wider le all one widens widens' =
+    run_more ring k end (end + 1) b wider le (omega arith) all widens
+    (subst (All (HoldsPoint wider)) (sym (run_of_one ring end))
+    (All-weaker (HoldsPoint next) (HoldsPoint wider) widens'.holds (stretch_at ring end) one))
 
 -- points in a box that is placed on one side of a window may be replaced by their ends and a corner between them
 pub beside_ends : (m : Map) (e : Point) (w : Window) (b : Bounds) (run ends : List Point) → IsPlacedBeside m e w b

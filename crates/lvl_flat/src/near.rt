@@ -7,6 +7,7 @@ ghost use Rattle.lvl_grid.specs.Placed.{IsPlaceOfCovered};
 ghost use Rattle.lvl_grid.specs.Winding.{Covers, IsRing};
 ghost use Rattle.lvl_cells.specs.Stretches.{stretch_at};
 ghost use Rattle.lvl_flat.specs.Boxes.{HoldsPoint};
+ghost use Rattle.lvl_flat.specs.inside.Bounds.{Widens};
 ghost use Rattle.lvl_flat.specs.inside.Near.{run_at, AddsRun, AreEnds, IsPlacedBeside, IsRunBeside, WindAlike};
 
 use crate::bounds::Bounds;
@@ -14,6 +15,9 @@ use crate::within::placed_bounds;
 use lvl_cells::{MovedRing, STRETCH};
 use lvl_grid::{Map, PlaceFault, Point, Ring, Window};
 use std::alloc::{AllocError, Global};
+
+/// The greatest number of stretches that are tried at once.
+const MOST: usize = 64;
 
 /// Whether the box is found to be on one side of the window where it is placed.
 fn is_placed_beside(bounds: Bounds, shift: Point, map: &Map, window: &Window) -> bool
@@ -33,8 +37,55 @@ fn bounds_of_stretch(ring: &MovedRing<'_>, k: usize) -> Option<Bounds>
     Some(Bounds { low, high })
 }
 
-/// The end, which is excluded, of the stretches from stretch `k` on that are found to be on one side of the window
-/// together. None if stretch `k` isn't.
+/// A box that has the points of `bounds` and those of the stretches from one up to another, which is excluded. None if
+/// the reach of one of these isn't kept.
+fn joined_with(ring: &MovedRing<'_>, bounds: Bounds, begin: usize, end: usize) -> Option<Bounds>
+    requires { begin ≤ end }
+    ensures wider { IfSome result (Widens bounds) }
+    ensures all { IfSome result (λ wider. All (HoldsPoint wider) (run_at ring.now begin end)) }
+{
+    let mut wider = bounds;
+    for k in begin..end {
+        wider = wider.joined(bounds_of_stretch(ring, k)?);
+    }
+    Some(wider)
+}
+
+/// A box as [`joined_with`] finds it, if it is found to be on one side of the window where it is placed.
+fn joined_beside(
+    ring: &MovedRing<'_>,
+    bounds: Bounds,
+    begin: usize,
+    end: usize,
+    shift: Point,
+    map: &Map,
+    window: &Window,
+) -> Option<Bounds>
+    requires { begin ≤ end }
+    ensures wider { IfSome result (Widens bounds) }
+    ensures all { IfSome result (λ wider. All (HoldsPoint wider) (run_at ring.now begin end)) }
+    ensures beside { IfSome result (IsPlacedBeside map.now shift window.now) }
+{
+    let wider = joined_with(ring, bounds, begin, end)?;
+    if !is_placed_beside(wider, shift, map, window) {
+        return None;
+    }
+    Some(wider)
+}
+
+/// How many stretches are tried after so many that are on one side of the window.
+fn next_step(step: usize, grows: bool) -> usize
+    ensures { step ≤ 64 → result ≤ 64 }
+{
+    if grows {
+        MOST.min(step.saturating_mul(2))
+    } else {
+        step / 2
+    }
+}
+
+/// The end, which is excluded, of stretches from stretch `k` on that are found to be on one side of the window
+/// together. None if stretch `k` isn't. Ever more of them are tried at once, and after some aren't, ever fewer.
 fn end_beside(
     ring: &MovedRing<'_>,
     k: usize,
@@ -53,16 +104,18 @@ fn end_beside(
         return None;
     }
     let mut end = k + 1;
-    while end < count {
-        let Some(next) = bounds_of_stretch(ring, end) else {
-            break;
+    let mut step = 1;
+    let mut grows = true;
+    while end < count && step > 0 {
+        let to = count.min(end.saturating_add(step));
+        let Some(wider) = joined_beside(ring, bounds, end, to, shift, map, window) else {
+            grows = false;
+            step /= 2;
+            continue;
         };
-        let wider = bounds.joined(next);
-        if !is_placed_beside(wider, shift, map, window) {
-            break;
-        }
         bounds = wider;
-        end += 1;
+        end = to;
+        step = next_step(step, grows);
     }
     Some(end)
 }

@@ -3,8 +3,8 @@ use Rattle.lvl_grid.specs.declared.point.Point.{Point}
 use Rattle.lvl_changed.proofs.Turned.{turned_covers}
 use Rattle.lvl_changed.proofs.figures.have_same_points.Goals as goal
 
-pub returns-then-agree : goal.returns-then-agree
-returns-then-agree c = λ t.
+pub returns-then-has_points_of : goal.returns-then-has_points_of
+returns-then-has_points_of c = λ t.
     let xs : List Point = c.args.first.now in
     let ys : List Point = c.args.second.now in
     let turn : ℕ = c.turn_of-turn.result in
@@ -12,4 +12,5 @@ returns-then-agree c = λ t.
     let same : length xs ≡ length ys = omega (arith, c.len-count.ensures, c.len.ensures, c.if-len-count.false) in
     let all : turn + rest ≡ length ys =
     omega (arith, c.len.ensures, c.if-len-count.false, c.turn_of-turn.ensures) in
-    turned_covers xs ys turn rest all same (c.if-agree.ensures refl) (c.agree-then-agree.ensures t)
+    turned_covers xs ys turn rest all same (c.if-has_points_of.ensures refl)
+    (c.has_points_of-then-has_points_of.ensures t)
