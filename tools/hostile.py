@@ -300,6 +300,14 @@ def many_places():
         halves = polygon(comb(8_191), 1), polygon([*tooth, *comb(8_191)], 1, at=(16_382, 0))
         yield case("a polygon of 65,534 corners at %d places over one another, each cut in two" % n, 3 * n,
                    placed(polygon(comb(16_383), 1)), placed(*halves))
+    def edited(tall):
+        return polygon([*comb(16_382), signed(tall), signed(1), signed(1 - tall), signed(1)], 1)
+    yield case("a polygon of 65,534 corners at 1,000 places over one another, of which a tooth is edited", 2_000,
+               placed(edited(9)), placed(edited(7)))
+    def in_cell(ring):
+        return oas_file(oas_cell("A", ring), oas_cell("TOP", placement("A", 0, 0, line(1_000, 7, 3))))
+    yield case("the same in a cell that is placed 1,000 times", 2_000, in_cell(edited(9)), in_cell(edited(7)))
+    yield case("the same, cut in two", 3_000, in_cell(edited(9)), in_cell(b"".join(halves)))
 
 
 def nearly_over_one_another():

@@ -2,9 +2,10 @@
 //!
 //! A library is a line of text: its cells, of which the first is the top, after one another with a
 //! semicolon between them. A cell is its name and then words: `0..2` is a box from 0 to 2, one high, on
-//! the layer 1, `0..2@2` one on the layer 2, and `A,5,3,90` places the cell A three times, ten steps apart
-//! from 5 on, turned by 90 degrees; `-90` reflects it first. `A,5,3,90,2` has two such rows, ten steps
-//! above one another, `A,5,3,90,1,20` one row from 20 up, and `A,5,3,90,1,0,7` one with steps of 7.
+//! the layer 1, `0..2@2` one on the layer 2, `0..2*16` one at 16 places, three apart, and `A,5,3,90`
+//! places the cell A three times, ten steps apart from 5 on, turned by 90 degrees; `-90` reflects it
+//! first. `A,5,3,90,2` has two such rows, ten steps above one another, `A,5,3,90,1,20` one row from 20
+//! up, and `A,5,3,90,1,0,7` one with steps of 7.
 use lvl_cells::{Builder, Checked, Library, Reference, check};
 use lvl_flat::Fitted;
 use lvl_grid::{Point, Ring, Turn};
@@ -70,11 +71,20 @@ fn rectangle(alloc: Global, left: &str, right: &str) -> Result<Ring, Fail> {
     Ring::rectangle(alloc, low, high).map_err(Fail::from)
 }
 
+/// The shifts of a box: one place, or so many, three steps apart.
+fn box_shifts(count: &str) -> Result<Offsets, Fail> {
+    if count.is_empty() {
+        return Ok(Offsets::single());
+    }
+    shifts(count, "", "3")
+}
+
 fn add_box(alloc: Global, cells: &mut Builder, left: &str, rest: &str) -> Result<(), Fail> {
+    let (rest, count) = cut(rest, "*");
     let (right, on) = cut(rest, "@");
     let layer = layer_or_first(on)?;
     let ring = rectangle(alloc, left, right)?;
-    let added = cells.add_ring(layer, ring.points(), &Offsets::single());
+    let added = cells.add_ring(layer, ring.points(), &box_shifts(count)?);
     added.map_err(Fail::from)
 }
 

@@ -186,7 +186,7 @@ fn changes_within(alloc: Global, pair: &Pair, windows: &str) -> Result<bool, Fai
 }
 
 /// Whether this is the first square that differs.
-fn differs_by(alloc: Global, pair: &Pair, want: &str) -> Result<bool, Fail> {
+pub(crate) fn differs_by(alloc: Global, pair: &Pair, want: &str) -> Result<bool, Fail> {
     Ok(difference_text(alloc, pair, 1 << 20)?.as_str() == want)
 }
 

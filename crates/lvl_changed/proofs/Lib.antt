@@ -25,6 +25,8 @@ pub mod Leaving
 pub mod Remaining
 pub mod Resting
 pub mod Singles
+pub mod Editing
+pub mod Once
 pub mod Tops
 pub mod Rowing
 pub mod Apart

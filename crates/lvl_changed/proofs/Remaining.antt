@@ -25,7 +25,7 @@ use Rattle.lvl_changed.proofs.Lists.{same_square}
 use Rattle.lvl_changed.proofs.Moving.{moved_more}
 
 -- at its one place a figure is where it is
-not_moved : (s : Square) → moved_back (record { x = pos 0; y = pos 0 }) s ≡ s
+pub not_moved : (s : Square) → moved_back (record { x = pos 0; y = pos 0 }) s ≡ s
 not_moved s = same_square (moved_back (record { x = pos 0; y = pos 0 }) s) s (omega (arith, ints)) (omega (arith, ints))
 
 pub at_one_place : (P : Square → Type 0) (s : Square) → Any (λ e. P (moved_back e s)) one_place ↔ P s

@@ -15,8 +15,12 @@ use Rattle.lvl_columns.specs.Windows.{IsShown}
 use Rattle.lvl_compare.specs.Tops.{Draws, DrawSame, IsFirstDifference}
 use Rattle.lvl_view.specs.declared.map.LayerPair.{LayerPair}
 use Rattle.lvl_view.specs.Moved.{IsMoved}
+use Rattle.lvl_changed.specs.Changed.{DrawSameBut, IsChange}
+use Rattle.lvl_changed.specs.declared.area.Area.{Area}
+use Rattle.lvl_changed.specs.declared.changes.Changes.{Changes}
 use Rattle.lvl_changed.specs.declared.rectangles.Rectangle.{Rectangle}
 use Rattle.lvl_changed.specs.declared.rest.Rest.{Rest}
+use Rattle.lvl_changed.specs.inside.Areas.{AlikeOutside, IsIn}
 use Rattle.lvl_changed.specs.inside.Placements.{ReferencesCover}
 use Rattle.lvl_changed.specs.inside.Rectangles.{RectanglesCover}
 use Rattle.lvl_changed.specs.inside.Rests.{AreSameWhere, IsRest, RestCovers}
@@ -102,6 +106,25 @@ tops_where pairs first second x y c d u v p q here there ours theirs left u_is v
       λ h. (v_is l s).0 ((y_is l s).0 (same.0 ((x_is l s).1 ((u_is l s).1 h)))),
       λ h. (u_is l s).0 ((x_is l s).0 (same.1 ((y_is l s).1 ((v_is l s).1 h)))),
     ) in
+    let mine = flat_covers first c here ours in
+    let their = flat_covers second d there theirs in (
+      λ h.
+          moved_more pairs (ShapesCover d.shapes) (TopCovers second) s s (λ k. (their k s).1) l
+          (shapes.0 ((mine l s).0 h)),
+      λ m.
+          (mine l s).1
+          (shapes.1 (moved_more pairs (TopCovers second) (ShapesCover d.shapes) s s (λ k. (their k s).0) l m)),
+    )
+
+-- flat layouts draw the same but for the changes, if their shapes cover the same outside of an area of these
+pub flat_changes : (pairs : List LayerPair) (area : Area) (changes : Changes) (first second : Settled)
+    (c d : PlainCell Rings) → slice_get first.cells first.top ≡ Some c → slice_get second.cells second.top ≡ Some d
+    → c.references ≡ [] → d.references ≡ []
+    → AlikeOutside area (ShapesCover c.shapes) (IsMoved pairs (ShapesCover d.shapes))
+    → ((l : Layer) (s : Square) → IsIn area l s → IsChange changes l s)
+    → DrawSameBut changes (TopCovers first) (IsMoved pairs (TopCovers second))
+flat_changes pairs area changes first second c d here there ours theirs alike has l s out =
+    let shapes = alike l s (λ h. out (has l s h)) in
     let mine = flat_covers first c here ours in
     let their = flat_covers second d there theirs in (
       λ h.

@@ -19,7 +19,7 @@ use Rattle.lvl_compare.proofs.Finding.{not_below}
 use Rattle.lvl_changed.specs.Changed.{DrawSameBut}
 use Rattle.lvl_changed.specs.declared.changes.Changes.{Changes}
 
-below : (a b : ℤ) → int_lt a b ≡ true → a <ℤ b
+pub below : (a b : ℤ) → int_lt a b ≡ true → a <ℤ b
 below a b h = grind (arith, ints, h)
 
 -- a window has a square, or it doesn't

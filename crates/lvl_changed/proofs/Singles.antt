@@ -117,13 +117,12 @@ all_places h on ring l s layer one is =
       λ a. (a.0, (a.1.0, a.1.1, a.1.2, a.1.3, (one_ring ring (moved_back a.1.1 s)).0 a.1.4)),
     ))
 
--- the shapes so far, one by one
-pub shape_more : (xs old new : List (PlainShape Rings)) (i : ℕ) (d : PlainShape Rings) (l : Layer) (s : Square)
-    → i < length xs → ShapesCover old l s ↔ ShapesCover (take i xs) l s
-    → ShapesCover new l s ↔ (ShapesCover old l s ⊎ ShapeCovers SomeCovers l s (get_or xs i d))
-    → ShapesCover new l s ↔ ShapesCover (take (i + 1) xs) l s
-shape_more xs old new i d l s low before step =
-    let next = any_next (ShapeCovers SomeCovers l s) xs i d low in (
+-- what the shapes so far cover, one by one
+pub shape_more : (P : PlainShape Rings → Type 0) (xs old new : List (PlainShape Rings)) (i : ℕ) (d : PlainShape Rings)
+    (l : Layer) (s : Square) → i < length xs → ShapesCover old l s ↔ Any P (take i xs)
+    → ShapesCover new l s ↔ (ShapesCover old l s ⊎ P (get_or xs i d)) → ShapesCover new l s ↔ Any P (take (i + 1) xs)
+shape_more P xs old new i d l s low before step =
+    let next = any_next P xs i d low in (
       λ c. next.1 (elim (step.0 c) [ inl b ↦ inl (before.0 b) | inr b ↦ inr b ]),
       λ c. step.1 (elim (next.0 c) [ inl b ↦ inl (before.1 b) | inr b ↦ inr b ]),
     )

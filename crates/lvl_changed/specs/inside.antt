@@ -5,6 +5,8 @@ pub mod Arrays
 pub mod Finding
 pub mod Pairs
 pub mod Shapes
+pub mod Edits
+pub mod OnePlace
 pub mod Figures
 pub mod Layers
 pub mod Areas

@@ -97,7 +97,7 @@ fn have_same_points(first: &MovedRing<'_>, second: &MovedRing<'_>) -> bool
 }
 
 /// Whether both rings have the same points in the same order, from some point of each on, or are the same rectangle.
-fn are_same_rings(first: &MovedRing<'_>, second: &MovedRing<'_>) -> bool
+pub(crate) fn are_same_rings(first: &MovedRing<'_>, second: &MovedRing<'_>) -> bool
     ensures { IsTrue result → (s : Square) → Covers first.now s ↔ Covers second.now s }
 {
     if first.is_same_rectangle(second) {
@@ -131,7 +131,7 @@ fn are_same_figures(first: &Shapes, i: usize, second: &Shapes, j: usize) -> bool
 }
 
 /// Whether shape `i` of the first and shape `j` of the second have the same shifts.
-fn have_same_shifts(first: &Shapes, i: usize, second: &Shapes, j: usize) -> bool
+pub(crate) fn have_same_shifts(first: &Shapes, i: usize, second: &Shapes, j: usize) -> bool
     requires first { i < length first.now }
     requires second { j < length second.now }
     ensures { IsTrue result → (shape_at first.now i).shifts ≡ (shape_at second.now j).shifts }

@@ -34,7 +34,7 @@ use std::slice;
 
 /// The least number of points that the shapes of both layouts have at one place each for which it pays to leave some
 /// shapes out.
-const FEWEST: usize = 262_144;
+pub(crate) const FEWEST: usize = 262_144;
 
 /// What is known of two layouts by what is left of them.
 #[derive(Clone, Copy)]
@@ -48,7 +48,7 @@ pub(crate) enum Known {
 }
 
 /// The top of a library.
-fn top_of(library: &Fitted) -> &Cell
+pub(crate) fn top_of(library: &Fitted) -> &Cell
     ensures { slice_get library.now.cells library.now.top ≡ Some result.now }
 {
     let checked = library.checked();
@@ -56,7 +56,7 @@ fn top_of(library: &Fitted) -> &Cell
 }
 
 /// A layout that draws what a cell without references does. None if it isn't accepted.
-fn layout_of(alloc: Global, cell: Cell) -> Result<Option<Fitted>, AllocError>
+pub(crate) fn layout_of(alloc: Global, cell: Cell) -> Result<Option<Fitted>, AllocError>
     requires { cell.references ≡ [] }
     ensures { IfOk result (λ found. IfSome found (λ fitted. (layer : PlainLayer) (s : GridSquare)
         → TopCovers fitted layer s ↔ ShapesCover cell.shapes layer s)) }
@@ -77,7 +77,7 @@ fn layout_of(alloc: Global, cell: Cell) -> Result<Option<Fitted>, AllocError>
 }
 
 /// About the number of points that the shapes have at one place each, or some number of at least [`FEWEST`].
-fn points_of(shapes: &Shapes) -> usize {
+pub(crate) fn points_of(shapes: &Shapes) -> usize {
     let mut points: usize = 0;
     for i in 0..shapes.len() {
         if points >= FEWEST {

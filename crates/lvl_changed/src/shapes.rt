@@ -1,12 +1,11 @@
 //! Where the own shapes of two cells may cover different squares.
-ghost use Rattle.std.specs.Prelude.{◌≡◌, ◌<◌, ◌↔◌, length, Any, IfOk, IfSome, OnOk};
+ghost use Rattle.std.specs.Prelude.{◌<◌, ◌↔◌, length, IfOk, IfSome, OnOk};
 ghost use Rattle.lvl_grid.specs.declared.point.Square.{Square};
 ghost use Rattle.lvl_grid.specs.Clip.{IsInWindow};
 ghost use Rattle.lvl_grid.specs.Winding.{SomeCovers};
 ghost use Rattle.lvl_names.specs.declared.layer.Layer.{Layer as PlainLayer};
 ghost use Rattle.lvl_cells.specs.Cells.{shape_at};
 ghost use Rattle.lvl_cells.specs.Coverage.{ShapeCovers};
-ghost use Rattle.lvl_flat.specs.Sheets.{rings_on};
 ghost use Rattle.lvl_view.specs.Moved.{IsMoved};
 ghost use Rattle.lvl_view.specs.Views.{target_of};
 ghost use Rattle.lvl_changed.specs.inside.Areas.{AlikeOutside, Grows, IsIn};
@@ -14,6 +13,7 @@ ghost use Rattle.lvl_changed.specs.inside.Shapes.{ShapesCover, FlatCovers, HasMo
 
 use crate::area::Area;
 use crate::corners::between;
+use crate::edits::hold_by_shapes;
 use crate::figures::Seen;
 use crate::left::left_of;
 use crate::pays::rings_of;
@@ -143,10 +143,9 @@ fn hold_extents(area: &mut Area, shapes: &Shapes, view: &View) -> Result<(), All
     Ok(())
 }
 
-/// Adds an area outside of which the own shapes of cell `ours` cover the same squares as those of
-/// cell `theirs` under the view's map of Layers. The same shapes on both sides are left out. The
-/// others are flattened, unless these are more than [`MOST_FLATTENED`] rings.
-pub(crate) fn hold_shapes(
+/// Adds an area as [`hold_shapes`] does. The same shapes on both sides are left out. The others are flattened, unless
+/// these are more than [`MOST_FLATTENED`] rings.
+fn hold_others(
     area: &mut Area,
     alloc: Global,
     ours: &Cell,
@@ -175,5 +174,26 @@ pub(crate) fn hold_shapes(
     }
     hold_extents(area, &left.shapes, &whole)?;
     hold_extents(area, &their_left.shapes, view)?;
+    Ok(())
+}
+
+/// Adds an area outside of which the own shapes of cell `ours` cover the same squares as those of cell `theirs` under
+/// the view's map of Layers: round what was edited, if they are the same one by one but for that, or none if they are
+/// found to cover the same at one place.
+pub(crate) fn hold_shapes(
+    area: &mut Area,
+    alloc: Global,
+    ours: &Cell,
+    theirs: &Cell,
+    view: &View,
+) -> Result<(), AllocError>
+    ensures held { OnOk result (AlikeOutside area.new (ShapesCover ours.now.shapes)
+        (IsMoved view.now.pairs (ShapesCover theirs.now.shapes))) }
+    ensures kept { OnOk result (Grows area.old area.new) }
+{
+    if hold_by_shapes(area, alloc, &ours.shapes, &theirs.shapes, view)? {
+        return Ok(());
+    }
+    hold_others(area, alloc, ours, theirs, view)?;
     Ok(())
 }

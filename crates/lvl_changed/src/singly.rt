@@ -62,7 +62,7 @@ fn points_of(shapes: &Shapes, i: usize) -> u64
 }
 
 /// Appends a ring, moved by a shift, as a shape.
-fn push_at(
+pub(crate) fn push_at(
     alloc: Global,
     singles: &mut Shapes,
     on: Layer,

@@ -1,6 +1,8 @@
 use Rattle.std.proofs.Common.{◌<◌, List, length, subst, arith}
 use Rattle.std.proofs.lemmas.List.{take_all}
 use Rattle.lvl_cells.specs.Cells.{PlainShape, Rings}
+use Rattle.lvl_grid.specs.Winding.{SomeCovers}
+use Rattle.lvl_cells.specs.Coverage.{ShapeCovers}
 use Rattle.lvl_changed.specs.inside.Shapes.{CoverSame}
 use Rattle.lvl_changed.proofs.Singles.{shape_more}
 use Rattle.lvl_changed.proofs.singly.singles_of.Goals as goal
@@ -9,8 +11,8 @@ pub loop-i-preserved : goal.loop-i-preserved
 loop-i-preserved c = λ l s.
     let xs : List (PlainShape Rings) = c.args.shapes.now in
     let low : c.loop-i.i < length xs = omega (arith, c.loop-i-test.true, c.len-i-end.ensures) in
-    shape_more xs c.loop-i.singles c.push_singly.new.singles c.loop-i.i _ l s low (c.loop-i.invariant l s)
-    (c.in-Ok.ensures l s)
+    shape_more (ShapeCovers SomeCovers l s) xs c.loop-i.singles c.push_singly.new.singles c.loop-i.i _ l s low
+    (c.loop-i.invariant l s) (c.in-Ok.ensures l s)
 
 pub returns : goal.returns
 returns c =
