@@ -308,6 +308,19 @@ def many_places():
         return oas_file(oas_cell("A", ring), oas_cell("TOP", placement("A", 0, 0, line(1_000, 7, 3))))
     yield case("the same in a cell that is placed 1,000 times", 2_000, in_cell(edited(9)), in_cell(edited(7)))
     yield case("the same, cut in two", 3_000, in_cell(edited(9)), in_cell(b"".join(halves)))
+    def many(ring, n, x=7, y=3):
+        return ring.replace(b"\x15\x3B", b"\x15\x3F", 1) + line(n, x, y)
+    ring, far = edited(9), rectangle(1_000_000, 1_000_000, 3, 3)
+    yield case("a polygon of 65,534 corners at 1,000 places over one another, and at one more", 2_001,
+               one(many(ring, 1_000)), one(many(ring, 1_001)))
+    yield case("the same along x", 2_001, one(many(ring, 1_000, 7, 0)), one(many(ring, 1_001, 7, 0)))
+    def placed_cell(n):
+        return oas_file(oas_cell("A", ring), oas_cell("TOP", placement("A", 0, 0, line(n, 7, 3))))
+    yield case("the same in a cell", 2_001, placed_cell(1_000), placed_cell(1_001))
+    yield case("the polygon at 1,000 places, and edited, with a square far away", 2_001,
+               one(many(ring, 1_000)), one(many(edited(7), 1_000), far))
+    yield case("the polygon at 1,000 places, and at 500 of them and in halves at all", 3_500,
+               one(many(ring, 1_000)), one(many(ring, 500), *(many(half, 1_000) for half in halves)))
 
 
 def nearly_over_one_another():
