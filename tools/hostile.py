@@ -319,6 +319,8 @@ def many_places():
     yield case("the same in a cell", 2_001, placed_cell(1_000), placed_cell(1_001))
     yield case("the polygon at 1,000 places, and edited, with a square far away", 2_001,
                one(many(ring, 1_000)), one(many(edited(7), 1_000), far))
+    yield case("the polygon at 1,000 places, each cut in two, with a square far away", 3_001,
+               one(many(ring, 1_000)), one(*(many(half, 1_000) for half in halves), far))
     yield case("the polygon at 1,000 places, and at 500 of them and in halves at all", 3_500,
                one(many(ring, 1_000)), one(many(ring, 500), *(many(half, 1_000) for half in halves)))
 

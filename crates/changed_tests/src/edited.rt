@@ -187,3 +187,13 @@ fn cut_is_found(alloc: Global, row: &str) -> Result<bool, Fail> {
 fn boxes_in_parts(rt: HostRuntime) -> Result<(), Fail> {
     rows_hold(rt.alloc(), CUTS, cut_is_found)
 }
+
+/// So many boxes aren't flattened: only a look at one place says that they cover the same.
+#[test]
+fn many_boxes_are_compared_at_one_place(rt: HostRuntime) -> Result<(), Fail> {
+    let alloc = rt.alloc();
+    let pair = fitted_pair(alloc, "T 0..9*400000", "T 0..4*400000 4..9*400000")?;
+    let changes = changed(alloc, &pair.first, &pair.second, &View::whole(alloc))?;
+    assert!(rt; changes.ok_or("anywhere")?.windows.is_empty());
+    Ok(())
+}

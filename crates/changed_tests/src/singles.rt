@@ -1,6 +1,7 @@
 //! A long ring at many places, against the same places in other lists.
 use lvl_cells::{Builder, check};
 use lvl_changed::difference_by_changes;
+use lvl_compare::difference_by_strips;
 use lvl_flat::Fitted;
 use lvl_grid::{Point, Ring};
 use lvl_names::{Layer, Offsets};
@@ -65,5 +66,23 @@ fn a_long_ring_in_other_lists(rt: HostRuntime) -> Result<(), Fail> {
     assert!(rt; draws_same(rt.alloc(), &[75, 75])?);
     assert!(rt; draws_same(rt.alloc(), &[1, 148, 1])?);
     assert!(rt; !draws_same(rt.alloc(), &[75, 74])?);
+    Ok(())
+}
+
+/// Whether changes find the first difference of a list of 150 places and these lists, as strips find it.
+fn differs_alike(alloc: Global, counts: &[u32]) -> Result<bool, Fail> {
+    let first = lists(alloc, &[150])?;
+    let second = lists(alloc, counts)?;
+    let view = View::whole(alloc);
+    let found = difference_by_changes(alloc, &first, &second, &view, 600_000)?;
+    let plain = difference_by_strips(alloc, &first, &second, &view, 600_000)?;
+    Ok(found.is_some() && found == plain)
+}
+
+/// The lowest row that only one of both has is covered by others at its first square.
+#[test]
+fn a_long_ring_at_one_place_more(rt: HostRuntime) -> Result<(), Fail> {
+    assert!(rt; differs_alike(rt.alloc(), &[151])?);
+    assert!(rt; differs_alike(rt.alloc(), &[149])?);
     Ok(())
 }

@@ -15,7 +15,7 @@ use Rattle.lvl_changed.specs.inside.Shapes.{corners}
 use Rattle.lvl_changed.proofs.Widening.{at_point}
 
 -- a point between the corners of one of two windows is between those of the joined one
-hull_points : (v w : Window) (p : Point) → HoldsPoint (corners v) p → HoldsPoint (corners (hull v w)) p
+pub hull_points : (v w : Window) (p : Point) → HoldsPoint (corners v) p → HoldsPoint (corners (hull v w)) p
 hull_points v w p h = record {
   left = omega (arith, ints, clamps, h.left);
   right = omega (arith, ints, clamps, h.right);
@@ -23,7 +23,8 @@ hull_points v w p h = record {
   above = omega (arith, ints, clamps, h.above);
 }
 
-hull_point : (v : Window) (p : Point) → HoldsPoint (corners (hull v (at_point p))) p
+-- and the joined point is
+pub hull_point : (v : Window) (p : Point) → HoldsPoint (corners (hull v (at_point p))) p
 hull_point v p = record {
   left = omega (arith, ints, clamps);
   right = omega (arith, ints, clamps);

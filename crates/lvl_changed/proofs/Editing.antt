@@ -15,13 +15,12 @@ use Rattle.lvl_grid.specs.Clip.{IsInWindow}
 use Rattle.lvl_grid.specs.Placed.{placed_point}
 use Rattle.lvl_grid.specs.Turn.{shifted}
 use Rattle.lvl_grid.specs.Winding.{last_or, winding, Covers, SomeCovers}
-use Rattle.lvl_grid.proofs.Anyone.{Any-nil}
 use Rattle.lvl_grid.proofs.Composing.{same_point}
 use Rattle.lvl_grid.proofs.Paths.{last_or-get_or}
 use Rattle.lvl_names.specs.declared.layer.Layer.{Layer}
-use Rattle.lvl_cells.specs.Cells.{PlainShape, Rings, shape_at}
+use Rattle.lvl_cells.specs.Cells.{PlainShape, Rings}
 use Rattle.lvl_cells.specs.Chains.{unmoved}
-use Rattle.lvl_cells.specs.Coverage.{moved_back, ShapeCovers}
+use Rattle.lvl_cells.specs.Coverage.{moved_back}
 use Rattle.lvl_flat.specs.Boxes.{HoldsPoint}
 use Rattle.lvl_flat.specs.inside.Bounds.{IsBeside}
 use Rattle.lvl_flat.specs.inside.Near.{AreEnds, IsPlacedBeside, MayBe}
@@ -29,13 +28,11 @@ use Rattle.lvl_flat.proofs.Ranging.{image-unmoved}
 use Rattle.lvl_flat.proofs.Replacing.{beside_ends, point_more}
 use Rattle.lvl_compare.proofs.Finding.{not_below}
 use Rattle.lvl_view.specs.declared.map.LayerPair.{LayerPair}
-use Rattle.lvl_view.specs.Moved.{IsMoved}
 use Rattle.lvl_view.specs.Views.{target_of}
 use Rattle.lvl_changed.specs.declared.area.Area.{Area}
-use Rattle.lvl_changed.specs.inside.Areas.{AlikeOutside, Grows, IsIn}
-use Rattle.lvl_changed.specs.inside.Shapes.{corners, FigureCovers, ShapesCover}
+use Rattle.lvl_changed.specs.inside.Areas.{Grows, IsIn}
+use Rattle.lvl_changed.specs.inside.Shapes.{corners, FigureCovers}
 use Rattle.lvl_changed.specs.inside.Edits.{AreEdited, Encloses, HasEachMoved}
-use Rattle.lvl_changed.proofs.Leaving.{shapes_more}
 use Rattle.lvl_changed.proofs.Remaining.{one_ring}
 use Rattle.lvl_changed.proofs.Seeing.{below}
 
@@ -320,47 +317,3 @@ place_held shifts k e w old new layer low is grows here before =
     let New : Point → Type 0 = λ d. (s : Square) → IsInWindow w (moved_back d s) → IsIn new layer s in
     All-more New shifts k e low (All-weaker Old New (λ d f s i. grows.has layer s (f s i)) (take k shifts) before)
     (subst New (sym is) here)
-
--- one pair of shapes more
-pub edits_more : (pairs : List LayerPair) (xs ys : List (PlainShape Rings)) (i : ℕ) (old new : Area)
-    → i < length xs → i < length ys → Grows old new → AreEdited new pairs (shape_at xs i) (shape_at ys i)
-    → AlikeOutside old (ShapesCover (take i xs)) (IsMoved pairs (ShapesCover (take i ys)))
-    → AlikeOutside new (ShapesCover (take (i + 1) xs)) (IsMoved pairs (ShapesCover (take (i + 1) ys)))
-edits_more pairs xs ys i old new low low' grows pair before l s out =
-    let h : PlainShape Rings = shape_at xs i in
-    let g : PlainShape Rings = shape_at ys i in
-    let so_far = before l s (λ inside. out (grows.has l s inside)) in (
-      λ c. elim ((shapes_more xs i l s low).0 c) [
-        | inl b ↦
-            let m = so_far.0 b in
-            record {
-              source = m.source;
-              is_target = m.is_target;
-              covers = (shapes_more ys i m.source s low').1 (inl m.covers);
-            }
-        | inr b ↦
-            let here = (pair.same s (λ inside. out (subst (λ k. IsIn new k s) b.0 inside))).0 b.1 in
-            record {
-              source = g.layer;
-              is_target = pair.layer ∙ b.0;
-              covers = (shapes_more ys i g.layer s low').1 (inr (refl, here));
-            }
-      ],
-      λ m. elim ((shapes_more ys i m.source s low').0 m.covers) [
-        | inl b ↦
-            (shapes_more xs i l s low).1
-            (inl (so_far.1 (record { source = m.source; is_target = m.is_target; covers = b })))
-        | inr b ↦
-            let on : h.layer ≡ l = sym pair.layer ∙ (ap (target_of pairs) b.0 ∙ m.is_target) in
-            let here = (pair.same s (λ inside. out (subst (λ k. IsIn new k s) on inside))).1 b.1 in
-            (shapes_more xs i l s low).1 (inr (on, here))
-      ],
-    )
-
--- of no shapes
-pub no_edits : (area : Area) (pairs : List LayerPair)
-    → AlikeOutside area (ShapesCover []) (IsMoved pairs (ShapesCover []))
-no_edits area pairs l s out = (
-  λ c. absurd (Any-nil (ShapeCovers SomeCovers l s) c),
-  λ m. absurd (Any-nil (ShapeCovers SomeCovers m.source s) m.covers),
-)

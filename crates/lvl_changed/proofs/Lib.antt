@@ -26,7 +26,9 @@ pub mod Remaining
 pub mod Resting
 pub mod Singles
 pub mod Editing
+pub mod Aligning
 pub mod Once
+pub mod Rounding
 pub mod Tops
 pub mod Rowing
 pub mod Apart

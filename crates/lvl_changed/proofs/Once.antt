@@ -8,7 +8,7 @@ use Rattle.lvl_cells.specs.Cells.{PlainShape, Rings}
 use Rattle.lvl_cells.specs.Coverage.{moved_back}
 use Rattle.lvl_view.specs.declared.map.LayerPair.{LayerPair}
 use Rattle.lvl_view.specs.Moved.{IsMoved}
-use Rattle.lvl_changed.specs.inside.OnePlace.{AreOnce, HaveShifts, OnceCovers}
+use Rattle.lvl_changed.specs.inside.OnePlace.{CoverOnce, HaveShifts, OnceCovers}
 use Rattle.lvl_changed.specs.inside.Shapes.{ShapesCover}
 use Rattle.lvl_changed.proofs.Remaining.{not_moved, one_ring, only_ring}
 
@@ -48,7 +48,7 @@ spread hs shifts l s have = (
 
 -- and so two lists of these cover the same if they do at one place
 pub same_placed : (pairs : List LayerPair) (xs ys us vs : List (PlainShape Rings)) (shifts : List Point)
-    → HaveShifts shifts xs → HaveShifts shifts ys → AreOnce us xs → AreOnce vs ys
+    → HaveShifts shifts xs → HaveShifts shifts ys → CoverOnce us xs → CoverOnce vs ys
     → ((l : Layer) (s : Square) → ShapesCover us l s ↔ IsMoved pairs (ShapesCover vs) l s) → (l : Layer) (s : Square)
     → ShapesCover xs l s ↔ IsMoved pairs (ShapesCover ys) l s
 same_placed pairs xs ys us vs shifts mine their once once' same l s = (

@@ -14,11 +14,12 @@ use Rattle.lvl_cells.specs.Coverage.{moved_back, ShapeCovers}
 use Rattle.lvl_view.specs.declared.map.LayerPair.{LayerPair}
 use Rattle.lvl_view.specs.Moved.{IsMoved}
 use Rattle.lvl_view.specs.Views.{target_of}
+use Rattle.lvl_compare.specs.Tops.{Draws}
 use Rattle.lvl_changed.specs.declared.rectangles.Rectangle.{Rectangle}
 use Rattle.lvl_changed.specs.declared.rest.Rest.{Rest}
 use Rattle.lvl_changed.specs.inside.Figures.{HasAlike}
 use Rattle.lvl_changed.specs.inside.Rectangles.{RectangleCovers, RectanglesCover}
-use Rattle.lvl_changed.specs.inside.Rests.{IsRest, RestCovers}
+use Rattle.lvl_changed.specs.inside.Rests.{AddsRest, IsRest, RestCovers}
 use Rattle.lvl_changed.specs.inside.Shapes.{FigureCovers, put_on, ShapesCover}
 use Rattle.lvl_changed.proofs.Leaving.{alike_covers, shapes_more}
 use Rattle.lvl_changed.proofs.Lists.{same_square}
@@ -104,17 +105,17 @@ rest_with_twin pairs others xs ys rest i low has before = record {
   ];
 }
 
--- one more shape that is left
-pub rest_with_shape : (pairs others : List LayerPair) (xs ys : List (PlainShape Rings)) (old new : Rest) (i : ℕ)
+-- one more shape, of which a part is left
+pub rest_with_part : (pairs others : List LayerPair) (xs ys : List (PlainShape Rings)) (old new : Draws) (i : ℕ)
     → i < length xs
-    → ((l : Layer) (s : Square) → RestCovers new l s ↔ (RestCovers old l s
-    ⊎ ShapeCovers SomeCovers l s (put_on (target_of pairs (shape_at xs i).layer) (shape_at xs i))))
-    → IsRest (IsMoved pairs (ShapesCover (take i xs))) (IsMoved others (ShapesCover ys)) (RestCovers old)
-    → IsRest (IsMoved pairs (ShapesCover (take (i + 1) xs))) (IsMoved others (ShapesCover ys)) (RestCovers new)
-rest_with_shape pairs others xs ys old new i low adds before =
+    → AddsRest (IsMoved others (ShapesCover ys))
+    (λ l s. ShapeCovers SomeCovers l s (put_on (target_of pairs (shape_at xs i).layer) (shape_at xs i))) old new
+    → IsRest (IsMoved pairs (ShapesCover (take i xs))) (IsMoved others (ShapesCover ys)) old
+    → IsRest (IsMoved pairs (ShapesCover (take (i + 1) xs))) (IsMoved others (ShapesCover ys)) new
+rest_with_part pairs others xs ys old new i low adds before =
     let h : PlainShape Rings = shape_at xs i in
     record {
-      inside = λ l s c. elim ((adds l s).0 c) [
+      inside = λ l s c. elim (adds.inside l s c) [
         | inl b ↦
             moved_more pairs (ShapesCover (take i xs)) (ShapesCover (take (i + 1) xs)) s s
             (λ k d. (shapes_more xs i k s low).1 (inl d)) l (before.inside l s b)
@@ -125,10 +126,10 @@ rest_with_shape pairs others xs ys old new i low adds before =
       held = λ l s m. elim ((shapes_more xs i m.source s low).0 m.covers) [
         | inl c ↦
             elim (before.held l s (record { source = m.source; is_target = m.is_target; covers = c }))
-            [ inl x ↦ inl ((adds l s).1 (inl x)) | inr y ↦ inr y ]
+            [ inl x ↦ inl (adds.kept l s x) | inr y ↦ inr y ]
         | inr c ↦
-            inl ((adds l s).1 (inr ((moved_shape pairs h l s).0
-            (record { source = m.source; is_target = m.is_target; covers = c }))))
+            adds.held l s ((moved_shape pairs h l s).0
+            (record { source = m.source; is_target = m.is_target; covers = c }))
       ];
     }
 
@@ -187,3 +188,17 @@ rectangle_as_shape old new r ring shifts l s is one same =
       λ c. elim (push.0 c) [ inl b ↦ inl b | inr b ↦ inr (b.0, same.0 (there.0 b.1)) ],
       λ e. push.1 (elim e [ inl b ↦ inl b | inr b ↦ inr (b.0, there.1 (same.1 b.1)) ]),
     )
+
+-- a part of a shape is added as another shape
+pub part_added : (b h : Draws) (old new : Rest) → new.rectangles.items ≡ old.rectangles.items
+    → AddsRest b h (ShapesCover old.shapes) (ShapesCover new.shapes) → AddsRest b h (RestCovers old) (RestCovers new)
+part_added b h old new same adds =
+    let All : Layer → Square → List Rectangle → Type 0 = λ l s rs. RectanglesCover rs l s in
+    record {
+      kept = λ l s c. elim c [ inl a ↦ inl (subst (All l s) (sym same) a) | inr a ↦ inr (adds.kept l s a) ];
+      inside = λ l s c. elim c [
+        | inl a ↦ inl (inl (subst (All l s) same a))
+        | inr a ↦ elim (adds.inside l s a) [ inl d ↦ inl (inr d) | inr d ↦ inr d ]
+      ];
+      held = λ l s c. elim (adds.held l s c) [ inl d ↦ inl (inr d) | inr d ↦ inr d ];
+    }

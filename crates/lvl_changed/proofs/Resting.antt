@@ -139,6 +139,13 @@ flat_changes pairs area changes first second c d here there ours theirs alike ha
 pub seen_alike : {X Y : Type 0} {x u : X} {y v : Y} (P : X → Y → Type 0) → x ≡ u → y ≡ v → P x y → P u v
 seen_alike {u = u} {y = y} P a b p = subst (λ k. P u k) b (subst (λ k. P k y) a p)
 
+-- what is left is within changes, so both layouts draw the same but for these
+pub rest_within : (changes : Changes) (a b x y : Draws) → AreSameWhere a b x y
+    → ((l : Layer) (s : Square) → x l s → IsChange changes l s)
+    → ((l : Layer) (s : Square) → y l s → IsChange changes l s) → DrawSameBut changes a b
+rest_within changes a b x y whole mine their l s out =
+    whole l s (λ h. absurd (out (mine l s h)), λ h. absurd (out (their l s h)))
+
 -- without pairs what is left may count as moved
 pub unmoved_where : (none : List LayerPair) (a b x y : Draws) → none ≡ [] → AreSameWhere a b x y
     → AreSameWhere a b x (IsMoved none y)

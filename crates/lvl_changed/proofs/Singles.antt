@@ -1,17 +1,19 @@
--- Shapes of one ring at several places, as shapes at one place each.
+-- A ring at several places, and what is left of it without the places at which others have it.
 use Rattle.std.proofs.Common.{◌≡◌, ◌<◌, ◌+◌, ◌↔◌, ◌⊎◌, ◌++◌, ◌∷◌, [], ℕ, List, Any, take, length, get_or, map}
-use Rattle.std.proofs.Common.{inl, inr, refl, sym, ap, ◌∙◌, subst, arith}
+use Rattle.std.proofs.Common.{Some, slice_get, inl, inr, refl, sym, ap, ◌∙◌, subst, arith}
 use Rattle.std.proofs.lemmas.Int.{ints}
+use Rattle.std.proofs.lemmas.List.{get_or_default}
+use Rattle.std.proofs.lemmas.Option.{get_or_from_slice_get, slice_get_within}
 use Rattle.lvl_grid.specs.declared.point.Point.{Point}
 use Rattle.lvl_grid.specs.declared.point.Square.{Square}
 use Rattle.lvl_grid.specs.Turn.{image_square, shifted}
 use Rattle.lvl_grid.specs.Placed.{moved_square, placed_point, IsPlaceOfCovered}
 use Rattle.lvl_grid.specs.Winding.{Covers, IsRing, SomeCovers}
-use Rattle.lvl_grid.proofs.Anyone.{Any-nil, Any-push}
+use Rattle.lvl_grid.proofs.Anyone.{some_contained, Any-nil, Any-push}
 use Rattle.lvl_grid.proofs.Placed.{covers_placed}
 use Rattle.lvl_names.specs.declared.layer.Layer.{Layer}
 use Rattle.lvl_names.specs.Shifts.{one_place}
-use Rattle.lvl_cells.specs.Cells.{PlainShape, Rings}
+use Rattle.lvl_cells.specs.Cells.{PlainShape, Rings, shape_at}
 use Rattle.lvl_cells.specs.Chains.{unmoved}
 use Rattle.lvl_cells.specs.Coverage.{moved_back, ShapeCovers}
 use Rattle.lvl_flat.proofs.Advancing.{under_unmoved}
@@ -19,9 +21,10 @@ use Rattle.lvl_flat.proofs.Ranging.{image-unmoved}
 use Rattle.lvl_simplify.proofs.Joining.{any_next}
 use Rattle.lvl_view.specs.declared.map.LayerPair.{LayerPair}
 use Rattle.lvl_view.specs.Moved.{IsMoved}
+use Rattle.lvl_view.specs.Views.{target_of}
 use Rattle.lvl_compare.specs.Tops.{Draws}
-use Rattle.lvl_changed.specs.inside.Rests.{AreSameWhere}
-use Rattle.lvl_changed.specs.inside.Shapes.{CoverSame, ShapesCover}
+use Rattle.lvl_changed.specs.inside.Rests.{AddsRest}
+use Rattle.lvl_changed.specs.inside.Shapes.{put_on, ShapesCover}
 use Rattle.lvl_changed.proofs.Lists.{same_square}
 use Rattle.lvl_changed.proofs.Remaining.{one_ring, only_ring, ring_there}
 
@@ -74,48 +77,114 @@ ring_at old new on e ring placed shifts l s is one at ring_is =
 abbrev pub RingCovers : Layer → List Point → List Point → Layer → Square → Type 0
 RingCovers on ring shifts l s = (on ≡ l) × Any (λ e. Covers ring (moved_back e s)) shifts
 
-pub no_place : (hs : List (PlainShape Rings)) (on : Layer) (ring : List Point) (l : Layer) (s : Square)
-    → ShapesCover hs l s ↔ (ShapesCover hs l s ⊎ RingCovers on ring [] l s)
-no_place hs on ring l s =
-    (λ c. inl c, λ d. elim d [ inl c ↦ c | inr c ↦ absurd (Any-nil (λ e. Covers ring (moved_back e s)) c.1) ])
+-- nothing is added at no place
+pub no_place : (b x : Draws) (on : Layer) (ring : List Point) → AddsRest b (RingCovers on ring []) x x
+no_place b x on ring = record {
+  kept = λ l s c. c;
+  inside = λ l s c. inl c;
+  held = λ l s c. absurd (Any-nil (λ e. Covers ring (moved_back e s)) c.1);
+}
+
+-- the ring at a shift
+abbrev pub MovedCovers : Layer → List Point → Point → Draws
+MovedCovers on ring e l s = (on ≡ l) × Covers ring (moved_back e s)
 
 -- one place more
-pub place_more : (first old new : List (PlainShape Rings)) (on : Layer) (ring shifts : List Point) (k : ℕ) (e : Point)
-    (l : Layer) (s : Square) → k < length shifts → get_or shifts k e ≡ e
-    → ShapesCover old l s ↔ (ShapesCover first l s ⊎ RingCovers on ring (take k shifts) l s)
-    → ShapesCover new l s ↔ (ShapesCover old l s ⊎ ((on ≡ l) × Covers ring (moved_back e s)))
-    → ShapesCover new l s ↔ (ShapesCover first l s ⊎ RingCovers on ring (take (k + 1) shifts) l s)
-place_more first old new on ring shifts k e l s low is before step =
-    let P : Point → Type 0 = λ d. Covers ring (moved_back d s) in
-    let next = any_next P shifts k e low in (
-      λ c. elim (step.0 c) [
-        | inl b ↦ elim (before.0 b) [ inl a ↦ inl a | inr a ↦ inr (a.0, next.1 (inl a.1)) ]
-        | inr b ↦ inr (b.0, next.1 (inr (subst P (sym is) b.1)))
-      ],
-      λ d. step.1 (elim d [
-        | inl a ↦ inl (before.1 (inl a))
-        | inr a ↦
-            elim (next.0 a.1) [
-              | inl b ↦ inl (before.1 (inr (a.0, b)))
-              | inr b ↦ inr (a.0, subst P is b)
-            ]
-      ]),
-    )
+pub place_more : (b x y z : Draws) (on : Layer) (ring shifts : List Point) (k : ℕ) (e : Point) → k < length shifts
+    → get_or shifts k e ≡ e → AddsRest b (RingCovers on ring (take k shifts)) x y
+    → AddsRest b (MovedCovers on ring e) y z → AddsRest b (RingCovers on ring (take (k + 1) shifts)) x z
+place_more b x y z on ring shifts k e low is before step =
+    let P : Square → Point → Type 0 = λ s d. Covers ring (moved_back d s) in
+    let next : (s : Square) → Any (P s) (take (k + 1) shifts) ↔ (Any (P s) (take k shifts) ⊎ P s (get_or shifts k e)) =
+    λ s. any_next (P s) shifts k e low in
+    record {
+      kept = λ l s c. step.kept l s (before.kept l s c);
+      inside = λ l s c. elim (step.inside l s c) [
+        | inl d ↦ elim (before.inside l s d) [ inl a ↦ inl a | inr a ↦ inr (a.0, (next s).1 (inl a.1)) ]
+        | inr d ↦ inr (d.0, (next s).1 (inr (subst (P s) (sym is) d.1)))
+      ];
+      held = λ l s c. elim ((next s).0 c.1) [
+        | inl a ↦ elim (before.held l s (c.0, a)) [ inl d ↦ inl (step.kept l s d) | inr d ↦ inr d ]
+        | inr a ↦ step.held l s (c.0, subst (P s) is a)
+      ];
+    }
 
--- all of them
-pub all_places : (h : PlainShape Rings) (on : Layer) (ring : List Point) (l : Layer) (s : Square) → on ≡ h.layer
-    → length h.figure ≡ 1 → ring ≡ get_or h.figure 0 []
-    → RingCovers on ring h.shifts l s ↔ ShapeCovers SomeCovers l s h
-all_places h on ring l s layer one is =
+-- all places
+pub all_places : (b x y : Draws) (h : PlainShape Rings) (on : Layer) (ring : List Point)
+    → length h.figure ≡ 1 → ring ≡ get_or h.figure 0 [] → AddsRest b (RingCovers on ring h.shifts) x y
+    → AddsRest b (λ l s. ShapeCovers SomeCovers l s (put_on on h)) x y
+all_places b x y h on ring one is adds =
     let figure : h.figure ≡ ring ∷ [] = only_ring h.figure one ∙ ap (λ r. r ∷ []) (sym is) in
-    subst
-    (λ (k : Layer). RingCovers k ring h.shifts l s ↔ ShapeCovers SomeCovers l s h) (sym layer)
-    (subst
-    (λ (f : Rings). RingCovers h.layer ring h.shifts l s
-    ↔ ((h.layer ≡ l) × Any (λ e. SomeCovers f (moved_back e s)) h.shifts)) (sym figure) (
-      λ a. (a.0, (a.1.0, a.1.1, a.1.2, a.1.3, (one_ring ring (moved_back a.1.1 s)).1 a.1.4)),
-      λ a. (a.0, (a.1.0, a.1.1, a.1.2, a.1.3, (one_ring ring (moved_back a.1.1 s)).0 a.1.4)),
-    ))
+    let to : (l : Layer) (s : Square) → RingCovers on ring h.shifts l s → ShapeCovers SomeCovers l s (put_on on h) =
+    λ l s a. (
+      a.0,
+      (
+        a.1.0,
+        a.1.1,
+        a.1.2,
+        a.1.3,
+        subst (λ (f : Rings). SomeCovers f (moved_back a.1.1 s)) (sym figure) ((one_ring ring (moved_back a.1.1 s)).1 a.1.4),
+      ),
+    ) in
+    let back : (l : Layer) (s : Square) → ShapeCovers SomeCovers l s (put_on on h) → RingCovers on ring h.shifts l s =
+    λ l s a. (
+      a.0,
+      (
+        a.1.0,
+        a.1.1,
+        a.1.2,
+        a.1.3,
+        (one_ring ring (moved_back a.1.1 s)).0 (subst (λ (f : Rings). SomeCovers f (moved_back a.1.1 s)) figure a.1.4),
+      ),
+    ) in
+    record {
+      kept = adds.kept;
+      inside = λ l s c. elim (adds.inside l s c) [ inl d ↦ inl d | inr d ↦ inr (to l s d) ];
+      held = λ l s c. adds.held l s (back l s c);
+    }
+
+-- all is added that the shape covers
+pub added_whole : (b h x y : Draws) → ((l : Layer) (s : Square) → y l s ↔ (x l s ⊎ h l s)) → AddsRest b h x y
+added_whole b h x y is = record {
+  kept = λ l s c. (is l s).1 (inl c);
+  inside = λ l s c. (is l s).0 c;
+  held = λ l s c. inl ((is l s).1 (inr c));
+}
+
+-- nothing is added where others have the ring
+pub added_none : (b x : Draws) (on : Layer) (ring moved : List Point) (e : Point) → IsRing ring
+    → moved ≡ map (shifted e) ring → ((s : Square) → Covers moved s → b on s) → AddsRest b (MovedCovers on ring e) x x
+added_none b x on ring moved e is at has = record {
+  kept = λ l s c. c;
+  inside = λ l s c. inl c;
+  held = λ l s c.
+      let there : Covers (map (shifted e) ring) s = (covers_moved e ring s is).1 ((place_is e ring s).1 c.1) in
+      inr (subst (λ (k : Layer). b k s) c.0 (has s (subst (λ ps. Covers ps s) (sym at) there)));
+}
+
+-- a shape of one ring covers what this does at one of its shifts
+pub ring_among : (others : List LayerPair) (ys : List (PlainShape Rings)) (j m : ℕ) (e : Point) (on : Layer)
+    (ring moved : List Point) (s : Square) → j < length ys → length (shape_at ys j).figure ≡ 1
+    → ring ≡ get_or (shape_at ys j).figure 0 [] → slice_get (shape_at ys j).shifts m ≡ Some e → IsRing ring
+    → moved ≡ map (shifted e) ring → on ≡ target_of others (shape_at ys j).layer → Covers moved s
+    → IsMoved others (ShapesCover ys) on s
+ring_among others ys j m e on ring moved s low one is seen is_ring at layer c =
+    let g : PlainShape Rings = shape_at ys j in
+    let figure : g.figure ≡ ring ∷ [] = only_ring g.figure one ∙ ap (λ r. r ∷ []) (sym is) in
+    let there : Covers ring (moved_back e s) =
+    (place_is e ring s).0 ((covers_moved e ring s is_ring).0 (subst (λ ps. Covers ps s) at c)) in
+    let covers : SomeCovers g.figure (moved_back e s) =
+    subst (λ (f : Rings). SomeCovers f (moved_back e s)) (sym figure) ((one_ring ring (moved_back e s)).1 there) in
+    let none : PlainShape Rings = record { layer = record { layer = 0; datatype = 0 }; figure = []; shifts = [] } in
+    record {
+      source = g.layer;
+      is_target = sym layer;
+      covers =
+          some_contained (ShapeCovers SomeCovers g.layer s) ys g (j, low, get_or_default ys j g none low) (
+            refl,
+            (m, e, slice_get_within g.shifts m e seen, get_or_from_slice_get g.shifts m e e seen, covers),
+          );
+    }
 
 -- what the shapes so far cover, one by one
 pub shape_more : (P : PlainShape Rings → Type 0) (xs old new : List (PlainShape Rings)) (i : ℕ) (d : PlainShape Rings)
@@ -125,21 +194,4 @@ shape_more P xs old new i d l s low before step =
     let next = any_next P xs i d low in (
       λ c. next.1 (elim (step.0 c) [ inl b ↦ inl (before.0 b) | inr b ↦ inr b ]),
       λ c. step.1 (elim (next.0 c) [ inl b ↦ inl (before.1 b) | inr b ↦ inr b ]),
-    )
-
--- what covers the same draws the same under a map of Layers
-pub singles_where : (pairs others : List LayerPair) (singles xs others_singles ys : List (PlainShape Rings))
-    (x y : Draws) → CoverSame singles xs → CoverSame others_singles ys
-    → AreSameWhere (IsMoved pairs (ShapesCover singles)) (IsMoved others (ShapesCover others_singles)) x y
-    → AreSameWhere (IsMoved pairs (ShapesCover xs)) (IsMoved others (ShapesCover ys)) x y
-singles_where pairs others singles xs others_singles ys x y same same' where_same l s both =
-    let Moved : List LayerPair → List (PlainShape Rings) → Type 0 = λ ps hs. IsMoved ps (ShapesCover hs) l s in
-    let to : (ps : List LayerPair) (as' bs : List (PlainShape Rings)) → CoverSame as' bs → Moved ps as' → Moved ps bs =
-    λ ps as' bs h m. record { source = m.source; is_target = m.is_target; covers = (h m.source s).0 m.covers } in
-    let back : (ps : List LayerPair) (as' bs : List (PlainShape Rings)) → CoverSame as' bs → Moved ps bs
-    → Moved ps as' =
-    λ ps as' bs h m. record { source = m.source; is_target = m.is_target; covers = (h m.source s).1 m.covers } in
-    let all = where_same l s both in (
-      λ m. to others others_singles ys same' (all.0 (back pairs singles xs same m)),
-      λ m. to pairs singles xs same (all.1 (back others others_singles ys same' m)),
     )

@@ -6,6 +6,7 @@ pub mod Finding
 pub mod Pairs
 pub mod Shapes
 pub mod Edits
+pub mod Aligned
 pub mod OnePlace
 pub mod Figures
 pub mod Layers

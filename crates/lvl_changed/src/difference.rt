@@ -7,12 +7,13 @@ ghost use Rattle.lvl_compare.specs.Pairs.{ours, theirs};
 ghost use Rattle.lvl_compare.specs.Tops.{DrawSame, IsFirstDifference};
 ghost use Rattle.lvl_changed.specs.Changed.{DrawSameBut};
 
+use crate::aligned::hold_by_shapes;
 use crate::area::Area;
 use crate::cells::changed;
-use crate::changes::{Changes, difference_among};
-use crate::edits::hold_by_shapes;
+use crate::changes::Changes;
 use crate::pays::pays_by_cells;
 use crate::rests::{Known, known_by_rests, top_of};
+use crate::round::difference_from_below;
 use crate::windows::MOST_WINDOWS;
 use lvl_compare::{Pair, difference_by_strips};
 use lvl_flat::Fitted;
@@ -138,5 +139,5 @@ pub fn difference_by_changes(
             Ok(Known::Nothing) | Err(_) => difference_by_strips(alloc, first, second, view, most),
         };
     };
-    difference_among(alloc, &pair, &changes, most)
+    difference_from_below(alloc, &pair, changes, most)
 }

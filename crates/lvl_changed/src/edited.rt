@@ -48,12 +48,7 @@ fn with_point(window: Window, point: Point) -> Window
     ensures wider { Encloses window result }
     ensures there { HoldsPoint (corners result) point }
 {
-    Window {
-        x0: window.x0.min(point.x),
-        y0: window.y0.min(point.y),
-        x1: window.x1.max(point.x),
-        y1: window.y1.max(point.y),
-    }
+    window.joined(spot(point))
 }
 
 /// The window with the points of a ring from one index up to another, which is excluded.

@@ -4,25 +4,19 @@ ghost use Rattle.lvl_grid.specs.declared.point.Square.{Square};
 ghost use Rattle.lvl_grid.specs.Clip.{IsInWindow};
 ghost use Rattle.lvl_cells.specs.Cells.{shape_at};
 ghost use Rattle.lvl_cells.specs.Coverage.{moved_back};
-ghost use Rattle.lvl_view.specs.Moved.{IsMoved};
-ghost use Rattle.lvl_changed.specs.inside.Areas.{AlikeOutside, Grows, IsIn};
+ghost use Rattle.lvl_changed.specs.inside.Areas.{Grows, IsIn};
 ghost use Rattle.lvl_changed.specs.inside.Edits.{AreEdited, HasEachMoved, HaveOneRing};
-ghost use Rattle.lvl_changed.specs.inside.Shapes.{ShapesCover};
 
 use crate::area::Area;
 use crate::corners::{between, high_corner, low_corner};
 use crate::edited::edited_window;
 use crate::figures::{are_same_rings, have_same_shifts};
-use crate::one_place::are_same_at_places;
 use crate::shifts::moved;
 use lvl_cells::Shapes;
 use lvl_grid::{Point, Window};
 use lvl_names::Layer;
 use lvl_view::View;
-use std::alloc::{AllocError, Global};
-
-/// The greatest number of shapes that are compared one by one.
-const MOST_SHAPES: usize = 1_024;
+use std::alloc::AllocError;
 
 /// The greatest number of places at which a window is held.
 const MOST_PLACES: u64 = 4_096;
@@ -69,43 +63,61 @@ fn hold_at_each(
     Ok(true)
 }
 
-/// Whether shape `i` of the first and that of the second have one ring each, the same shifts, and the same Layer if
+/// Whether shape `i` of the first and shape `j` of the second have one ring each, the same shifts, and the same Layer if
 /// that of the second is mapped.
-fn have_one_ring(ours: &Shapes, theirs: &Shapes, i: usize, view: &View) -> bool
+fn have_one_ring(ours: &Shapes, i: usize, theirs: &Shapes, j: usize, view: &View) -> bool
     requires first { i < length ours.now }
-    requires second { i < length theirs.now }
-    ensures { IsTrue result → HaveOneRing view.now.pairs (shape_at ours.now i) (shape_at theirs.now i) }
+    requires second { j < length theirs.now }
+    ensures { IsTrue result → HaveOneRing view.now.pairs (shape_at ours.now i) (shape_at theirs.now j) }
 {
     let first = ours.layer(i);
-    let second = view.target(theirs.layer(i));
+    let second = view.target(theirs.layer(j));
     if first.layer != second.layer || first.datatype != second.datatype {
         return false;
     }
-    if ours.ring_count(i) != 1 || theirs.ring_count(i) != 1 {
+    if ours.ring_count(i) != 1 || theirs.ring_count(j) != 1 {
         return false;
     }
-    have_same_shifts(ours, i, theirs, i)
+    have_same_shifts(ours, i, theirs, j)
 }
 
-/// Adds an area outside of which shape `i` of the first and that of the second cover the same, if both have one ring
-/// each, the same shifts and all points but, in a long ring, some. Reports whether it did.
-fn hold_edit(
+/// Whether shape `i` of the first and shape `j` of the second are the same ring at the same places.
+pub(crate) fn are_same_placed(
+    ours: &Shapes,
+    i: usize,
+    theirs: &Shapes,
+    j: usize,
+    view: &View,
+) -> bool
+    requires first { i < length ours.now }
+    requires second { j < length theirs.now }
+{
+    if !have_one_ring(ours, i, theirs, j, view) {
+        return false;
+    }
+    are_same_rings(&ours.ring(i, 0), &theirs.ring(j, 0))
+}
+
+/// Adds an area outside of which shape `i` of the first and shape `j` of the second cover the same, if both have one
+/// ring each, the same shifts and all points but, in a long ring, some. Reports whether it did.
+pub(crate) fn hold_edit(
     area: &mut Area,
     ours: &Shapes,
-    theirs: &Shapes,
     i: usize,
+    theirs: &Shapes,
+    j: usize,
     view: &View,
 ) -> Result<bool, AllocError>
     requires first { i < length ours.now }
-    requires second { i < length theirs.now }
+    requires second { j < length theirs.now }
     ensures held { IfOk result (λ done. IsTrue done
-        → AreEdited area.new view.now.pairs (shape_at ours.now i) (shape_at theirs.now i)) }
+        → AreEdited area.new view.now.pairs (shape_at ours.now i) (shape_at theirs.now j)) }
     ensures kept { OnOk result (Grows area.old area.new) }
 {
-    if !have_one_ring(ours, theirs, i, view) {
+    if !have_one_ring(ours, i, theirs, j, view) {
         return Ok(false);
     }
-    let (first, second) = (ours.ring(i, 0), theirs.ring(i, 0));
+    let (first, second) = (ours.ring(i, 0), theirs.ring(j, 0));
     if are_same_rings(&first, &second) {
         return Ok(true);
     }
@@ -116,48 +128,4 @@ fn hold_edit(
         return Ok(false);
     };
     hold_at_each(area, ours.layer(i), &window, ours, i)
-}
-
-/// Adds an area outside of which the shapes of both lists cover the same, with the Layers of the second as the view
-/// maps them, if they are the same one by one but for some points of their rings. Reports whether it did.
-fn hold_edits(
-    area: &mut Area,
-    ours: &Shapes,
-    theirs: &Shapes,
-    view: &View,
-) -> Result<bool, AllocError>
-    ensures held { IfOk result (λ done. IsTrue done → AlikeOutside area.new (ShapesCover ours.now)
-        (IsMoved view.now.pairs (ShapesCover theirs.now))) }
-    ensures kept { OnOk result (Grows area.old area.new) }
-{
-    if ours.len() != theirs.len() || ours.len() > MOST_SHAPES {
-        return Ok(false);
-    }
-    for i in 0..ours.len() {
-        if !hold_edit(area, ours, theirs, i, view)? {
-            return Ok(false);
-        }
-    }
-    Ok(true)
-}
-
-/// Adds an area outside of which the shapes of both lists cover the same, with the Layers of the second as the view
-/// maps them, if that is found without what they cover at each place: see [`hold_edits`] and [`are_same_at_places`].
-/// Reports whether it did.
-pub(crate) fn hold_by_shapes(
-    area: &mut Area,
-    alloc: Global,
-    ours: &Shapes,
-    theirs: &Shapes,
-    view: &View,
-) -> Result<bool, AllocError>
-    ensures held { IfOk result (λ done. IsTrue done → AlikeOutside area.new (ShapesCover ours.now)
-        (IsMoved view.now.pairs (ShapesCover theirs.now))) }
-    ensures kept { OnOk result (Grows area.old area.new) }
-{
-    if hold_edits(area, ours, theirs, view)? {
-        return Ok(true);
-    }
-    let same = are_same_at_places(alloc, ours, theirs, view)?;
-    Ok(same)
 }

@@ -27,7 +27,7 @@ fn hash_point(hasher: &mut FoldHasher, point: Point) {
 }
 
 /// A number that few other points have. A hasher, which reads bytes, takes several times as long.
-fn mixed(point: Point) -> u64 {
+pub(crate) fn mixed(point: Point) -> u64 {
     let x = u64::from_ne_bytes(point.x.to_ne_bytes()) ^ 0x9E37_79B9_7F4A_7C15;
     let y = u64::from_ne_bytes(point.y.to_ne_bytes()) ^ 0xC2B2_AE3D_27D4_EB4F;
     let product = u128::from(x).saturating_mul(u128::from(y));

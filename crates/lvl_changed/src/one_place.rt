@@ -1,11 +1,11 @@
 //! Shapes that all have the same shifts: two lists of these cover the same if they do at one place.
-ghost use Rattle.std.specs.Prelude.{◌≡◌, ◌<◌, ◌↔◌, ◌⊎◌, length, IsTrue, IfOk, IfSome, OnOk};
+ghost use Rattle.std.specs.Prelude.{◌≡◌, [], ◌<◌, ◌↔◌, ◌⊎◌, length, IsTrue, IfOk, IfSome, OnOk};
 ghost use Rattle.lvl_grid.specs.declared.point.Square.{Square};
 ghost use Rattle.lvl_names.specs.declared.layer.Layer.{Layer as PlainLayer};
 ghost use Rattle.lvl_cells.specs.Cells.{shape_at};
 ghost use Rattle.lvl_flat.specs.Flattened.{TopCovers};
 ghost use Rattle.lvl_view.specs.Moved.{IsMoved};
-ghost use Rattle.lvl_changed.specs.inside.OnePlace.{AreOnce, HaveShifts, OnceCovers};
+ghost use Rattle.lvl_changed.specs.inside.OnePlace.{CoverOnce, HaveShifts, OnceCovers};
 ghost use Rattle.lvl_changed.specs.inside.Shapes.{ShapesCover};
 
 use crate::figures::have_same_shifts;
@@ -19,8 +19,8 @@ use lvl_names::Name;
 use lvl_view::View;
 use std::alloc::{AllocError, Global};
 
-/// The greatest number of shapes of a list that are drawn at one place.
-const MOST_SHAPES: usize = 1_024;
+/// The greatest number of shapes of a list that are looked at one by one, or drawn at one place.
+pub(crate) const MOST_SHAPES: usize = 1_024;
 
 /// The least number of places for which that pays.
 const FEWEST_PLACES: u64 = 16;
@@ -81,7 +81,7 @@ fn push_once(alloc: Global, once: &mut Shapes, shapes: &Shapes, i: usize) -> Res
 
 /// The rings of the shapes at one place, or None if a shape hasn't one ring.
 fn at_one_place(alloc: Global, shapes: &Shapes) -> Result<Option<Shapes>, AllocError>
-    ensures { IfOk result (λ found. IfSome found (λ once. AreOnce once shapes.now)) }
+    ensures { IfOk result (λ found. IfSome found (λ once. CoverOnce once shapes.now)) }
 {
     let mut once = Shapes::new(alloc);
     for i in 0..shapes.len() {
@@ -97,18 +97,26 @@ fn at_one_place(alloc: Global, shapes: &Shapes) -> Result<Option<Shapes>, AllocE
     Ok(Some(once))
 }
 
+/// A cell of these shapes, without references.
+pub(crate) fn cell_with(alloc: Global, shapes: Shapes) -> Result<Cell, AllocError>
+    ensures shapes { IfOk result (λ cell. cell.shapes ≡ shapes) }
+    ensures alone { IfOk result (λ cell. cell.references ≡ []) }
+{
+    let name = Name::of(alloc, b"TOP")?;
+    let references = References::new(alloc);
+    Ok(Cell {
+        name,
+        shapes,
+        references,
+    })
+}
+
 /// A layout that draws the shapes. None if it isn't accepted.
 fn drawn(alloc: Global, shapes: Shapes) -> Result<Option<Fitted>, AllocError>
     ensures { IfOk result (λ found. IfSome found (λ fitted. (layer : PlainLayer) (s : Square)
         → TopCovers fitted layer s ↔ ShapesCover shapes layer s)) }
 {
-    let name = Name::of(alloc, b"TOP")?;
-    let references = References::new(alloc);
-    let cell = Cell {
-        name,
-        shapes,
-        references,
-    };
+    let cell = cell_with(alloc, shapes)?;
     layout_of(alloc, cell)
 }
 

@@ -9,15 +9,17 @@ ghost use Rattle.lvl_cells.specs.Coverage.{ShapeCovers};
 ghost use Rattle.lvl_view.specs.Moved.{IsMoved};
 ghost use Rattle.lvl_view.specs.Views.{target_of};
 ghost use Rattle.lvl_changed.specs.inside.Rectangles.{RectangleCovers};
-ghost use Rattle.lvl_changed.specs.inside.Rests.{IsRest, RestCovers};
+ghost use Rattle.lvl_changed.specs.inside.Rests.{AddsRest, IsRest, RestCovers};
 ghost use Rattle.lvl_changed.specs.inside.Shapes.{FigureCovers, put_on, ShapesCover};
 
 use crate::figures::{Seen, has_shape, rectangle_of};
 use crate::left::push_shape;
+use crate::places::{Places, is_long};
 use crate::rectangles::Rectangle;
+use crate::singly::push_places;
 use crate::twins::Near;
 use lvl_cells::{Cell, References, Shapes};
-use lvl_grid::{Point, Window};
+use lvl_grid::{PlaceFault, Point, Window};
 use lvl_names::{Name, Offsets};
 use std::alloc::{AllocError, Global};
 
@@ -66,15 +68,44 @@ impl Rest {
             }
         }
     }
+
+    /// Appends a shape that has no twin among the others, as [`Rest::push`] does: if it is a long ring, only at those
+    /// of its places at which the others don't have it.
+    fn push_alone(
+        &mut self,
+        alloc: Global,
+        seen: Seen<'_>,
+        i: usize,
+        others: Seen<'_>,
+        places: &Places,
+    ) -> Result<(), PlaceFault>
+        requires { i < length seen.shapes.now }
+        ensures { OnOk result (AddsRest (IsMoved others.entry.view.now.pairs (ShapesCover others.entry.shapes.now))
+            (λ layer s. ShapeCovers SomeCovers layer s
+            (put_on (target_of seen.entry.view.now.pairs (shape_at seen.entry.shapes.now i).layer)
+            (shape_at seen.entry.shapes.now i))) (RestCovers self.old) (RestCovers self.new)) }
+    {
+        if is_long(seen.shapes, i) {
+            let layer = seen.view.target(seen.shapes.layer(i));
+            push_places(alloc, &mut self.shapes, layer, seen, i, others, places)?;
+            return Ok(());
+        }
+        let Ok(()) = self.push(alloc, seen, i) else {
+            return Err(PlaceFault::OutOfMemory);
+        };
+        Ok(())
+    }
 }
 
-/// What is left of the shapes without those that the others have too, given which of these each may be the same as.
-pub(crate) fn rest_of(
+/// What is left of the shapes without those that the others have too, given which of these each may be the same as,
+/// and where the others' long rings are.
+fn collect_rest(
     alloc: Global,
     seen: Seen<'_>,
     others: Seen<'_>,
     twins: &[u32],
-) -> Result<Rest, AllocError>
+    places: &Places,
+) -> Result<Rest, PlaceFault>
     ensures { IfOk result (λ rest. IsRest (IsMoved seen.entry.view.now.pairs (ShapesCover seen.entry.shapes.now))
         (IsMoved others.entry.view.now.pairs (ShapesCover others.entry.shapes.now)) (RestCovers rest)) }
 {
@@ -86,10 +117,29 @@ pub(crate) fn rest_of(
     for i in 0..seen.shapes.len() {
         let twin = near.twin(others, twins, i);
         if !has_shape(others, twin, seen, i) {
-            rest.push(alloc, seen, i)?;
+            rest.push_alone(alloc, seen, i, others, places)?;
         }
     }
     Ok(rest)
+}
+
+/// What is left as [`collect_rest`] says, or None if a vertex would be outside 64 signed bits.
+pub(crate) fn rest_of(
+    alloc: Global,
+    seen: Seen<'_>,
+    others: Seen<'_>,
+    twins: &[u32],
+    places: &Places,
+) -> Result<Option<Rest>, AllocError>
+    ensures { IfOk result (λ found. IfSome found
+        (λ rest. IsRest (IsMoved seen.entry.view.now.pairs (ShapesCover seen.entry.shapes.now))
+        (IsMoved others.entry.view.now.pairs (ShapesCover others.entry.shapes.now)) (RestCovers rest))) }
+{
+    match collect_rest(alloc, seen, others, twins, places) {
+        Ok(rest) => Ok(Some(rest)),
+        Err(PlaceFault::OutOfRange) => Ok(None),
+        Err(PlaceFault::OutOfMemory) => Err(AllocError),
+    }
 }
 
 /// Appends a rectangle as a shape, if it has squares.

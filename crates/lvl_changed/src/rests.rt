@@ -12,14 +12,17 @@ ghost use Rattle.lvl_flat.specs.Flattened.{TopCovers};
 ghost use Rattle.lvl_region.specs.Region.{IsAlone};
 ghost use Rattle.lvl_view.specs.Moved.{IsMoved};
 ghost use Rattle.lvl_compare.specs.Pairs.{ours, theirs};
-ghost use Rattle.lvl_changed.specs.inside.Shapes.{CoverSame, ShapesCover};
+ghost use Rattle.lvl_changed.specs.inside.Shapes.{ShapesCover};
+ghost use Rattle.lvl_changed.specs.Changed.{DrawSameBut};
 ghost use Rattle.lvl_changed.specs.inside.Rests.{AreSameWhere, IsKnown, RestCovers};
 
+use crate::changes::Changes;
 use crate::figures::Seen;
+use crate::places::{BothPlaces, count_left, long_points, places_of};
 use crate::rectangles::{all_joined, apart, windows_round};
 use crate::rest::{Rest, cell_of, rest_of};
-use crate::singly::singles_of;
-use crate::twins::{Repeated, Twins, count_alone, have_many, twins_of};
+use crate::round::{changes_round, difference_from_below};
+use crate::twins::{Repeated, Twins, have_many, twins_of};
 use lvl_cells::{Cell, Library, Shapes, check_or_return};
 use lvl_compare::{Pair, difference_by_strips, difference_in_windows};
 use lvl_flat::Fitted;
@@ -91,23 +94,37 @@ pub(crate) fn points_of(shapes: &Shapes) -> usize {
     points
 }
 
+/// Which shapes of two tops may be the same, as shapes and as long rings at their places.
+#[derive(Drop)]
+struct Common {
+    twins: Twins,
+    places: BothPlaces,
+}
+
+/// Whether the shapes have so many points at all that it may pay to leave some out.
+fn are_many(ours: &Shapes, theirs: &Shapes) -> bool {
+    let long = long_points(ours).saturating_add(long_points(theirs));
+    let points = points_of(ours).saturating_add(points_of(theirs));
+    long >= FEWEST as u64 || points >= FEWEST
+}
+
 /// Which shapes of two tops may be the same, or None if they have few in common or few points at all.
-fn many_twins(
+fn much_in_common(
     alloc: Global,
     ours: Seen<'_>,
     theirs: Seen<'_>,
-) -> Result<Option<Twins>, AllocError> {
-    let points = points_of(ours.shapes).saturating_add(points_of(theirs.shapes));
-    if points < FEWEST || !have_many(alloc, ours, theirs)? {
+) -> Result<Option<Common>, AllocError> {
+    if !are_many(ours.shapes, theirs.shapes) || !have_many(alloc, ours, theirs)? {
         return Ok(None);
     }
     let twins = twins_of(alloc, ours, theirs, Repeated::Alone)?;
-    let all = ours.shapes.len().saturating_add(theirs.shapes.len());
-    let left = count_alone(&twins.ours).saturating_add(count_alone(&twins.theirs));
-    if left > all / 8 * 3 {
+    let places = places_of(alloc, ours, theirs)?;
+    let (all, left) = count_left(ours, &twins.ours, &places.theirs);
+    let (their_all, their_left) = count_left(theirs, &twins.theirs, &places.ours);
+    if left.saturating_add(their_left) > all.saturating_add(their_all) / 8 * 3 {
         return Ok(None);
     }
-    Ok(Some(twins))
+    Ok(Some(Common { twins, places }))
 }
 
 /// What is left of two layouts if the rectangles of each are joined, without those that both then have, but with those
@@ -154,44 +171,20 @@ fn left_of_lists(
         shapes: others,
         view: other_view,
     };
-    let Some(twins) = many_twins(alloc, ours, theirs)? else {
+    let Some(common) = much_in_common(alloc, ours, theirs)? else {
         return Ok(None);
     };
-    let rest = rest_of(alloc, ours, theirs, &twins.ours)?;
-    let their_rest = rest_of(alloc, theirs, ours, &twins.theirs)?;
+    let Common { twins, places } = common;
+    let Some(rest) = rest_of(alloc, ours, theirs, &twins.ours, &places.theirs)? else {
+        return Ok(None);
+    };
+    let Some(their_rest) = rest_of(alloc, theirs, ours, &twins.theirs, &places.ours)? else {
+        return Ok(None);
+    };
     drop(twins);
+    drop(places);
     let left = without_joined(alloc, rest, their_rest)?;
     Ok(Some(left))
-}
-
-/// The shapes as singles, if they are made, or as given.
-fn as_singles<'a>(singles: &'a Option<Shapes>, shapes: &'a Shapes) -> &'a Shapes
-    requires { IfSome singles.now (λ found. CoverSame found shapes.now) }
-    ensures { CoverSame result.now shapes.now }
-{
-    match singles {
-        Some(found) => found,
-        None => shapes,
-    }
-}
-
-/// What is left of two lists of shapes as [`left_of_lists`] says, where long rings at several places are looked for at
-/// each.
-fn left_of_both(
-    alloc: Global,
-    shapes: &Shapes,
-    view: &View,
-    others: &Shapes,
-    other_view: &View,
-) -> Result<Option<(Rest, Rest)>, AllocError>
-    ensures { IfOk result (λ found. IfSome found (λ left. AreSameWhere (IsMoved view.now.pairs (ShapesCover shapes.now))
-        (IsMoved other_view.now.pairs (ShapesCover others.now)) (RestCovers left.0) (RestCovers left.1))) }
-{
-    let singles = singles_of(alloc, shapes)?;
-    let others_singles = singles_of(alloc, others)?;
-    let ours = as_singles(&singles, shapes);
-    let theirs = as_singles(&others_singles, others);
-    left_of_lists(alloc, ours, view, theirs, other_view)
 }
 
 /// What is left of the shapes of two cells without those that both have, under the view's map of Layers. None if they
@@ -206,7 +199,7 @@ fn left_of_cells(
         (IsMoved view.now.pairs (ShapesCover theirs.now.shapes)) (RestCovers left.0) (RestCovers left.1))) }
 {
     let whole = View::whole(alloc);
-    left_of_both(alloc, &ours.shapes, &whole, &theirs.shapes, view)
+    left_of_lists(alloc, &ours.shapes, &whole, &theirs.shapes, view)
 }
 
 /// What is left of two layouts whose tops have no references, without the shapes that both have, on the Layers of the
@@ -285,6 +278,23 @@ fn most_of_rests(pair: &Pair<'_>, rest: &Fitted, their_rest: &Fitted, most: usiz
     most.saturating_sub(left_out / 4).max(most / 4)
 }
 
+/// What is known of two layouts that draw the same but for the changes, of which only these are compared.
+fn known_among(
+    alloc: Global,
+    pair: &Pair<'_>,
+    changes: Changes,
+    most: usize,
+) -> Result<Known, AllocError>
+    requires { DrawSameBut changes (ours pair.now) (theirs pair.now) }
+    ensures { IfOk result (IsKnown (IsShown pair.now.view.now.window) (ours pair.now) (theirs pair.now)) }
+{
+    let found = difference_from_below(alloc, pair, changes, most)?;
+    let Some((layer, square, side)) = found else {
+        return Ok(Known::Same);
+    };
+    Ok(Known::Differ(layer, square, side))
+}
+
 /// What is known of two layouts whose tops have no references, by what is left of them without the shapes that both
 /// have.
 pub(crate) fn known_by_rests(
@@ -303,8 +313,11 @@ pub(crate) fn known_by_rests(
     let Some((layer, square, _)) = found else {
         return Ok(Known::Same);
     };
-    match side_at(alloc, pair, layer, square, most)? {
-        Some(side) => Ok(Known::Differ(layer, square, side)),
-        None => Ok(Known::Nothing),
+    if let Some(side) = side_at(alloc, pair, layer, square, most)? {
+        return Ok(Known::Differ(layer, square, side));
     }
+    let changes = changes_round(alloc, &rest, &their_rest)?;
+    drop(rest);
+    drop(their_rest);
+    known_among(alloc, pair, changes, most)
 }

@@ -11,9 +11,9 @@ ghost use Rattle.lvl_view.specs.Views.{target_of};
 ghost use Rattle.lvl_changed.specs.inside.Areas.{AlikeOutside, Grows, IsIn};
 ghost use Rattle.lvl_changed.specs.inside.Shapes.{ShapesCover, FlatCovers, HasMoved};
 
+use crate::aligned::hold_by_shapes;
 use crate::area::Area;
 use crate::corners::between;
-use crate::edits::hold_by_shapes;
 use crate::figures::Seen;
 use crate::left::left_of;
 use crate::pays::rings_of;
@@ -62,7 +62,7 @@ fn hold_flats(area: &mut Area, alloc: Global, ours: &Flat, theirs: &Flat) -> Res
 
 /// Adds an area outside of which the shapes of cell `ours`, which are flattened, cover the same
 /// squares as those of cell `theirs` under the view's map of Layers.
-fn hold_flattened(
+pub(crate) fn hold_flattened(
     area: &mut Area,
     alloc: Global,
     ours: &Cell,

@@ -1,65 +1,21 @@
-//! Long rings at several places, as shapes of their own: so they are found in a layout that has them at the same
-//! places, but not in the same lists.
-ghost use Rattle.std.specs.Prelude.{◌≡◌, ◌<◌, ◌↔◌, ◌⊎◌, length, IsTrue, IfOk, IfSome, OnOk};
+//! Long rings at several places: what is left of them without those that others have at the same places, in whatever
+//! lists.
+ghost use Rattle.std.specs.Prelude.{◌≡◌, ◌<◌, ◌↔◌, ◌⊎◌, length, IsTrue, IfSome, OnOk};
 ghost use Rattle.lvl_grid.specs.declared.point.Square.{Square};
 ghost use Rattle.lvl_grid.specs.Winding.{Covers, IsRing, SomeCovers};
 ghost use Rattle.lvl_names.specs.declared.layer.Layer.{Layer as PlainLayer};
 ghost use Rattle.lvl_cells.specs.Cells.{shape_at};
 ghost use Rattle.lvl_cells.specs.Coverage.{moved_back, ShapeCovers};
-ghost use Rattle.lvl_changed.specs.inside.Shapes.{CoverSame, ShapesCover};
+ghost use Rattle.lvl_view.specs.Moved.{IsMoved};
+ghost use Rattle.lvl_changed.specs.inside.Rests.{AddsRest};
+ghost use Rattle.lvl_changed.specs.inside.Shapes.{put_on, ShapesCover};
 
-use crate::left::push_left;
+use crate::figures::{Seen, are_same_rings};
+use crate::places::{Form, Place, Places, is_long};
 use lvl_cells::{MovedRing, Shapes};
 use lvl_grid::{PlaceFault, Point};
 use lvl_names::{Layer, Offsets};
-use std::alloc::{AllocError, Global};
-
-/// A ring of at least so many points is long.
-const LONG: usize = 1_024;
-
-/// The greatest number of places of long rings that are made shapes, and of shapes beside them: each takes 40 bytes.
-const MOST_PLACES: u64 = 65_536;
-
-/// The greatest number of points of these rings at all places.
-const MOST_POINTS: u64 = 134_217_728;
-
-/// Whether shape `i` is a long ring at several places.
-fn is_repeated(shapes: &Shapes, i: usize) -> bool
-    requires { i < length shapes.now }
-    ensures { IsTrue result → length (shape_at shapes.now i).figure ≡ 1 }
-{
-    if shapes.ring_count(i) != 1 {
-        return false;
-    }
-    shapes.shift_count(i) > 1 && shapes.ring(i, 0).len() >= LONG
-}
-
-/// Whether there are long rings at several places, and not too many.
-fn pays(shapes: &Shapes) -> bool {
-    if shapes.len() as u64 > MOST_PLACES {
-        return false;
-    }
-    let mut places: u64 = 0;
-    let mut points: u64 = 0;
-    for i in 0..shapes.len() {
-        if is_repeated(shapes, i) {
-            let count = shapes.shift_count(i);
-            places = places.saturating_add(count);
-            points = points.saturating_add(count.saturating_mul(points_of(shapes, i)));
-        }
-    }
-    0 < places && places <= MOST_PLACES && points <= MOST_POINTS
-}
-
-/// The number of points of the first ring of shape `i`, or 0 if it has none.
-fn points_of(shapes: &Shapes, i: usize) -> u64
-    requires { i < length shapes.now }
-{
-    if shapes.ring_count(i) == 0 {
-        return 0;
-    }
-    shapes.ring(i, 0).len() as u64
-}
+use std::alloc::Global;
 
 /// Appends a ring, moved by a shift, as a shape.
 pub(crate) fn push_at(
@@ -85,65 +41,87 @@ pub(crate) fn push_at(
     Ok(())
 }
 
-/// Appends the ring of shape `i` at each of its places as a shape.
-fn push_each(
-    alloc: Global,
-    singles: &mut Shapes,
-    shapes: &Shapes,
-    i: usize,
-) -> Result<(), PlaceFault>
-    requires within { i < length shapes.now }
-    requires one { length (shape_at shapes.now i).figure ≡ 1 }
-    ensures { OnOk result ((layer : PlainLayer) (s : Square) → ShapesCover singles.new layer s
-        ↔ (ShapesCover singles.old layer s ⊎ ShapeCovers SomeCovers layer s (shape_at shapes.now i))) }
+/// The long ring that is at a place, with the Layer as which it counts, or None if there is none.
+fn long_ring_at<'a>(others: Seen<'a>, place: Place) -> Option<(Layer, MovedRing<'a>)>
+    ensures { IfSome result (λ at. (s : Square) → Covers at.1 s
+        → IsMoved others.entry.view.now.pairs (ShapesCover others.entry.shapes.now) at.0 s) }
 {
-    let on = shapes.layer(i);
-    let ring = shapes.ring(i, 0);
-    for k in 0..shapes.shift_count(i) {
-        let Some(shift) = shapes.shift(i, k) else {
-            unreachable!()
-        };
-        push_at(alloc, singles, on, &ring, shift)?;
+    let Place { shape, shift } = place;
+    if shape >= others.shapes.len() || !is_long(others.shapes, shape) {
+        return None;
     }
-    Ok(())
+    let by = others.shapes.shift(shape, shift)?;
+    let ring = others.shapes.ring(shape, 0).moved_on(by)?;
+    let layer = others.view.target(others.shapes.layer(shape));
+    Some((layer, ring))
 }
 
-/// Appends shape `i`, as [`push_each`] does if it is a long ring at several places.
-fn push_singly(
-    alloc: Global,
-    singles: &mut Shapes,
-    shapes: &Shapes,
-    i: usize,
-) -> Result<(), PlaceFault>
-    requires { i < length shapes.now }
-    ensures { OnOk result ((layer : PlainLayer) (s : Square) → ShapesCover singles.new layer s
-        ↔ (ShapesCover singles.old layer s ⊎ ShapeCovers SomeCovers layer s (shape_at shapes.now i))) }
+/// Whether the long ring of the others at a place is this one, on this Layer.
+fn has_ring(others: Seen<'_>, place: Option<Place>, layer: Layer, ring: &MovedRing<'_>) -> bool
+    ensures { IsTrue result → (s : Square) → Covers ring.now s
+        → IsMoved others.entry.view.now.pairs (ShapesCover others.entry.shapes.now) layer s }
 {
-    if is_repeated(shapes, i) {
-        push_each(alloc, singles, shapes, i)?;
+    let Some(place) = place else {
+        return false;
+    };
+    let Some((on, there)) = long_ring_at(others, place) else {
+        return false;
+    };
+    if on.layer != layer.layer || on.datatype != layer.datatype {
+        return false;
+    }
+    are_same_rings(ring, &there)
+}
+
+/// Appends a ring, moved by a shift, as a shape, unless the others have it at the place where it may be.
+fn push_unless_there(
+    alloc: Global,
+    left: &mut Shapes,
+    on: Layer,
+    ring: &MovedRing<'_>,
+    shift: Point,
+    others: Seen<'_>,
+    place: Option<Place>,
+) -> Result<(), PlaceFault>
+    requires { IsRing ring.now }
+    ensures { OnOk result (AddsRest (IsMoved others.entry.view.now.pairs (ShapesCover others.entry.shapes.now))
+        (λ layer s. (on ≡ layer) × Covers ring.now (moved_back shift s)) (ShapesCover left.old) (ShapesCover left.new)) }
+{
+    let Some(moved) = ring.moved_on(shift) else {
+        return Err(PlaceFault::OutOfRange);
+    };
+    if has_ring(others, place, on, &moved) {
         return Ok(());
     }
-    let Ok(()) = push_left(alloc, singles, shapes, i) else {
-        return Err(PlaceFault::OutOfMemory);
-    };
+    push_at(alloc, left, on, ring, shift)?;
     Ok(())
 }
 
-/// The shapes, of which long rings at several places are shapes of their own at each. None if there are no such rings
-/// or too many, or if a vertex would be outside 64 signed bits.
-pub(crate) fn singles_of(alloc: Global, shapes: &Shapes) -> Result<Option<Shapes>, AllocError>
-    ensures { IfOk result (λ found. IfSome found (λ singles. CoverSame singles shapes.now)) }
+/// Appends the long ring of shape `i` to those on a Layer, at each of its places at which the others don't have it, as
+/// a shape.
+pub(crate) fn push_places(
+    alloc: Global,
+    left: &mut Shapes,
+    on: Layer,
+    seen: Seen<'_>,
+    i: usize,
+    others: Seen<'_>,
+    places: &Places,
+) -> Result<(), PlaceFault>
+    requires within { i < length seen.shapes.now }
+    requires one { length (shape_at seen.shapes.now i).figure ≡ 1 }
+    ensures { OnOk result (AddsRest (IsMoved others.entry.view.now.pairs (ShapesCover others.entry.shapes.now))
+        (λ layer s. ShapeCovers SomeCovers layer s (put_on on (shape_at seen.entry.shapes.now i)))
+        (ShapesCover left.old) (ShapesCover left.new)) }
 {
-    if !pays(shapes) {
-        return Ok(None);
+    let form = Form::of(seen, i);
+    let ring = seen.shapes.ring(i, 0);
+    for k in 0..seen.shapes.shift_count(i) {
+        let Some(shift) = seen.shapes.shift(i, k) else {
+            unreachable!()
+        };
+        let place = places.find(&form, shift);
+        push_unless_there(alloc, left, on, &ring, shift, others, place)?;
     }
-    let mut singles = Shapes::new(alloc);
-    for i in 0..shapes.len() {
-        match push_singly(alloc, &mut singles, shapes, i) {
-            Ok(()) => {}
-            Err(PlaceFault::OutOfRange) => return Ok(None),
-            Err(PlaceFault::OutOfMemory) => return Err(AllocError),
-        }
-    }
-    Ok(Some(singles))
+    Ok(())
 }

@@ -63,7 +63,7 @@ fn word(index: usize) -> u32 {
 }
 
 /// The twin of the shape at an index, if it has one.
-fn twin_at(twins: &[u32], index: usize) -> Option<usize> {
+pub(crate) fn twin_at(twins: &[u32], index: usize) -> Option<usize> {
     match at(twins, index) {
         NONE => None,
         twin => Some(twin as usize),
@@ -320,9 +320,4 @@ pub(crate) fn have_many(
     let keys = sampled_keys(alloc, ours)?;
     let found = found_keys(alloc, theirs, &keys)?;
     Ok(found.saturating_mul(2) as u64 >= SAMPLED)
-}
-
-/// How many shapes of a list have no twin.
-pub(crate) fn count_alone(twins: &[u32]) -> usize {
-    twins.iter().filter(|twin| **twin == NONE).count()
 }

@@ -16,5 +16,5 @@ abbrev pub OnceCovers : Layer → Square → PlainShape Rings → Type 0
 OnceCovers layer s h = (h.layer ≡ layer) × SomeCovers h.figure s
 
 -- the shapes of the first list cover what the figures of the others do, unmoved
-abbrev pub AreOnce : List (PlainShape Rings) → List (PlainShape Rings) → Type 0
-AreOnce once shapes = (layer : Layer) (s : Square) → ShapesCover once layer s ↔ Any (OnceCovers layer s) shapes
+abbrev pub CoverOnce : List (PlainShape Rings) → List (PlainShape Rings) → Type 0
+CoverOnce once shapes = (layer : Layer) (s : Square) → ShapesCover once layer s ↔ Any (OnceCovers layer s) shapes

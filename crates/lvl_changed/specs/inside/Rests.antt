@@ -18,6 +18,12 @@ pub record IsRest (a b x : Draws) : Type 0 where
   pub inside : (layer : Layer) (s : Square) → x layer s → a layer s
   pub held : (layer : Layer) (s : Square) → a layer s → x layer s ⊎ b layer s
 
+-- x grew to y by a part of h, at least by all of it that b doesn't cover
+pub record AddsRest (b h x y : Draws) : Type 0 where
+  pub kept : (layer : Layer) (s : Square) → x layer s → y layer s
+  pub inside : (layer : Layer) (s : Square) → y layer s → x layer s ⊎ h layer s
+  pub held : (layer : Layer) (s : Square) → h layer s → y layer s ⊎ b layer s
+
 -- a and b draw the same wherever x and y do, which are what is left of them
 abbrev pub AreSameWhere : Draws → Draws → Draws → Draws → Type 0
 AreSameWhere a b x y = (layer : Layer) (s : Square) → x layer s ↔ y layer s → a layer s ↔ b layer s

@@ -13,7 +13,7 @@ use Rattle.lvl_changed.proofs.edits.hold_edit.Goals as goal
 pub returns-then-are_same_rings-clause-held : goal.returns-then-are_same_rings-clause-held
 returns-then-are_same_rings-clause-held c = λ t.
     let h : PlainShape Rings = shape_at c.args.ours.now c.args.i in
-    let g : PlainShape Rings = shape_at c.args.theirs.now c.args.i in
+    let g : PlainShape Rings = shape_at c.args.theirs.now c.args.j in
     let both : HaveOneRing c.args.view.now.pairs h g = c.if-not-have_one_ring.ensures refl in
     let xs : List Point = c.ring-first.result in
     let ys : List Point = c.ring-second.result in
@@ -25,7 +25,7 @@ returns-then-are_same_rings-clause-held c = λ t.
 pub returns-clause-held : goal.returns-clause-held
 returns-clause-held c =
     let h : PlainShape Rings = shape_at c.args.ours.now c.args.i in
-    let g : PlainShape Rings = shape_at c.args.theirs.now c.args.i in
+    let g : PlainShape Rings = shape_at c.args.theirs.now c.args.j in
     let both : HaveOneRing c.args.view.now.pairs h g = c.if-not-have_one_ring.ensures refl in
     let xs : List Point = c.ring-first.result in
     let ys : List Point = c.ring-second.result in

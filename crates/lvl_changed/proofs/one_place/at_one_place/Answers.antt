@@ -1,7 +1,7 @@
 use Rattle.std.proofs.Common.{◌<◌, List, length, subst, arith}
 use Rattle.std.proofs.lemmas.List.{take_all}
 use Rattle.lvl_cells.specs.Cells.{PlainShape, Rings}
-use Rattle.lvl_changed.specs.inside.OnePlace.{AreOnce, OnceCovers}
+use Rattle.lvl_changed.specs.inside.OnePlace.{CoverOnce, OnceCovers}
 use Rattle.lvl_changed.proofs.Singles.{shape_more}
 use Rattle.lvl_changed.proofs.one_place.at_one_place.Goals as goal
 
@@ -14,6 +14,6 @@ loop-i-preserved c = λ l s.
 
 pub returns : goal.returns
 returns c =
-    subst (AreOnce c.loop-i.once)
+    subst (CoverOnce c.loop-i.once)
     (take_all c.loop-i.i c.args.shapes.now (omega (arith, c.loop-i-test.false, c.len-i-end.ensures)))
     c.loop-i.invariant

@@ -6,7 +6,7 @@ use Rattle.lvl_view.specs.Moved.{IsMoved}
 use Rattle.lvl_compare.specs.Pairs.{ours, theirs}
 use Rattle.lvl_compare.specs.Tops.{Draws}
 use Rattle.lvl_compare.specs.declared.pair.Pair.{Pair}
-use Rattle.lvl_changed.proofs.Resting.{all_shown, differ_where, same_where, unmoved_where}
+use Rattle.lvl_changed.proofs.Resting.{all_shown, differ_where, rest_within, same_where, unmoved_where}
 use Rattle.lvl_changed.proofs.rests.known_by_rests.Goals as goal
 
 pub returns-in_default-found : goal.returns-in_default-found
@@ -34,3 +34,10 @@ returns-in-Some-2 c =
     (all_shown c.whole-whole.result.window c.whole-whole.ensures.no_window)
     (unmoved_where none (ours p) (theirs p) (TopCovers c.in-Some.rest) y c.whole-whole.ensures.no_pairs where_same)
     first seen alone
+
+pub known_among-requires : goal.known_among-requires
+known_among-requires c =
+    let p : Pair = c.args.pair.now in
+    let where_same = rw c.in-Some.is at c.in_ok-rest.ensures in
+    rest_within c.in_ok-changes.changes (ours p) (theirs p) (TopCovers c.in-Some.rest) (TopCovers c.in-Some.their_rest)
+    where_same c.in_ok-changes.ensures.ours c.in_ok-changes.ensures.theirs

@@ -6,7 +6,9 @@ use Rattle.lvl_changed.proofs.rests.left_of_lists.Goals as goal
 
 pub returns : goal.returns
 returns c =
+    let rest = rw c.in-Some-2.is at c.in_ok-rest.ensures in
+    let other = rw c.in-Some-3.is at c.in_ok-their_rest.ensures in
     rests_where (IsMoved c.args.view.now.pairs (ShapesCover c.args.shapes.now))
-    (IsMoved c.args.other_view.now.pairs (ShapesCover c.args.others.now)) (RestCovers c.in_ok-rest.rest)
-    (RestCovers c.in_ok-their_rest.their_rest) (RestCovers c.in_ok-left.left.0) (RestCovers c.in_ok-left.left.1)
-    c.in_ok-rest.ensures c.in_ok-their_rest.ensures c.in_ok-left.ensures
+    (IsMoved c.args.other_view.now.pairs (ShapesCover c.args.others.now)) (RestCovers c.in-Some-2.rest)
+    (RestCovers c.in-Some-3.their_rest) (RestCovers c.in_ok-left.left.0) (RestCovers c.in_ok-left.left.1) rest other
+    c.in_ok-left.ensures
