@@ -321,6 +321,9 @@ def many_places():
                one(many(ring, 1_000)), one(many(edited(7), 1_000), far))
     yield case("the polygon at 1,000 places, each cut in two, with a square far away", 3_001,
                one(many(ring, 1_000)), one(*(many(half, 1_000) for half in halves), far))
+    bitten = polygon([*tooth, *comb(8_190), signed(7), signed(1), signed(-6), signed(1)], 1, at=(16_382, 0))
+    yield case("the polygon at 1,000 places, each cut in two, of which one is edited", 3_000,
+               one(many(ring, 1_000)), one(*(many(half, 1_000) for half in (halves[0], bitten))))
     yield case("the polygon at 1,000 places, and at 500 of them and in halves at all", 3_500,
                one(many(ring, 1_000)), one(many(ring, 500), *(many(half, 1_000) for half in halves)))
 

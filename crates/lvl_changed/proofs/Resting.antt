@@ -141,10 +141,10 @@ seen_alike {u = u} {y = y} P a b p = subst (λ k. P u k) b (subst (λ k. P k y) 
 
 -- what is left is within changes, so both layouts draw the same but for these
 pub rest_within : (changes : Changes) (a b x y : Draws) → AreSameWhere a b x y
-    → ((l : Layer) (s : Square) → x l s → IsChange changes l s)
-    → ((l : Layer) (s : Square) → y l s → IsChange changes l s) → DrawSameBut changes a b
+    → ((l : Layer) (s : Square) → (¬ IsChange changes l s) → ¬ x l s)
+    → ((l : Layer) (s : Square) → (¬ IsChange changes l s) → ¬ y l s) → DrawSameBut changes a b
 rest_within changes a b x y whole mine their l s out =
-    whole l s (λ h. absurd (out (mine l s h)), λ h. absurd (out (their l s h)))
+    whole l s (λ h. absurd (mine l s out h), λ h. absurd (their l s out h))
 
 -- without pairs what is left may count as moved
 pub unmoved_where : (none : List LayerPair) (a b x y : Draws) → none ≡ [] → AreSameWhere a b x y

@@ -28,8 +28,8 @@ const FEWEST_PLACES: u64 = 16;
 /// The least number of points of its ring at all of its places.
 const MANY_POINTS: u64 = 65_536;
 
-/// How many shapes of both lists were looked at, which of them are left, to be compared by themselves, and how many more
-/// may be.
+/// How many shapes of both lists were looked at, which of them are left, to be compared by themselves, and how many
+/// more may be.
 #[derive(Drop)]
 pub(crate) struct Heads {
     pub ours: usize,

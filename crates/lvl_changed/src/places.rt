@@ -6,7 +6,7 @@ ghost use Rattle.lvl_cells.specs.Cells.{shape_at};
 
 use crate::figures::{Seen, mixed};
 use crate::table::Table;
-use crate::twins::twin_at;
+use crate::twins::{Twins, count_alone, twin_at};
 use lvl_cells::{MovedRing, Shapes};
 use lvl_grid::Point;
 use lvl_names::Layer;
@@ -16,7 +16,7 @@ use std::hash::{FoldHasher, Hasher};
 /// A ring of at least so many points is long.
 const LONG: usize = 1_024;
 
-/// The greatest number of places of long rings that are looked for.
+/// The greatest number of places of long rings that are looked for, and of shapes among which they are.
 const MOST_PLACES: u64 = 65_536;
 
 /// The greatest number of points of these rings at all places.
@@ -36,11 +36,12 @@ pub(crate) struct Places {
     list: Vec<Place>,
 }
 
-/// The places of the long rings of two lists.
+/// The places of the long rings of two lists, if it pays to look for them.
 #[derive(Drop)]
 pub(crate) struct BothPlaces {
     pub ours: Places,
     pub theirs: Places,
+    pays: bool,
 }
 
 /// What a long ring has in common with the same ring elsewhere, and where it is.
@@ -125,8 +126,16 @@ fn count_long(shapes: &Shapes) -> (u64, u64) {
     (places, points)
 }
 
-/// The number of points of long rings at all of their places.
+/// Whether there are so many shapes that long rings aren't looked for: to look at each takes time.
+fn are_many(shapes: &Shapes) -> bool {
+    shapes.len() as u64 > MOST_PLACES
+}
+
+/// The number of points of long rings at all of their places, or 0 if there are many shapes.
 pub(crate) fn long_points(shapes: &Shapes) -> u64 {
+    if are_many(shapes) {
+        return 0;
+    }
     count_long(shapes).1
 }
 
@@ -149,6 +158,9 @@ fn has_repeated(shapes: &Shapes) -> bool {
 /// Whether it pays to look for long rings at each of their places: not if all have one place, since they are then found
 /// as shapes.
 fn pays(ours: &Shapes, theirs: &Shapes) -> bool {
+    if are_many(ours) || are_many(theirs) {
+        return false;
+    }
     if !has_repeated(ours) && !has_repeated(theirs) {
         return false;
     }
@@ -227,12 +239,13 @@ pub(crate) fn places_of(
     ours: Seen<'_>,
     theirs: Seen<'_>,
 ) -> Result<BothPlaces, AllocError> {
-    if !pays(ours.shapes, theirs.shapes) {
+    let pays = pays(ours.shapes, theirs.shapes);
+    if !pays {
         let (ours, theirs) = (Places::none(alloc)?, Places::none(alloc)?);
-        return Ok(BothPlaces { ours, theirs });
+        return Ok(BothPlaces { ours, theirs, pays });
     }
     let (ours, theirs) = (Places::of(alloc, ours)?, Places::of(alloc, theirs)?);
-    Ok(BothPlaces { ours, theirs })
+    Ok(BothPlaces { ours, theirs, pays })
 }
 
 /// The number of shapes as which shape `i` counts: a long ring as one at each of its places.
@@ -259,7 +272,7 @@ fn left_of(seen: Seen<'_>, i: usize, is_twin: bool, others: &Places) -> usize
 }
 
 /// As how many shapes those of a list count, and how many of these are neither twins of others nor at places of theirs.
-pub(crate) fn count_left(seen: Seen<'_>, twins: &[u32], others: &Places) -> (usize, usize) {
+fn count_left(seen: Seen<'_>, twins: &[u32], others: &Places) -> (usize, usize) {
     let mut all: usize = 0;
     let mut left: usize = 0;
     for i in 0..seen.shapes.len() {
@@ -268,4 +281,26 @@ pub(crate) fn count_left(seen: Seen<'_>, twins: &[u32], others: &Places) -> (usi
         left = left.saturating_add(left_of(seen, i, is_twin, others));
     }
     (all, left)
+}
+
+impl BothPlaces {
+    /// As how many shapes those of both lists count, and how many of these only one of them has.
+    pub(crate) fn count_left(
+        &self,
+        ours: Seen<'_>,
+        theirs: Seen<'_>,
+        twins: &Twins,
+    ) -> (usize, usize) {
+        if !self.pays {
+            let all = ours.shapes.len().saturating_add(theirs.shapes.len());
+            let left = count_alone(&twins.ours).saturating_add(count_alone(&twins.theirs));
+            return (all, left);
+        }
+        let (all, left) = count_left(ours, &twins.ours, &self.theirs);
+        let (their_all, their_left) = count_left(theirs, &twins.theirs, &self.ours);
+        (
+            all.saturating_add(their_all),
+            left.saturating_add(their_left),
+        )
+    }
 }

@@ -18,7 +18,7 @@ ghost use Rattle.lvl_changed.specs.inside.Rests.{AreSameWhere, IsKnown, RestCove
 
 use crate::changes::Changes;
 use crate::figures::Seen;
-use crate::places::{BothPlaces, count_left, long_points, places_of};
+use crate::places::{BothPlaces, long_points, places_of};
 use crate::rectangles::{all_joined, apart, windows_round};
 use crate::rest::{Rest, cell_of, rest_of};
 use crate::round::{changes_round, difference_from_below};
@@ -119,9 +119,8 @@ fn much_in_common(
     }
     let twins = twins_of(alloc, ours, theirs, Repeated::Alone)?;
     let places = places_of(alloc, ours, theirs)?;
-    let (all, left) = count_left(ours, &twins.ours, &places.theirs);
-    let (their_all, their_left) = count_left(theirs, &twins.theirs, &places.ours);
-    if left.saturating_add(their_left) > all.saturating_add(their_all) / 8 * 3 {
+    let (all, left) = places.count_left(ours, theirs, &twins);
+    if left > all / 8 * 3 {
         return Ok(None);
     }
     Ok(Some(Common { twins, places }))
@@ -316,7 +315,9 @@ pub(crate) fn known_by_rests(
     if let Some(side) = side_at(alloc, pair, layer, square, most)? {
         return Ok(Known::Differ(layer, square, side));
     }
-    let changes = changes_round(alloc, &rest, &their_rest)?;
+    let Some(changes) = changes_round(alloc, &rest, &their_rest)? else {
+        return Ok(Known::Nothing);
+    };
     drop(rest);
     drop(their_rest);
     known_among(alloc, pair, changes, most)

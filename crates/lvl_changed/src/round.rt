@@ -1,4 +1,4 @@
-//! Windows that are searched from their lowest rows up, and the window round what is left of two layouts.
+//! Windows that are searched from their lowest rows up, and windows round what is left of two layouts.
 ghost use Rattle.std.specs.Prelude.{◌⊎◌, IfNone, IfOk, IfSome, OnOk};
 ghost use Rattle.lvl_grid.specs.declared.point.Square.{Square as GridSquare};
 ghost use Rattle.lvl_grid.specs.Clip.{IsInWindow};
@@ -10,13 +10,16 @@ ghost use Rattle.lvl_compare.specs.Parts.{SomeHas};
 ghost use Rattle.lvl_compare.specs.Tops.{DrawSame, IsFirstDifference};
 ghost use Rattle.lvl_changed.specs.Changed.{DrawSameBut, IsChange};
 
+use crate::area::Area;
 use crate::changes::{Changes, difference_among};
 use crate::rests::top_of;
+use crate::shapes::hold_extents;
 use lvl_compare::Pair;
 use lvl_flat::Fitted;
 use lvl_grid::{Square, Window};
 use lvl_names::Layer;
 use lvl_region::Side;
+use lvl_view::View;
 use std::alloc::{AllocError, Global};
 
 /// The greatest number of windows that are searched from their lowest rows up.
@@ -125,36 +128,25 @@ pub(crate) fn difference_from_below(
     difference_among(alloc, pair, &rows, most)
 }
 
-/// A window that has the squares of both, which is one of them if the other has none.
-fn around(first: Window, second: Window) -> Window
-    ensures first { (s : GridSquare) → IsInWindow first s → IsInWindow result s }
-    ensures second { (s : GridSquare) → IsInWindow second s → IsInWindow result s }
-{
-    if first.y1 <= first.y0 {
-        return second;
-    }
-    if second.y1 <= second.y0 {
-        return first;
-    }
-    first.joined(second)
-}
-
-/// A window that has all squares that two layouts draw, on any Layer.
+/// Windows round all that two layouts draw, on the Layers on which they draw. None if one of the tops has references.
 pub(crate) fn changes_round(
     alloc: Global,
     rest: &Fitted,
     their_rest: &Fitted,
-) -> Result<Changes, AllocError>
-    ensures ours { IfOk result (λ changes. (layer : PlainLayer) (s : GridSquare)
-        → TopCovers rest.now layer s → IsChange changes layer s) }
-    ensures theirs { IfOk result (λ changes. (layer : PlainLayer) (s : GridSquare)
-        → TopCovers their_rest.now layer s → IsChange changes layer s) }
+) -> Result<Option<Changes>, AllocError>
+    ensures ours { IfOk result (λ found. IfSome found (λ changes. (layer : PlainLayer) (s : GridSquare)
+        → ¬ IsChange changes layer s → ¬ TopCovers rest.now layer s)) }
+    ensures theirs { IfOk result (λ found. IfSome found (λ changes. (layer : PlainLayer) (s : GridSquare)
+        → ¬ IsChange changes layer s → ¬ TopCovers their_rest.now layer s)) }
 {
-    let window = around(rest.extent(), their_rest.extent());
-    let mut windows = Vec::with_capacity(alloc, 1)?;
-    windows.push_reserved(window);
-    Ok(Changes {
-        windows,
-        layers: None,
-    })
+    let (first, second) = (top_of(rest), top_of(their_rest));
+    if !first.references.is_empty() || !second.references.is_empty() {
+        return Ok(None);
+    }
+    let whole = View::whole(alloc);
+    let mut area = Area::none(alloc, FEW_WINDOWS / 2);
+    hold_extents(&mut area, &first.shapes, &whole)?;
+    hold_extents(&mut area, &second.shapes, &whole)?;
+    let changes = area.into_changes();
+    Ok(changes)
 }

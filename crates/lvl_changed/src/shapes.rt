@@ -132,7 +132,7 @@ fn hold_shape(area: &mut Area, shapes: &Shapes, i: usize, view: &View) -> Result
 }
 
 /// Adds all squares that the shapes cover, on their Layers as the view maps them.
-fn hold_extents(area: &mut Area, shapes: &Shapes, view: &View) -> Result<(), AllocError>
+pub(crate) fn hold_extents(area: &mut Area, shapes: &Shapes, view: &View) -> Result<(), AllocError>
     ensures held { OnOk result ((layer : PlainLayer) (s : Square)
         → (¬ IsIn area.new (target_of view.now.pairs layer) s) → ¬ ShapesCover shapes.now layer s) }
     ensures kept { OnOk result (Grows area.old area.new) }

@@ -321,3 +321,8 @@ pub(crate) fn have_many(
     let found = found_keys(alloc, theirs, &keys)?;
     Ok(found.saturating_mul(2) as u64 >= SAMPLED)
 }
+
+/// How many shapes of a list have no twin.
+pub(crate) fn count_alone(twins: &[u32]) -> usize {
+    twins.iter().filter(|twin| **twin == NONE).count()
+}

@@ -39,5 +39,7 @@ pub known_among-requires : goal.known_among-requires
 known_among-requires c =
     let p : Pair = c.args.pair.now in
     let where_same = rw c.in-Some.is at c.in_ok-rest.ensures in
-    rest_within c.in_ok-changes.changes (ours p) (theirs p) (TopCovers c.in-Some.rest) (TopCovers c.in-Some.their_rest)
-    where_same c.in_ok-changes.ensures.ours c.in_ok-changes.ensures.theirs
+    let mine = rw c.in-Some-3.is at c.in_ok-changes.ensures.ours in
+    let their = rw c.in-Some-3.is at c.in_ok-changes.ensures.theirs in
+    rest_within c.in-Some-3.changes (ours p) (theirs p) (TopCovers c.in-Some.rest) (TopCovers c.in-Some.their_rest)
+    where_same mine their

@@ -1,17 +1,45 @@
-use Rattle.std.proofs.Common.{List, inr}
-use Rattle.lvl_grid.specs.declared.point.Window.{Window}
-use Rattle.lvl_grid.specs.Clip.{IsInWindow}
-use Rattle.lvl_grid.proofs.Anyone.{Any-push}
+use Rattle.std.proofs.Common.{◌≡◌, [], List, ap, sym, ◌∙◌, subst}
+use Rattle.lvl_grid.specs.declared.point.Square.{Square}
+use Rattle.lvl_names.specs.declared.layer.Layer.{Layer}
+use Rattle.lvl_cells.specs.Cells.{PlainCell, PlainShape, Rings}
+use Rattle.lvl_view.specs.declared.map.LayerPair.{LayerPair}
+use Rattle.lvl_view.specs.Views.{target_of}
+use Rattle.lvl_changed.specs.declared.area.Area.{Area}
+use Rattle.lvl_changed.specs.inside.Areas.{IsIn}
+use Rattle.lvl_changed.specs.inside.Shapes.{ShapesCover}
+use Rattle.lvl_changed.proofs.Growing.{grows_itself}
+use Rattle.lvl_changed.proofs.Rounding.{changes_have, outside_round}
 use Rattle.lvl_changed.proofs.round.changes_round.Goals as goal
 
+-- the shapes cover nothing outside of the area
+abbrev Misses : Area → List LayerPair → List (PlainShape Rings) → Type 0
+Misses w pairs hs = (l : Layer) (s : Square) → (¬ IsIn w (target_of pairs l) s) → ¬ ShapesCover hs l s
+
 pub returns-clause-ours : goal.returns-clause-ours
-returns-clause-ours c = λ l s h.
-    let ws : List Window = c.in_ok-windows.windows.items in
-    let has : IsInWindow c.around-window.result s = c.around-window.ensures.first s (c.extent.ensures l s h) in
-    (tt, rw c.push_reserved.ensures.items ((Any-push (λ w. IsInWindow w s) ws c.around-window.result).1 (inr has)))
+returns-clause-ours c =
+    let cell : PlainCell Rings = c.top_of-first.result.now in
+    let none : List LayerPair = c.whole-whole.result.pairs in
+    let old : Area = c.hold_extents.new.area in
+    let new : Area = c.hold_extents-2.new.area in
+    let alone : cell.references ≡ [] =
+    sym (ap (λ (b : PlainCell Rings). b.references) c.first.view_is) ∙ c.is_empty.ensures.0 c.if-not-is_empty.false in
+    let held : Misses old none cell.shapes =
+    subst (Misses old none) (ap (λ (b : PlainCell Rings). b.shapes) c.first.view_is) c.in_ok-hold_extents.ensures.held in
+    changes_have c.args.rest.now cell new c.into_changes-changes.result c.top_of-first.ensures alone
+    (outside_round none cell.shapes old new c.whole-whole.ensures.no_pairs c.in_ok-hold_extents-2.ensures.kept held)
+    c.into_changes-changes.ensures
 
 pub returns-clause-theirs : goal.returns-clause-theirs
-returns-clause-theirs c = λ l s h.
-    let ws : List Window = c.in_ok-windows.windows.items in
-    let has : IsInWindow c.around-window.result s = c.around-window.ensures.second s (c.extent-2.ensures l s h) in
-    (tt, rw c.push_reserved.ensures.items ((Any-push (λ w. IsInWindow w s) ws c.around-window.result).1 (inr has)))
+returns-clause-theirs c =
+    let cell : PlainCell Rings = c.top_of-second.result.now in
+    let none : List LayerPair = c.whole-whole.result.pairs in
+    let new : Area = c.hold_extents-2.new.area in
+    let alone : cell.references ≡ [] =
+    sym (ap (λ (b : PlainCell Rings). b.references) c.second.view_is)
+    ∙ c.is_empty-else-not-is_empty.ensures.0 c.if-not-is_empty-2.false in
+    let held : Misses new none cell.shapes =
+    subst (Misses new none) (ap (λ (b : PlainCell Rings). b.shapes) c.second.view_is)
+    c.in_ok-hold_extents-2.ensures.held in
+    changes_have c.args.their_rest.now cell new c.into_changes-changes.result c.top_of-second.ensures alone
+    (outside_round none cell.shapes new new c.whole-whole.ensures.no_pairs (grows_itself new) held)
+    c.into_changes-changes.ensures
