@@ -1,4 +1,4 @@
-//! Which windows are best joined. Nothing that is found depends on it, so these functions have no contracts.
+//! Which windows are near one another. Nothing that is found depends on it, so these functions have no contracts.
 
 use lvl_grid::Window;
 
@@ -22,4 +22,24 @@ pub(crate) fn cost_of_joining(first: Window, second: Window) -> u128 {
     let both = area(first).saturating_add(area(second));
     let joined = area(first.joined(second));
     joined.saturating_sub(both).saturating_add(joined / PART)
+}
+
+/// Whether the windows are spread more along x than along y.
+pub(crate) fn spread_across(windows: &[Window]) -> bool {
+    let Some(first) = windows.first() else {
+        return false;
+    };
+    let mut hull = *first;
+    for window in windows {
+        hull = hull.joined(*window);
+    }
+    hull.x0.abs_diff(hull.x1) > hull.y0.abs_diff(hull.y1)
+}
+
+/// Where a window begins, first along the axis on which windows are spread more.
+pub(crate) fn along(window: &Window, across: bool) -> (i64, i64) {
+    if across {
+        return (window.x0, window.y0);
+    }
+    (window.y0, window.x0)
 }

@@ -13,7 +13,7 @@ ghost use Rattle.lvl_changed.specs.inside.Placements.{PlacedCover};
 ghost use Rattle.lvl_changed.specs.inside.Windows.{Has, HasPlaced, Widens};
 
 use crate::arrays::Array;
-use crate::closeness::{cost_of_joining, meet};
+use crate::closeness::{along, cost_of_joining, meet, spread_across};
 use crate::corners::{between, high_corner, low_corner, spot};
 use crate::shifts::moved;
 use lvl_flat::Fitted;
@@ -82,8 +82,8 @@ impl Windows {
         !self.anywhere && self.list.is_empty()
     }
 
-    /// At most `most` windows, and at least one, unless the set has no squares; those with the least
-    /// `y` first. None if it is the whole grid.
+    /// At most `most` windows, and at least one, unless the set has no squares, in the order of the axis on
+    /// which they spread most. None if it is the whole grid.
     pub(crate) fn into_list(self) -> Option<Vec<Window>>
         ensures { IfSome result (λ list. (s : Square) → Has self s → SomeHas list.items s) }
     {
@@ -93,9 +93,10 @@ impl Windows {
         if reduced.anywhere {
             return None;
         }
+        let across = spread_across(&reduced.list);
         reduced
             .list
-            .sort_unstable_by_key(|window| (window.y0, window.x0));
+            .sort_unstable_by_key(|window| along(window, across));
         Some(reduced.list)
     }
 
