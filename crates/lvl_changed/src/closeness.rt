@@ -6,6 +6,14 @@ use lvl_grid::Window;
 /// squares the small ones are joined, and not all with the same one.
 const PART: u128 = 64;
 
+/// No squares.
+const NOWHERE: Window = Window {
+    x0: 0,
+    y0: 0,
+    x1: 0,
+    y1: 0,
+};
+
 /// Whether the windows share a square.
 pub(crate) fn meet(first: Window, second: Window) -> bool {
     let across = first.x0 < second.x1 && second.x0 < first.x1;
@@ -24,15 +32,27 @@ pub(crate) fn cost_of_joining(first: Window, second: Window) -> u128 {
     joined.saturating_sub(both).saturating_add(joined / PART)
 }
 
-/// Whether the windows are spread more along x than along y.
-pub(crate) fn spread_across(windows: &[Window]) -> bool {
-    let Some(first) = windows.first() else {
-        return false;
-    };
-    let mut hull = *first;
+/// A window that has all of the windows, or one without squares if there are none.
+fn hull_of(windows: &[Window]) -> Window {
+    let mut hull = windows.first().copied().unwrap_or(NOWHERE);
     for window in windows {
         hull = hull.joined(*window);
     }
+    hull
+}
+
+/// Whether windows have at least half of the squares of their hull.
+pub(crate) fn are_dense(windows: &[Window]) -> bool {
+    let mut sum = 0u128;
+    for window in windows {
+        sum = sum.saturating_add(area(*window));
+    }
+    sum >= area(hull_of(windows)) / 2
+}
+
+/// Whether the windows are spread more along x than along y.
+pub(crate) fn spread_across(windows: &[Window]) -> bool {
+    let hull = hull_of(windows);
     hull.x0.abs_diff(hull.x1) > hull.y0.abs_diff(hull.y1)
 }
 
