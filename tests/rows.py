@@ -1,0 +1,213 @@
+"""Reads `*.rows`: tables of rows, each of which is a line of the program and what it prints.
+
+    # A comment. Templates before the first table hold for all tables of the file.
+
+    == The title of a table
+    first: square.gds {1}
+    second: square.gds
+    line: compare first second
+    last: {2}
+
+    the name of a row | 139=09 147=09 | differ: layer 1 datatype 0 square 0 9 only in second
+
+A table has templates, an empty line, and rows. The columns of a row are separated by ` | `; `{1}`, `{2}`, .. in a
+template stand for them, and `{0}` for the first, which is the name of the row. A line that ends in ` \\` goes on in
+the next one. These are the keys of templates:
+
+    line       the words of the command line, quoted as in a shell
+    out, err   what is printed there, with `\\n` for line feeds, `\\xFF` for a byte, and the texts of words.py; without
+               `err` nothing is printed there, and `err: *` is any lines that begin with `lvl: `
+    last       in place of `out`, the last line. A comparison with a verdict has two head lines before it; a refusal
+               stands alone
+    heads      the two heads before `last`, separated by ` / `, where they are not those that the files' bytes say
+    text       in place of `out`, the file in tests/texts that has it
+    status     the exit status, where it isn't that of the last line: 0, 1 after `differ: `, 2 after `refused: `
+    pieces     the row is run again for each of these numbers, with reads that give at most so many bytes
+    failing    `NAME N`: the read of the file NAME fails after N bytes
+    input      the name of the file that is standard input
+    exchanged  `yes`: the row is run again with both files of the line exchanged, and the sides turned in what is printed
+    same-for   kinds of files: the row is run for each of them, which is the kind of the files that are a `layout`
+    growths    `yes`: `make growths` also runs these rows, with each allocation refused in turn
+
+Any other key is the name of a file in the folder where the program runs; words.py says how it is written.
+"""
+import os
+import re
+import shlex
+from collections import namedtuple
+
+import words
+
+HERE = os.path.dirname(os.path.abspath(__file__))
+KEYS = {"line", "out", "err", "last", "heads", "text", "status", "pieces", "failing", "input", "exchanged", "same-for",
+        "growths"}
+STATUSES = [("differ: ", 1), ("refused: ", 2)]
+# The words of sides that the exchange of both files turns, in pairs; each pattern is tried at the same place.
+TURNED = [
+    (r"^refused: (first|second): ", {"first": "second", "second": "first"}),
+    (r" only in (first|second)$", {"first": "second", "second": "first"}),
+    (r"the (first|second) file", {"first": "second", "second": "first"}),
+    (r"(--top-a|--top-b)\b", {"--top-a": "--top-b", "--top-b": "--top-a"}),
+]
+
+Table = namedtuple("Table", "file title templates rows")
+# A line of the program: its words, files by name, and what it prints.
+Run = namedtuple("Run", "words files out err status input")
+# A row, with the runs that it needs: the first, its variants, and the sizes of pieces.
+Row = namedtuple("Row", "label runs pieces failing growths")
+
+
+class Wrong(Exception):
+    """Something is wrong with a file of rows."""
+
+
+def joined(path):
+    """The lines of a file without comments, those that go on in the next one joined; each with its number."""
+    with open(path, encoding="utf-8") as file:
+        held, begun = "", 0
+        for number, line in enumerate(file, 1):
+            line = line.rstrip("\n")
+            if not held and line.startswith("#"):
+                continue
+            begun = begun if held else number
+            held += line.lstrip() if held else line
+            if held.endswith(" \\"):
+                held = held[:-1]
+                continue
+            yield begun, held
+            held = ""
+
+
+def tables(path):
+    """The tables of a file."""
+    shared, found, in_rows = {}, [], False
+    for number, line in joined(path):
+        if line.startswith("== "):
+            found.append(Table(path, line[3:].rstrip("."), dict(shared), []))
+            in_rows = False
+        elif not line.strip():
+            in_rows = bool(found)
+        elif in_rows:
+            found[-1].rows.append([column.strip() for column in re.split(r" \|(?= |$)", line)])
+        else:
+            key, colon, value = line.partition(":")
+            if not colon:
+                raise Wrong("%s, line %d: no template: %s" % (path, number, line))
+            (found[-1].templates if found else shared)[key] = value.strip()
+    return found
+
+
+def filled(template, columns):
+    """A template with the columns of a row in their places."""
+    return re.sub(r"\{(\d+)\}", lambda found: columns[int(found[1])], template)
+
+
+def unescaped(text):
+    """The bytes of a text of a row."""
+    bytes_of = {"n": b"\n", "\\": b"\\", "e": b"\x1b", "r": b"\r", "t": b"\t"}
+    parts = re.split(r"\\(x[0-9A-Fa-f]{2}|.)", text)
+    out = parts[0].encode()
+    for escape, plain in zip(parts[1::2], parts[2::2]):
+        out += (bytes.fromhex(escape[1:]) if len(escape) == 3 else bytes_of[escape]) + plain.encode()
+    return out
+
+
+def texts(text, files):
+    """A text with the words in braces computed."""
+    names = "|".join(words.TEXTS)
+    return re.sub(r"\{(%s)(?: ([^{}]*))?\}" % names, lambda it: words.TEXTS[it[1]](it[2] or "", files), text)
+
+
+def ending(out):
+    """The exit status of a run that prints this."""
+    last = out.rstrip(b"\n").rsplit(b"\n", 1)[-1].decode("utf-8", "replace")
+    return next((status for front, status in STATUSES if last.startswith(front)), 0)
+
+
+def with_heads(last, given, files):
+    """All lines of a comparison with this last one."""
+    if last.startswith("refused: ") or not given[0].startswith("compare "):
+        return last + "\n"
+    if given[1]:
+        heads = given[1].split(" / ")
+    else:
+        names = shlex.split(given[0])[1:3]
+        heads = [words.head(files[name]) for name in names]
+    return "first: %s\nsecond: %s\n%s\n" % (*heads, last)
+
+
+def printed(table, said, files):
+    """What a row prints on standard output."""
+    if "text" in said:
+        with open(os.path.join(HERE, "texts", said["text"]), "rb") as file:
+            return file.read()
+    if "last" in said:
+        line = texts(said["last"], files)
+        return unescaped(with_heads(line, (said["line"], said.get("heads")), files))
+    if "out" not in said:
+        raise Wrong("%s: %s: neither out nor last" % (table.file, table.title))
+    return unescaped(texts(said["out"], files))
+
+
+def run_of(table, said):
+    """The run of a row's filled templates."""
+    files = {name: words.file(value) for name, value in said.items() if name not in KEYS}
+    out = printed(table, said, files)
+    err = said.get("err", "")
+    status = int(said["status"]) if said.get("status") else ending(out)
+    return Run(shlex.split(said["line"]), files, out, None if err == "*" else unescaped(texts(err, files)), status,
+               said.get("input"))
+
+
+def turned_lines(text):
+    """A text with both sides exchanged."""
+    head = re.match(rb"first: (.*)\nsecond: (.*)\n", text)
+    if head:
+        return b"first: %s\nsecond: %s\n" % head.groups()[::-1] + turned_lines(text[head.end():])
+    out = text.decode("latin-1")
+    for pattern, other in TURNED:
+        out = re.sub(pattern, lambda it: it[0].replace(it[1], other[it[1]]), out, flags=re.MULTILINE)
+    out = re.sub(r": (.*) in the (?:first|second) file, (.*) in the (?:first|second)$",
+                 r": \2 in the first file, \1 in the second", out, flags=re.MULTILINE)
+    return out.encode("latin-1")
+
+
+def exchanged(run):
+    """The same run with both files exchanged."""
+    command, first, second, *options = run.words
+    other = {"--top-a": "--top-b", "--top-b": "--top-a"}
+    options = [re.sub(r"^--top-[ab]\b", lambda it: other[it[0]], word) for word in options]
+    err = run.err and turned_lines(run.err)
+    return run._replace(words=[command, second, first, *options], out=turned_lines(run.out), err=err)
+
+
+def rows(table):
+    """The rows of a table."""
+    names = set()
+    for columns in table.rows:
+        label = "%s: %s: %s" % (os.path.basename(table.file), table.title, columns[0])
+        if len(columns) != len(table.rows[0]):
+            raise Wrong("%s: it has %d columns, and the first row %d" % (label, len(columns), len(table.rows[0])))
+        if label in names:
+            raise Wrong("%s: twice" % label)
+        names.add(label)
+        try:
+            yield row_of(table, columns, label)
+        except (ValueError, IndexError, KeyError, OSError) as wrong:
+            raise Wrong("%s: %s %s" % (label, type(wrong).__name__, wrong)) from wrong
+
+
+def row_of(table, columns, label):
+    said = {key: filled(value, columns) for key, value in table.templates.items()}
+    kinds = said.pop("same-for", "").split()
+    spelled = [{key: re.sub(r"^layout\b", kind, value) if key not in KEYS else value for key, value in said.items()}
+               for kind in kinds] or [said]
+    runs = [run_of(table, each) for each in spelled]
+    if said.get("exchanged") == "yes":
+        runs += [exchanged(run) for run in runs]
+    pieces = [int(size) for size in said.get("pieces", "").split()]
+    return Row(label, runs, pieces, said.get("failing", "").split(), said.get("growths") == "yes")
+
+
+def all_rows(paths):
+    return [row for path in paths for table in tables(path) for row in rows(table)]

@@ -1,0 +1,200 @@
+"""Files of rows, written down in words, and texts that rows compute from their files.
+
+The first word is the kind of file:
+
+    gds          elements of a structure TOP, as GDSII
+    gds-cells    structures
+    oasis        records of a cell TOP, as OASIS
+    oasis-cells  records between START and END
+    oasis-begin  all that follows START
+    square.gds   the square 0..10 by 0..10 on 1/0 in a structure TOP, and the words after it
+    square.oas   the same in OASIS, and the words after it
+    bytes        nothing but the words
+    as-gds       a layout as GDSII, in micrometres; its words are described in layouts.py
+    as-oas       a layout as OASIS, in micrometres
+
+The other words, each of which adds bytes to those before it:
+
+    7B           a byte, in two hexadecimal digits
+    00*24        that byte 24 times
+    3,-4         a point of GDSII
+    1/0          LAYER and DATATYPE
+    0,0..30,20   the boundary of a box on 1/0
+    A@3,-4       an SREF of the cell A
+    A{           the beginning of a structure
+    }            the end of a structure
+    139=09       the byte at 139 is set
+    <99          all bytes from 99 on are cut
+    TOP          any other word of letters, digits and `_ . % $ -` is its letters
+
+A kind is added to KINDS, and a word to WORDS.
+
+In `out`, `err` and `last` of a table a word in braces stands for a text:
+
+    {head NAME}           the head that is printed of the file NAME
+    {lines 1/0 0,0..3,4}  the lines of digests of boxes on Layers, from `layer` to `mask sha256`
+    {mask 1/0 0,0..3,4}   the digest of a mask, 64 digits
+
+A text is added to TEXTS.
+"""
+import os
+import re
+import struct
+import sys
+from functools import lru_cache
+
+sys.path.insert(0, os.path.join(os.path.dirname(os.path.abspath(__file__)), "..", "tools"))
+
+import layouts
+from lib import assembler, digest
+
+# Between the bytes of `square.gds` are the bounds of its head, structure and boundary.
+SQUARE = assembler.short(0, 600) + assembler.record(1, 2, bytes(24)) + assembler.record(2, 6, b"LB") + \
+    assembler.record(3, 5, bytes.fromhex("4110000000000000") * 2) + \
+    assembler.structure("TOP", assembler.box(0, 0, 10, 10)) + assembler.STREAM_END
+HEAD, BEGIN, REST, CLOSED = SQUARE[:60], SQUARE[60:96], SQUARE[160:], SQUARE[164:]
+# The magic bytes, and START of 1,000 grid steps in a micrometre.
+START = assembler.MAGIC + assembler.start(b"\0\xE8\7")
+END = assembler.end()
+TOP = assembler.cell_by_name(b"TOP")
+RECTANGLE = bytes.fromhex("147B01000A0A0000")
+NUMBER, BYTE = r"(-?\d+)", r"([0-9A-F]{2})"
+POINT = NUMBER + "," + NUMBER
+
+
+def put(data, more):
+    data += more
+
+
+def put_box(data, *corners):
+    data += assembler.box(*map(int, corners))
+
+
+def put_point(data, x, y):
+    data += struct.pack(">ii", int(x), int(y))
+
+
+def put_layer(data, layer, datatype):
+    data += assembler.short(0x0D, int(layer)) + assembler.short(0x0E, int(datatype))
+
+
+def put_byte(data, at, value):
+    data[int(at)] = int(value, 16)
+
+
+def cut(data, count):
+    del data[int(count):]
+
+
+# Each word as a pattern, and what adds it to the bytes; the first pattern that matches the whole word holds.
+WORDS = [
+    (POINT + r"\.\." + POINT, put_box),
+    (r"(\S+)@" + POINT, lambda data, name, x, y: put(data, assembler.sref(name, int(x), int(y)))),
+    (POINT, put_point),
+    (BYTE + r"\*(\d+)", lambda data, byte, count: put(data, bytes.fromhex(byte) * int(count))),
+    (NUMBER + "/" + NUMBER, put_layer),
+    (r"(\d+)=" + BYTE, put_byte),
+    (r"<(\d+)", cut),
+    (r"(\S*)\{", lambda data, name: put(data, assembler.structure_start(name))),
+    (r"\}", lambda data: put(data, assembler.STRUCTURE_END)),
+    (BYTE, lambda data, byte: put(data, bytes.fromhex(byte))),
+    (r"([\w.%$-]+)", lambda data, letters: put(data, letters.encode())),
+]
+
+
+def added(front, words):
+    """The bytes in front, changed by each word in turn."""
+    data = bytearray(front)
+    for word in words.split():
+        for pattern, add in WORDS:
+            if found := re.fullmatch(pattern, word):
+                add(data, *found.groups())
+                break
+        else:
+            raise ValueError("no word of files: " + word)
+    return bytes(data)
+
+
+# What makes a file of this kind from its words.
+KINDS = {
+    "gds": lambda words: HEAD + BEGIN + added(b"", words) + REST,
+    "gds-cells": lambda words: HEAD + added(b"", words) + CLOSED,
+    "oasis": lambda words: START + TOP + added(b"", words) + END,
+    "oasis-cells": lambda words: START + added(b"", words) + END,
+    "oasis-begin": lambda words: added(START, words),
+    "square.gds": lambda words: added(SQUARE, words),
+    "square.oas": lambda words: added(START + TOP + RECTANGLE + END, words),
+    "bytes": lambda words: added(b"", words),
+    "as-gds": layouts.as_gds,
+    "as-oas": layouts.as_oas,
+}
+
+
+@lru_cache(maxsize=256)
+def file(text):
+    """The bytes of a file in words."""
+    kind, _, words = text.partition(" ")
+    if kind not in KINDS:
+        raise ValueError("no kind of files: " + kind)
+    return KINDS[kind](words)
+
+
+def unsigned(data, at):
+    """An unsigned integer of OASIS at an offset, and the offset after it."""
+    value = shift = 0
+    while data[at] & 0x80:
+        value, shift, at = value | (data[at] & 0x7F) << shift, shift + 7, at + 1
+    return value | data[at] << shift, at + 1
+
+
+def unit(data, at):
+    """The text of START's unit."""
+    kind = data[at]
+    if kind in (6, 7):
+        return "hex " + data[at + 1:at + (5 if kind == 6 else 9)].hex()
+    above, at = unsigned(data, at + 1)
+    return {0: "%d" % above, 2: "1/%d" % above}.get(kind) or "%d/%d" % (above, unsigned(data, at)[0])
+
+
+def oasis_head(data):
+    """The head of an OASIS file; with a signature END has at least five bytes after its padding."""
+    text = "OASIS 1.0 unit %s scheme " % unit(data, 18)
+    return text + ("%d signature %s" % (data[-5], data[-4:].hex()) if data[-5] in (1, 2) else "0")
+
+
+def gds_head(data):
+    """The head of a GDSII file: the version in HEADER, and the numbers in the UNITS record."""
+    at = 0
+    while data[at + 2] != 3:
+        at += struct.unpack_from(">H", data, at)[0]
+    version = struct.unpack_from(">h", data, 4)[0]
+    return "GDSII version %d units %s %s" % (version, data[at + 4:at + 12].hex(), data[at + 12:at + 20].hex())
+
+
+def head(data):
+    """The line that is printed of a file that is accepted."""
+    return oasis_head(data) if data[:1] == b"%" else gds_head(data)
+
+
+def layers(words):
+    """Boxes by Layer: each Layer is followed by its boxes."""
+    found, last = {}, (1, 0)
+    for word in words.split():
+        numbers = tuple(map(int, re.split(r"[/,]|\.\.", word)))
+        if len(numbers) == 2:
+            last = numbers
+        else:
+            found.setdefault(last, []).append(numbers)
+    return found
+
+
+def lines(words):
+    return digest.lines(layers(words))
+
+
+# What a word in braces stands for, from the words after it and the bytes of the row's files by name.
+TEXTS = {
+    "head": lambda name, files: head(files[name]),
+    "lines": lambda words, files: lines(words),
+    "mask": lambda words, files: lines(words).split()[-1],
+}
