@@ -27,6 +27,7 @@ the next one. These are the keys of templates:
     input      the name of the file that is standard input
     exchanged  `yes`: the row is run again with both files of the line exchanged, and the sides turned in what is printed
     same-for   kinds of files: the row is run for each of them, which is the kind of the files that are a `layout`
+    numbers    `0..9`: the rows are named by these numbers and have no other columns
     growths    `yes`: `make growths` also runs these rows, with each allocation refused in turn
 
 Any other key is the name of a file in the folder where the program runs; words.py says how it is written.
@@ -40,7 +41,7 @@ import words
 
 HERE = os.path.dirname(os.path.abspath(__file__))
 KEYS = {"line", "out", "err", "last", "heads", "text", "status", "pieces", "failing", "input", "exchanged", "same-for",
-        "growths"}
+        "growths", "numbers"}
 STATUSES = [("differ: ", 1), ("refused: ", 2)]
 # The words of sides that the exchange of both files turns, in pairs; each pattern is tried at the same place.
 TURNED = [
@@ -114,8 +115,10 @@ def unescaped(text):
 
 def texts(text, files):
     """A text with the words in braces computed."""
-    names = "|".join(words.TEXTS)
-    return re.sub(r"\{(%s)(?: ([^{}]*))?\}" % names, lambda it: words.TEXTS[it[1]](it[2] or "", files), text)
+    word = r"\{(%s)(?: ([^{}]*))?\}" % "|".join(words.TEXTS)
+    while re.search(word, text):
+        text = re.sub(word, lambda it: words.TEXTS[it[1]](it[2] or "", files), text)
+    return text
 
 
 def ending(out):
@@ -152,6 +155,7 @@ def printed(table, said, files):
 def run_of(table, said):
     """The run of a row's filled templates."""
     files = {name: words.file(value) for name, value in said.items() if name not in KEYS}
+    said = {**said, "line": texts(said["line"], files)}
     out = printed(table, said, files)
     err = said.get("err", "")
     status = int(said["status"]) if said.get("status") else ending(out)
@@ -181,13 +185,21 @@ def exchanged(run):
     return run._replace(words=[command, second, first, *options], out=turned_lines(run.out), err=err)
 
 
+def listed(table):
+    """The columns of the rows of a table."""
+    if "numbers" not in table.templates:
+        return table.rows
+    first, last = map(int, table.templates["numbers"].split(".."))
+    return [[str(number)] for number in range(first, last + 1)]
+
+
 def rows(table):
     """The rows of a table."""
-    names = set()
-    for columns in table.rows:
+    names, every = set(), listed(table)
+    for columns in every:
         label = "%s: %s: %s" % (os.path.basename(table.file), table.title, columns[0])
-        if len(columns) != len(table.rows[0]):
-            raise Wrong("%s: it has %d columns, and the first row %d" % (label, len(columns), len(table.rows[0])))
+        if len(columns) != len(every[0]):
+            raise Wrong("%s: it has %d columns, and the first row %d" % (label, len(columns), len(every[0])))
         if label in names:
             raise Wrong("%s: twice" % label)
         names.add(label)

@@ -34,6 +34,8 @@ In `out`, `err` and `last` of a table a word in braces stands for a text:
     {head NAME}           the head that is printed of the file NAME
     {lines 1/0 0,0..3,4}  the lines of digests of boxes on Layers, from `layer` to `mask sha256`
     {mask 1/0 0,0..3,4}   the digest of a mask, 64 digits
+    {verdict WORDS}       the verdict on the files that these words of a line compare, as verdicts.py finds it
+    {view 3}              the options of a made map and a made window
 
 A text is added to TEXTS.
 """
@@ -46,6 +48,8 @@ from functools import lru_cache
 sys.path.insert(0, os.path.join(os.path.dirname(os.path.abspath(__file__)), "..", "tools"))
 
 import layouts
+import made
+import verdicts
 from lib import assembler, digest
 
 # Between the bytes of `square.gds` are the bounds of its head, structure and boundary.
@@ -197,4 +201,6 @@ TEXTS = {
     "head": lambda name, files: head(files[name]),
     "lines": lambda words, files: lines(words),
     "mask": lambda words, files: lines(words).split()[-1],
+    "verdict": verdicts.verdict,
+    "view": lambda words, files: made.view(int(words)),
 }
