@@ -134,7 +134,7 @@ def as_gds(words):
 
 
 def repetition(item):
-    """The bytes of a repetition of type 8, 9, 10 or 0, or nothing."""
+    """The bytes of a repetition of type 8, 9, 10 or 0, of type 2 for a step that no delta can be, or nothing."""
     if not item.arrays:
         return b""
     if item.arrays == SAME:
@@ -143,8 +143,8 @@ def repetition(item):
         steps = oasis.steps_of(item.arrays)
         return b"\x0A" + assembler.unsigned(len(steps) - 1) + b"".join(assembler.g_delta(*step) for step in steps)
     if len(item.arrays) == 1:
-        (count, step), = item.arrays
-        return assembler.line(count, *step)
+        (count, (x, y)), = item.arrays
+        return assembler.row(count, x) if x >= 2**62 and y == 0 else assembler.line(count, x, y)
     (m, a), (n, b) = item.arrays
     return assembler.leaning(m, n, a, b)
 

@@ -242,6 +242,33 @@ def boxes(number, second):
     return found
 
 
+def made_lattice(number):
+    """The steps and counts of a lattice of up to 40 by 40 places, and the number after them."""
+    seed = following(number * 7919 % 2**64)
+    counts = following(seed)
+    up = following(counts)
+    steps = [(part(it, 20, 13) - 6, part(it, 30, 13) - 6) for it in (seed, up)]
+    return steps, (1 + part(counts, 20, 40), 1 + part(counts, 30, 40)), following(up)
+
+
+def lattice(number, kind):
+    """A box at a made lattice, by a shape or by a reference, or at each of its places by a list."""
+    steps, counts, _ = made_lattice(number)
+    if kind == 2:
+        (a, b), (m, n) = steps, counts
+        places = [(i * a[0] + j * b[0], i * a[1] + j * b[1]) for j in range(n) for i in range(m)][1:]
+        return ["0,0..4,2" + ("*@" + ring(places) if places else "")]
+    arrays = "".join("*%d:%d,%d" % (count, *step) for count, step in zip(counts, steps) if count > 1)
+    return ["A{", "0,0..4,2", "}", "TOP{", "A@0,0" + arrays, "}"] if kind else ["0,0..4,2" + arrays]
+
+
+def window(number):
+    """The option of a made window of at most 40 by 40 for a made lattice."""
+    seed = made_lattice(number)[2]
+    x, y = part(seed, 20, 200) - 100, part(seed, 30, 200) - 100
+    return "--window x=%d..%d,y=%d..%d" % (x, x + max(1, part(seed, 40, 41)), y, y + max(1, part(seed, 50, 41)))
+
+
 def view(number):
     """The options of a made map of three Layers, and of a made window."""
     seed = following(following(number * 7919 % 2**64))
@@ -254,7 +281,7 @@ def view(number):
 
 MAKERS = {maker.__name__: maker for maker in (
     comb, stair, stairs, winding, wire, turns, brackets, bars, ladder, needles, listed, column, sizes, again, again_path,
-    chain, empty, many, rows_of, rings, narrow, boxes,
+    chain, empty, many, rows_of, rings, narrow, boxes, lattice,
 )}
 WORD = re.compile(r"(\d+/\d+:)?%(\w+)((?::-?\d+)*)(\*\S+)?")
 

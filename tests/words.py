@@ -12,6 +12,7 @@ The first word is the kind of file:
     bytes        nothing but the words
     as-gds       a layout as GDSII, in micrometres; its words are described in layouts.py
     as-oas       a layout as OASIS, in micrometres
+    oasis-layers a square on each of so many Layers, and one more on the Layer of the second number
 
 The other words, each of which adds bytes to those before it:
 
@@ -35,7 +36,7 @@ In `out`, `err` and `last` of a table a word in braces stands for a text:
     {lines 1/0 0,0..3,4}  the lines of digests of boxes on Layers, from `layer` to `mask sha256`
     {mask 1/0 0,0..3,4}   the digest of a mask, 64 digits
     {verdict WORDS}       the verdict on the files that these words of a line compare, as verdicts.py finds it
-    {view 3}              the options of a made map and a made window
+    {view 3}              the options of a made map and a made window; `{window 3}` is those of a window
 
 A text is added to TEXTS.
 """
@@ -119,6 +120,16 @@ def added(front, words):
     return bytes(data)
 
 
+@lru_cache(maxsize=2)
+def squares(count):
+    """A square on each of so many Layers."""
+    return b"".join(assembler.rectangle(3, 0, 1, 1, layer) for layer in range(count))
+
+
+def oasis_layers(count, double):
+    return START + TOP + squares(count) + assembler.rectangle(0, 0, 1, 1, double) + END
+
+
 # What makes a file of this kind from its words.
 KINDS = {
     "gds": lambda words: HEAD + BEGIN + added(b"", words) + REST,
@@ -131,6 +142,7 @@ KINDS = {
     "bytes": lambda words: added(b"", words),
     "as-gds": layouts.as_gds,
     "as-oas": layouts.as_oas,
+    "oasis-layers": lambda words: oasis_layers(*map(int, words.split())),
 }
 
 
@@ -203,4 +215,5 @@ TEXTS = {
     "mask": lambda words, files: lines(words).split()[-1],
     "verdict": verdicts.verdict,
     "view": lambda words, files: made.view(int(words)),
+    "window": lambda words, files: made.window(int(words)),
 }
