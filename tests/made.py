@@ -29,6 +29,11 @@ def comb(many, high, tooth=-1, other=0, turned=0, x=0, y=0):
     return [ring(points[turned:] + points[:turned])]
 
 
+def rake(many):
+    """A comb of so many teeth, ten long, that lies on its side."""
+    return [ring([point for y in range(0, 2 * many, 2) for point in [(0, y), (10, y), (10, y + 1), (0, y + 1)]])]
+
+
 def stair(many, x):
     """A stair of so many steps, from x on."""
     points = [point for y in range(many) for point in [(x + y, y), (x + y + 1, y)]]
@@ -106,11 +111,6 @@ def ladder(many, downward):
     return [box(-2**63, 3 * rung, 2**63 - 1, 3 * rung + 4) for rung in rungs]
 
 
-def needles(many):
-    """Rings on one line, each as high as there are rings."""
-    return [ring([(0, y), (0, y + many), (0, y)]) for y in range(many)]
-
-
 def listed(many, reverse, twice=-1):
     """Squares, each third one with a corner taken out; or in reverse and the squares clockwise. One may be there
     twice."""
@@ -149,22 +149,6 @@ def again_path(many, runs):
 
 
 # Cells.
-def chain(many, times):
-    """A chain of cells, each of which places the next so often; the last draws a square. In the order of names the
-    first is the last."""
-    found = []
-    for number in range(many):
-        name = 2**32 - 1 - number
-        inside = ["0,0..1,1"] if number + 1 == many else ["%d@0,0" % (name - 1)] * times
-        found += ["%d{" % name, *inside, "}"]
-    return found
-
-
-def empty(many):
-    """So many cells without shapes and references."""
-    return [word for number in range(many) for word in ("%d{" % (2**32 - 1 - number), "}")]
-
-
 def many(many):
     """So many references to the cell A, at a place each."""
     return ["A@0,%d" % y for y in range(many)]
@@ -280,8 +264,8 @@ def view(number):
 
 
 MAKERS = {maker.__name__: maker for maker in (
-    comb, stair, stairs, winding, wire, turns, brackets, bars, ladder, needles, listed, column, sizes, again, again_path,
-    chain, empty, many, rows_of, rings, narrow, boxes, lattice,
+    comb, rake, stair, stairs, winding, wire, turns, brackets, bars, ladder, listed, column, sizes, again, again_path,
+    many, rows_of, rings, narrow, boxes, lattice,
 )}
 WORD = re.compile(r"(\d+/\d+:)?%(\w+)((?::-?\d+)*)(\*\S+)?")
 

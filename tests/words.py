@@ -12,7 +12,7 @@ The first word is the kind of file:
     bytes        nothing but the words
     as-gds       a layout as GDSII, in micrometres; its words are described in layouts.py
     as-oas       a layout as OASIS, in micrometres
-    oasis-layers a square on each of so many Layers, and one more on the Layer of the second number
+    oasis-NAME   a file of very many records, by numbers; made_files.py has the names
 
 The other words, each of which adds bytes to those before it:
 
@@ -50,6 +50,7 @@ sys.path.insert(0, os.path.join(os.path.dirname(os.path.abspath(__file__)), ".."
 
 import layouts
 import made
+import made_files
 import verdicts
 from lib import assembler, digest
 
@@ -120,16 +121,6 @@ def added(front, words):
     return bytes(data)
 
 
-@lru_cache(maxsize=2)
-def squares(count):
-    """A square on each of so many Layers."""
-    return b"".join(assembler.rectangle(3, 0, 1, 1, layer) for layer in range(count))
-
-
-def oasis_layers(count, double):
-    return START + TOP + squares(count) + assembler.rectangle(0, 0, 1, 1, double) + END
-
-
 # What makes a file of this kind from its words.
 KINDS = {
     "gds": lambda words: HEAD + BEGIN + added(b"", words) + REST,
@@ -142,7 +133,6 @@ KINDS = {
     "bytes": lambda words: added(b"", words),
     "as-gds": layouts.as_gds,
     "as-oas": layouts.as_oas,
-    "oasis-layers": lambda words: oasis_layers(*map(int, words.split())),
 }
 
 
@@ -150,8 +140,10 @@ KINDS = {
 def file(text):
     """The bytes of a file in words."""
     kind, _, words = text.partition(" ")
-    if kind not in KINDS:
+    if kind not in KINDS and kind not in made_files.KINDS:
         raise ValueError("no kind of files: " + kind)
+    if kind in made_files.KINDS:
+        return made_files.KINDS[kind](*map(int, words.split()))
     return KINDS[kind](words)
 
 
