@@ -4,6 +4,7 @@ A word is `%`, a name and its numbers, as `%comb:4:5`. Before it may be a Layer,
 words of layouts: these then are before and after each of the words that it stands for. A maker is added to MAKERS.
 """
 import re
+from functools import lru_cache
 
 MULTIPLIER, INCREMENT = 6_364_136_223_846_793_005, 1_442_695_040_888_963_407
 
@@ -226,6 +227,60 @@ def boxes(number, second):
     return found
 
 
+# What the top of a made library places: cells moved, turned and reflected, arrays of one place less, one cell for another.
+PLACED = [
+    "A@0,0*8:10,0", "A@0,0*7:10,0", "A@1,0*8:10,0", "A@0,0^90*8:10,0", "A@0,0*4:10,0 A@40,0*4:10,0", "M@0,0*4:10,0",
+    "M@0,0^180*4:10,0", "M@0,0*4:10,0 B@50,0^f*4:10,0", "A@0,0*8:10,0 M@5,0^f90*3:10,0", "B@0,0*8:10,0 A@80,0",
+]
+# Boxes of the top; the longest hides what is placed.
+DRAWN = ["", "3,0..4,1", "3,0..5,1", "0,0..90,1", "2/0:3,0..4,1", "7,0..9,1 70,0..71,1", "71,0..70,1"]
+# What the cell in the middle places and draws.
+MIDDLE = [
+    "A@0,0*2:10,0", "A@5,0*2:10,0", "A@5,0^90*2:10,0", "A@0,0 B@5,0", "B@0,0*2:10,0", "B@0,0*2:10,0 1,0..2,1", "",
+]
+# The boxes of a cell at the bottom: a square more or fewer, two boxes for one, the other Layer.
+LEAF = [
+    "0,0..2,1", "0,0..1,1", "0,0..3,1", "0,0..1,1 1,0..2,1", "2/0:0,0..2,1", "0,0..2,1 4,0..5,1", "1,0..2,1 0,0..2,1",
+    "",
+]
+
+
+def made_parts(seed):
+    """What a made library has: in the top two parts, and in each of the cells M, A and B."""
+    lists = [(PLACED, 16), (DRAWN, 24), (MIDDLE, 32), (LEAF, 40), (LEAF, 48)]
+    return [choices[(seed >> shift) % len(choices)] for choices, shift in lists]
+
+
+@lru_cache(maxsize=1024)
+def seed_of(number):
+    """The made number with this index, from 44 on."""
+    return following(seed_of(number - 1) if number else 44)
+
+
+def parts(number, second):
+    """One of two made libraries: the second is the first with one part exchanged, or none, in another order."""
+    seed = seed_of(number)
+    placed, drawn, *below = found = made_parts(seed)
+    if not second:
+        cells = zip("TMAB", [placed + " " + drawn, *below])
+    else:
+        changed = following(seed)
+        kind = (changed >> 56) % 6
+        if kind < 5:
+            found[kind] = made_parts(following(changed))[kind]
+        placed, drawn, *below = found
+        cells = zip("TBAM", [drawn + " " + placed, *below[::-1]])
+    return [word for name, inside in cells for word in (name + "{", *inside.split(), "}")]
+
+
+def change(number):
+    """The options under which these two are compared: a map, a window, both or none."""
+    seed = following(following(seed_of(number)))
+    maps, windows = ["2/0=1/0", "1/0=2/0,2/0=1/0"], ["x=0..41,y=0..1", "x=-40..5,y=-50..50"]
+    given = [("--map", maps, (seed >> 20) % 4), ("--window", windows, (seed >> 30) % 4)]
+    return " ".join("%s %s" % (option, texts[at]) for option, texts, at in given if at < 2)
+
+
 def made_lattice(number):
     """The steps and counts of a lattice of up to 40 by 40 places, and the number after them."""
     seed = following(number * 7919 % 2**64)
@@ -265,7 +320,7 @@ def view(number):
 
 MAKERS = {maker.__name__: maker for maker in (
     comb, rake, stair, stairs, winding, wire, turns, brackets, bars, ladder, listed, column, sizes, again, again_path,
-    many, rows_of, rings, narrow, boxes, lattice,
+    many, rows_of, rings, narrow, boxes, lattice, parts,
 )}
 WORD = re.compile(r"(\d+/\d+:)?%(\w+)((?::-?\d+)*)(\*\S+)?")
 

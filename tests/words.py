@@ -36,7 +36,7 @@ In `out`, `err` and `last` of a table a word in braces stands for a text:
     {lines 1/0 0,0..3,4}  the lines of digests of boxes on Layers, from `layer` to `mask sha256`
     {mask 1/0 0,0..3,4}   the digest of a mask, 64 digits
     {verdict WORDS}       the verdict on the files that these words of a line compare, as verdicts.py finds it
-    {view 3}              the options of a made map and a made window; `{window 3}` is those of a window
+    {view 3}              the options of a made map and a made window; so are `{window 3}` and `{change 3}`
 
 A text is added to TEXTS.
 """
@@ -208,4 +208,5 @@ TEXTS = {
     "verdict": verdicts.verdict,
     "view": lambda words, files: made.view(int(words)),
     "window": lambda words, files: made.window(int(words)),
+    "change": lambda words, files: made.change(int(words)),
 }
