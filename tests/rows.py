@@ -14,7 +14,8 @@ A table has templates, an empty line, and rows. The columns of a row are separat
 template stand for them, and `{0}` for the first, which is the name of the row. A line that ends in ` \\` goes on in
 the next one. These are the keys of templates:
 
-    line       the words of the command line, quoted as in a shell
+    line       the words of the command line, quoted as in a shell. The rows of a table with several lines are run with
+               each of them; what follows a `line` holds for it alone, but files and `for` hold for all
     out, err   what is printed there, with `\\n` for line feeds, `\\xFF` for a byte, and the texts of words.py; without
                `err` nothing is printed there, and `err: *` is any lines that begin with `lvl: `
     last       in place of `out`, the last line. A comparison with a verdict has two head lines before it; a refusal
@@ -23,9 +24,13 @@ the next one. These are the keys of templates:
     text       in place of `out`, the file in tests/texts that has it
     status     the exit status, where it isn't that of the last line: 0, 1 after `differ: `, 2 after `refused: `
     pieces     the row is run again for each of these numbers, with reads that give at most so many bytes
-    failing    `NAME N`: the read of the file NAME fails after N bytes
+    for        `k M N`: the row is run for each number from M up to N, but not N, for which `{k}` stands
+    failing    `NAME N`: the read of the file NAME fails after N bytes, with EIO, or with an error that a third word
+               names; it isn't read again, and no file after it is read
+    reads      `NAME N ..`: the file NAME is read at most N times, and not after its end
     input      the name of the file that is standard input
-    exchanged  `yes`: the row is run again with both files of the line exchanged, and the sides turned in what is printed
+    exchanged  `yes`: the row is run again with both files of the line exchanged, and the sides turned in what is
+               printed
     same-for   kinds of files: the row is run for each of them, which is the kind of the files that are a `layout`
     growths    `yes`: `make growths` also runs these rows, with each allocation refused in turn
 
@@ -37,10 +42,11 @@ import shlex
 from collections import namedtuple
 
 import words
+from words import texts, unescaped
 
 HERE = os.path.dirname(os.path.abspath(__file__))
-KEYS = {"line", "out", "err", "last", "heads", "text", "status", "pieces", "failing", "input", "exchanged", "same-for",
-        "growths"}
+OF_LINE = {"line", "out", "err", "last", "heads", "text", "status", "pieces", "failing", "reads", "input", "exchanged"}
+KEYS = OF_LINE | {"for", "same-for", "growths"}
 STATUSES = [("differ: ", 1), ("refused: ", 2)]
 # The words of sides that the exchange of both files turns, in pairs; each pattern is tried at the same place.
 TURNED = [
@@ -50,11 +56,11 @@ TURNED = [
     (r"(--top-a|--top-b)\b", {"--top-a": "--top-b", "--top-b": "--top-a"}),
 ]
 
+# The templates of a table are a list: those of files and of all lines first, then those of each line.
 Table = namedtuple("Table", "file title templates rows")
-# A line of the program: its words, files by name, and what it prints.
-Run = namedtuple("Run", "words files out err status input")
-# A row, with the runs that it needs: the first, its variants, and the sizes of pieces.
-Row = namedtuple("Row", "label runs pieces failing growths")
+# A line of the program: its words, files by name, what it prints, and what else is said of it.
+Run = namedtuple("Run", "words files out err status input pieces failing reads")
+Row = namedtuple("Row", "label runs growths")
 
 
 class Wrong(Exception):
@@ -80,10 +86,10 @@ def joined(path):
 
 def tables(path):
     """The tables of a file."""
-    shared, found, in_rows = {}, [], False
+    shared, found, in_rows = [{}], [], False
     for number, line in joined(path):
         if line.startswith("== "):
-            found.append(Table(path, line[3:].rstrip("."), dict(shared), []))
+            found.append(Table(path, line[3:].rstrip("."), [dict(each) for each in shared], []))
             in_rows = False
         elif not line.strip():
             in_rows = bool(found)
@@ -93,29 +99,26 @@ def tables(path):
             key, colon, value = line.partition(":")
             if not colon:
                 raise Wrong("%s, line %d: no template: %s" % (path, number, line))
-            (found[-1].templates if found else shared)[key] = value.strip()
+            add_template(found[-1].templates if found else shared, unescaped(key).decode(), value.strip())
     return found
+
+
+def add_template(templates, key, value):
+    """Adds a template of the last line, or of all lines if it is of a file."""
+    if key == "line" and templates[-1].get("line") is not None:
+        templates.append({})
+    templates[-1 if key in OF_LINE else 0][key] = value
+
+
+def of_lines(templates):
+    """For each line all templates that hold for it."""
+    everywhere = {key: value for key, value in templates[0].items() if key not in OF_LINE}
+    return [{**everywhere, **of_line} for of_line in templates]
 
 
 def filled(template, columns):
     """A template with the columns of a row in their places."""
     return re.sub(r"\{(\d+)\}", lambda found: columns[int(found[1])], template)
-
-
-def unescaped(text):
-    """The bytes of a text of a row."""
-    bytes_of = {"n": b"\n", "\\": b"\\", "e": b"\x1b", "r": b"\r", "t": b"\t"}
-    parts = re.split(r"\\(x[0-9A-Fa-f]{2}|.)", text)
-    out = parts[0].encode()
-    for escape, plain in zip(parts[1::2], parts[2::2]):
-        out += (bytes.fromhex(escape[1:]) if len(escape) == 3 else bytes_of[escape]) + plain.encode()
-    return out
-
-
-def texts(text, files):
-    """A text with the words in braces computed."""
-    names = "|".join(words.TEXTS)
-    return re.sub(r"\{(%s)(?: ([^{}]*))?\}" % names, lambda it: words.TEXTS[it[1]](it[2] or "", files), text)
 
 
 def ending(out):
@@ -155,8 +158,10 @@ def run_of(table, said):
     out = printed(table, said, files)
     err = said.get("err", "")
     status = int(said["status"]) if said.get("status") else ending(out)
-    return Run(shlex.split(said["line"]), files, out, None if err == "*" else unescaped(texts(err, files)), status,
-               said.get("input"))
+    err = None if err == "*" else unescaped(texts(err, files))
+    pieces = [int(size) for size in said.get("pieces", "").split()]
+    return Run(shlex.split(said["line"]), files, out, err, status, said.get("input"), pieces,
+               said.get("failing", "").split(), said.get("reads", "").split())
 
 
 def turned_lines(text):
@@ -197,16 +202,29 @@ def rows(table):
             raise Wrong("%s: %s %s" % (label, type(wrong).__name__, wrong)) from wrong
 
 
+def numbered(said):
+    """The templates for each of the numbers of `for`."""
+    if "for" not in said:
+        return [said]
+    name, low, high = said["for"].split()
+    return [{key: value.replace("{%s}" % name, str(k)) for key, value in said.items() if key != "for"}
+            for k in range(int(low), int(high))]
+
+
+def spelled(said):
+    """The templates for each of the kinds of `same-for`."""
+    kinds = said.get("same-for", "").split()
+    return [{key: re.sub(r"^layout\b", kind, value) if key not in KEYS else value for key, value in said.items()}
+            for kind in kinds] or [said]
+
+
 def row_of(table, columns, label):
-    said = {key: filled(value, columns) for key, value in table.templates.items()}
-    kinds = said.pop("same-for", "").split()
-    spelled = [{key: re.sub(r"^layout\b", kind, value) if key not in KEYS else value for key, value in said.items()}
-               for kind in kinds] or [said]
-    runs = [run_of(table, each) for each in spelled]
-    if said.get("exchanged") == "yes":
-        runs += [exchanged(run) for run in runs]
-    pieces = [int(size) for size in said.get("pieces", "").split()]
-    return Row(label, runs, pieces, said.get("failing", "").split(), said.get("growths") == "yes")
+    runs = []
+    for templates in of_lines(table.templates):
+        said = {key: filled(value, columns) for key, value in templates.items()}
+        found = [run_of(table, each) for numbers in numbered(said) for each in spelled(numbers)]
+        runs += found + ([exchanged(run) for run in found] if said.get("exchanged") == "yes" else [])
+    return Row(label, runs, table.templates[0].get("growths") == "yes")
 
 
 def all_rows(paths):

@@ -10,8 +10,12 @@ The first word is the kind of file:
     square.gds   the square 0..10 by 0..10 on 1/0 in a structure TOP, and the words after it
     square.oas   the same in OASIS, and the words after it
     bytes        nothing but the words
-    as-gds       a layout as GDSII, in micrometres; its words are described in layouts.py
-    as-oas       a layout as OASIS, in micrometres
+    gds-um       structures, in GDSII of grid steps of a micrometre
+    oasis-um     records between START and END, of grid steps of a micrometre
+    as-gds       a layout as GDSII of such steps; its words are described in layouts.py
+    as-oas       a layout as OASIS of such steps
+    text         a text as in `out`
+    folder       no file, but a folder
 
 The other words, each of which adds bytes to those before it:
 
@@ -47,6 +51,7 @@ sys.path.insert(0, os.path.join(os.path.dirname(os.path.abspath(__file__)), ".."
 
 import layouts
 from lib import assembler, digest
+from lib.crafted import GDS_END, GDS_HEAD, OAS_END, OAS_HEAD
 
 # Between the bytes of `square.gds` are the bounds of its head, structure and boundary.
 SQUARE = assembler.short(0, 600) + assembler.record(1, 2, bytes(24)) + assembler.record(2, 6, b"LB") + \
@@ -115,16 +120,20 @@ def added(front, words):
     return bytes(data)
 
 
-# What makes a file of this kind from its words.
+# What makes a file of this kind from its words; None is a folder.
 KINDS = {
-    "gds": lambda words: HEAD + BEGIN + added(b"", words) + REST,
-    "gds-cells": lambda words: HEAD + added(b"", words) + CLOSED,
-    "oasis": lambda words: START + TOP + added(b"", words) + END,
-    "oasis-cells": lambda words: START + added(b"", words) + END,
+    "gds": lambda words: added(HEAD + BEGIN, words) + REST,
+    "gds-cells": lambda words: added(HEAD, words) + CLOSED,
+    "oasis": lambda words: added(START + TOP, words) + END,
+    "oasis-cells": lambda words: added(START, words) + END,
     "oasis-begin": lambda words: added(START, words),
     "square.gds": lambda words: added(SQUARE, words),
     "square.oas": lambda words: added(START + TOP + RECTANGLE + END, words),
     "bytes": lambda words: added(b"", words),
+    "gds-um": lambda words: added(GDS_HEAD, words) + GDS_END,
+    "oasis-um": lambda words: added(OAS_HEAD, words) + OAS_END,
+    "text": lambda words: unescaped(texts(words, {})),
+    "folder": lambda words: None,
     "as-gds": layouts.as_gds,
     "as-oas": layouts.as_oas,
 }
@@ -198,3 +207,19 @@ TEXTS = {
     "lines": lambda words, files: lines(words),
     "mask": lambda words, files: lines(words).split()[-1],
 }
+
+
+def texts(text, files):
+    """A text with the words in braces computed."""
+    names = "|".join(TEXTS)
+    return re.sub(r"\{(%s)(?: ([^{}]*))?\}" % names, lambda it: TEXTS[it[1]](it[2] or "", files), text)
+
+
+def unescaped(text):
+    """The bytes of a text of a row."""
+    bytes_of = {"n": b"\n", "\\": b"\\", "e": b"\x1b", "r": b"\r", "t": b"\t"}
+    parts = re.split(r"\\(x[0-9A-Fa-f]{2}|.)", text)
+    out = parts[0].encode()
+    for escape, plain in zip(parts[1::2], parts[2::2]):
+        out += (bytes.fromhex(escape[1:]) if len(escape) == 3 else bytes_of[escape]) + plain.encode()
+    return out
