@@ -27,8 +27,12 @@ The other words, each of which adds bytes to those before it:
     A@3,-4       an SREF of the cell A
     A{           the beginning of a structure
     }            the end of a structure
-    139=09       the byte at 139 is set
+    139=09       the byte at 139 is set; with more digits, more bytes from there on
     <99          all bytes from 99 on are cut
+    >96          the words after this one put their bytes in at 96
+    XY:0,0;10,0  a record of GDSII by its name, with what it says; records.py has the names
+    [ 00 10 ]    a CBLOCK of OASIS with the bytes of the words inside, in a stored block of DEFLATE
+    ( 00 10 )*9  the bytes of the words inside, 9 times
     TOP          any other word of letters, digits and `_ . % $ -` is its letters
 
 A kind is added to KINDS, and a word to WORDS.
@@ -50,7 +54,8 @@ from functools import lru_cache
 sys.path.insert(0, os.path.join(os.path.dirname(os.path.abspath(__file__)), "..", "tools"))
 
 import layouts
-from lib import assembler, digest
+import records
+from lib import assembler, digest, oasis_blocks
 from lib.crafted import GDS_END, GDS_HEAD, OAS_END, OAS_HEAD
 
 # Between the bytes of `square.gds` are the bounds of its head, structure and boundary.
@@ -83,14 +88,19 @@ def put_layer(data, layer, datatype):
     data += assembler.short(0x0D, int(layer)) + assembler.short(0x0E, int(datatype))
 
 
-def put_byte(data, at, value):
-    data[int(at)] = int(value, 16)
+def put_bytes(data, at, digits):
+    data[int(at):int(at) + len(digits) // 2] = bytes.fromhex(digits)
 
 
 def cut(data, count):
     del data[int(count):]
 
 
+# The bytes of what stands in brackets, from those inside and what follows the closing one.
+BRACKETS = {
+    "[": (r"\]", lambda inside: oasis_blocks.written(inside, level=0)),
+    "(": (r"\)\*(\d+)", lambda inside, count: inside * int(count)),
+}
 # Each word as a pattern, and what adds it to the bytes; the first pattern that matches the whole word holds.
 WORDS = [
     (POINT + r"\.\." + POINT, put_box),
@@ -98,8 +108,9 @@ WORDS = [
     (POINT, put_point),
     (BYTE + r"\*(\d+)", lambda data, byte, count: put(data, bytes.fromhex(byte) * int(count))),
     (NUMBER + "/" + NUMBER, put_layer),
-    (r"(\d+)=" + BYTE, put_byte),
+    (r"(\d+)=((?:[0-9A-F]{2})+)", put_bytes),
     (r"<(\d+)", cut),
+    (r"(%s)(?::(\S*))?" % records.NAMES, lambda data, name, text: put(data, records.record(name, text or ""))),
     (r"(\S*)\{", lambda data, name: put(data, assembler.structure_start(name))),
     (r"\}", lambda data: put(data, assembler.STRUCTURE_END)),
     (BYTE, lambda data, byte: put(data, bytes.fromhex(byte))),
@@ -107,17 +118,40 @@ WORDS = [
 ]
 
 
+def add(data, word):
+    """Adds what a word says."""
+    for pattern, put_in in WORDS:
+        if found := re.fullmatch(pattern, word):
+            return put_in(data, *found.groups())
+    raise ValueError("no word of files: " + word)
+
+
+def inside(words, close):
+    """The bytes of the words up to a closing bracket, which are taken from the front, and what follows the bracket."""
+    held, depth = [], 0
+    while words:
+        word = words.pop(0)
+        if not depth and (found := re.fullmatch(close, word)):
+            return added(b"", " ".join(held)), *found.groups()
+        depth += (word in BRACKETS) - (word[0] in "])")
+        held.append(word)
+    raise ValueError("no closing bracket")
+
+
 def added(front, words):
     """The bytes in front, changed by each word in turn."""
-    data = bytearray(front)
-    for word in words.split():
-        for pattern, add in WORDS:
-            if found := re.fullmatch(pattern, word):
-                add(data, *found.groups())
-                break
+    data, rest, words = bytearray(front), b"", words.split()
+    while words:
+        word = words.pop(0)
+        if word in BRACKETS:
+            close, made = BRACKETS[word]
+            data += made(*inside(words, close))
+        elif found := re.fullmatch(r">(\d+)", word):
+            rest = bytes(data[int(found[1]):]) + rest
+            del data[int(found[1]):]
         else:
-            raise ValueError("no word of files: " + word)
-    return bytes(data)
+            add(data, word)
+    return bytes(data) + rest
 
 
 # What makes a file of this kind from its words; None is a folder.
