@@ -42,6 +42,7 @@ In `out`, `err` and `last` of a table a word in braces stands for a text:
     {head NAME}           the head that is printed of the file NAME
     {lines 1/0 0,0..3,4}  the lines of digests of boxes on Layers, from `layer` to `mask sha256`
     {mask 1/0 0,0..3,4}   the digest of a mask, 64 digits
+    {many 255 ~}          255 times the letter `~`
 
 A text is added to TEXTS.
 """
@@ -240,6 +241,7 @@ TEXTS = {
     "head": lambda name, files: head(files[name]),
     "lines": lambda words, files: lines(words),
     "mask": lambda words, files: lines(words).split()[-1],
+    "many": lambda words, files: words.split()[1] * int(words.split()[0]),
 }
 
 
