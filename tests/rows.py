@@ -186,8 +186,8 @@ def exchanged(run):
     return run._replace(words=[command, second, first, *options], out=turned_lines(run.out), err=err)
 
 
-def rows(table):
-    """The rows of a table."""
+def rows(table, patterns):
+    """The rows of a table whose label has one of the patterns; all, if there is none."""
     names = set()
     for columns in table.rows:
         label = "%s: %s: %s" % (os.path.basename(table.file), table.title, columns[0])
@@ -197,7 +197,8 @@ def rows(table):
             raise Wrong("%s: twice" % label)
         names.add(label)
         try:
-            yield row_of(table, columns, label)
+            if not patterns or any(pattern in label for pattern in patterns):
+                yield row_of(table, columns, label)
         except (ValueError, IndexError, KeyError, OSError) as wrong:
             raise Wrong("%s: %s %s" % (label, type(wrong).__name__, wrong)) from wrong
 
@@ -227,5 +228,5 @@ def row_of(table, columns, label):
     return Row(label, runs, table.templates[0].get("growths") == "yes")
 
 
-def all_rows(paths):
-    return [row for path in paths for table in tables(path) for row in rows(table)]
+def all_rows(paths, patterns=()):
+    return [row for path in paths for table in tables(path) for row in rows(table, patterns)]

@@ -14,6 +14,10 @@ The first word is the kind of file:
     oasis-um     records between START and END, of grid steps of a micrometre
     as-gds       a layout as GDSII of such steps; its words are described in layouts.py
     as-oas       a layout as OASIS of such steps
+    square-long  the square in GDSII, and zeros up to so many bytes
+    gds-chain    `N T`: structures C00001 to N, each of which places the next T times at 1,0; the last is a unit square
+    gds-many     `N`: N times the empty structure A, without an end
+    oasis-many   `N`: the empty cells 0000000 to N - 1, without an end
     text         a text as in `out`
     folder       no file, but a folder
 
@@ -155,7 +159,20 @@ def added(front, words):
     return bytes(data) + rest
 
 
-# What makes a file of this kind from its words; None is a folder.
+def chain(words):
+    """A chain of structures, as GDSII."""
+    cells, times = map(int, words.split())
+    name = lambda number: "C%05d" % number
+    links = [assembler.structure(name(at), assembler.sref(name(at + 1), 1) * times) for at in range(1, cells)]
+    return HEAD + b"".join(links) + assembler.structure(name(cells), assembler.box(0, 0, 1, 1)) + assembler.STREAM_END
+
+
+def many_cells(words):
+    """Empty cells of OASIS, with different names."""
+    return START + b"".join(assembler.cell_by_name(b"%07d" % number) for number in range(int(words)))
+
+
+# What makes a file of this kind from its words; None is a folder, and (data, N) is data and zeros up to N bytes.
 KINDS = {
     "gds": lambda words: added(HEAD + BEGIN, words) + REST,
     "gds-cells": lambda words: added(HEAD, words) + CLOSED,
@@ -167,6 +184,10 @@ KINDS = {
     "bytes": lambda words: added(b"", words),
     "gds-um": lambda words: added(GDS_HEAD, words) + GDS_END,
     "oasis-um": lambda words: added(OAS_HEAD, words) + OAS_END,
+    "square-long": lambda words: (SQUARE, int(words)),
+    "gds-chain": chain,
+    "gds-many": lambda words: HEAD + assembler.structure("A") * int(words),
+    "oasis-many": many_cells,
     "text": lambda words: unescaped(texts(words, {})),
     "folder": lambda words: None,
     "as-gds": layouts.as_gds,
