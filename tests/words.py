@@ -42,6 +42,7 @@ In `out`, `err` and `last` of a table a word in braces stands for a text:
     {head NAME}           the head that is printed of the file NAME
     {lines 1/0 0,0..3,4}  the lines of digests of boxes on Layers, from `layer` to `mask sha256`
     {mask 1/0 0,0..3,4}   the digest of a mask, 64 digits
+    {repeat x 300}        a text 300 times; in `line` too
 
 A text is added to TEXTS.
 """
@@ -227,6 +228,7 @@ TEXTS = {
     "head": lambda name, files: head(files[name]),
     "lines": lambda words, files: lines(words),
     "mask": lambda words, files: lines(words).split()[-1],
+    "repeat": lambda words, files: words.split()[0] * int(words.split()[1]),
 }
 
 
