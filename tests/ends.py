@@ -3,18 +3,24 @@ import os
 import pty
 import re
 import subprocess
+import tempfile
 
 
-def closed(opened):
+def closed(opened, *_):
     """What a program with a closed standard output is given: it is run by a shell that closes it."""
     return None
 
 
-def full(opened):
+def full(opened, *_):
     return opened.enter_context(open("/dev/full", "wb"))
 
 
-def broken(opened):
+def room(opened, *_):
+    """A file, of which a limit says how many bytes it takes."""
+    return opened.enter_context(tempfile.TemporaryFile())
+
+
+def broken(opened, *_):
     """A pipe that nobody reads."""
     reader, writer = os.pipe()
     os.close(reader)
@@ -22,7 +28,7 @@ def broken(opened):
     return writer
 
 
-OUTPUTS = {"closed": closed, "full": full, "broken": broken}
+OUTPUTS = {"closed": closed, "full": full, "broken": broken, "room": room}
 
 
 def streams(run, folder, settings, opened):
@@ -34,8 +40,11 @@ def streams(run, folder, settings, opened):
         if settings.pop("PIPE", None):
             found["stdin"] = subprocess.PIPE
             found["input"] = file.read()
-    if "output" in run.more:
-        found["stdout"] = OUTPUTS[run.more["output"][0]](opened)
+    for key, stream in (("output", "stdout"), ("errors", "stderr")):
+        if key in run.more:
+            kind, *size = run.more[key]
+            found[stream] = OUTPUTS[kind](opened)
+            found["room"] = int(size[0]) if size else None
     if "terminal" in run.more:
         settings["TERM"] = run.more["terminal"][0]
         found["master"], found["stderr"] = pty.openpty()
@@ -44,7 +53,11 @@ def streams(run, folder, settings, opened):
 
 def run(words, folder, settings, found):
     """What a program prints, and its exit status."""
-    given, master = found.pop("input", None), found.pop("master", None)
+    given, master, most = found.pop("input", None), found.pop("master", None), found.pop("room", None)
+    if most is not None:
+        # Python ignores SIGXFSZ, and so does the program, if signals aren't restored.
+        found["restore_signals"] = False
+        words = ["sh", "-c", 'exec prlimit --fsize="$0": "$@"', str(most), *words]
     if found["stdout"] is None:
         words = ["sh", "-c", 'exec "$0" "$@" >&-', *words]
     with subprocess.Popen(words, cwd=folder, env=settings, **found) as ran:
@@ -56,7 +69,16 @@ def run(words, folder, settings, found):
         except subprocess.TimeoutExpired:
             ran.kill()
             raise
-    return out or b"", err if master is None else shown, ran.returncode
+    out, err = (written(found[name], text) for name, text in (("stdout", out), ("stderr", err)))
+    return out, err if master is None else shown, ran.returncode
+
+
+def written(stream, text):
+    """What was written to a stream that is a file of this module, or what came through a pipe."""
+    if hasattr(stream, "readable") and stream.readable():
+        stream.seek(0)
+        return stream.read()
+    return text or b""
 
 
 def read_terminal(master):

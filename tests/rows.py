@@ -14,10 +14,12 @@ A table has templates, an empty line, and rows. The columns of a row are separat
 template stand for them, and `{0}` for the first, which is the name of the row. A line that ends in ` \\` goes on in
 the next one. These are the keys of templates:
 
-    line       the words of the command line, quoted as in a shell; in quotes `\\n` and `\\xFF` are as in `out`. The rows of a table with several lines are run with
-               each of them; what follows a `line` holds for it alone, but files and `for` hold for all
+    line       the words of the command line, quoted as in a shell; in quotes `\\n` and `\\xFF` are as in `out`. The
+               rows of a table with several lines are run with each of them; what follows a `line` holds for it
+               alone, but files and `for` hold for all
     out, err   what is printed there, with `\\n` for line feeds, `\\xFF` for a byte, and the texts of words.py; without
-               `err` nothing is printed there, and `err: *` is any lines that begin with `lvl: `
+               `err` nothing is printed there, and `err: *` is any lines that begin with `lvl: `. A text that ends in
+               ` *` is the beginning of what is printed
     last       in place of `out`, the last line. A comparison with a verdict has two head lines before it; a refusal
                stands alone
     heads      the two heads before `last`, separated by ` / `, where they are not those that the files' bytes say
@@ -28,8 +30,12 @@ the next one. These are the keys of templates:
     failing    `NAME N`: the read of the file NAME fails after N bytes, with EIO, or with an error that a third word
                names; it isn't read again, and no file after it is read
     reads      `NAME N ..`: the file NAME is read at most N times, and not after its end
+    unopened   `NAME EACCES`: the file NAME can't be opened, with this error
+    opens      so many files are opened, those among them that are looked at again after a refusal
     input      the name of the file that is standard input; the row is run with the file, and with a pipe
-    output     `closed`, `full` or `broken`: standard output is closed, a full disk, or a pipe that nobody reads
+    output     `closed`, `full` or `broken`: standard output is closed, a full disk, or a pipe that nobody reads;
+               `room N`: a file that takes N bytes
+    errors     `room N`: standard error is a file that takes N bytes
     terminal   standard error is a terminal of this kind
     progress   `NAME TEXT`: on standard error are the percents of the file NAME up to 100, and then the text
     megabytes  `NAME 1 2`: on standard error are so many megabytes of the file NAME
@@ -49,10 +55,9 @@ import words
 from words import texts, unescaped
 
 HERE = os.path.dirname(os.path.abspath(__file__))
-OF_LINE = {"line", "out", "err", "last", "heads", "text", "status", "pieces", "failing", "reads", "input", "output",
-           "terminal", "progress", "megabytes", "exchanged"}
+MORE = ["failing", "reads", "unopened", "opens", "input", "output", "errors", "terminal", "progress", "megabytes"]
+OF_LINE = {"line", "out", "err", "last", "heads", "text", "status", "pieces", "exchanged", *MORE}
 KEYS = OF_LINE | {"for", "same-for", "growths"}
-MORE = ["failing", "reads", "input", "output", "terminal", "progress", "megabytes"]
 STATUSES = [("differ: ", 1), ("refused: ", 2)]
 # The words of sides that the exchange of both files turns, in pairs; each pattern is tried at the same place.
 TURNED = [
