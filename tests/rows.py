@@ -11,8 +11,8 @@
     the name of a row | 139=09 147=09 | differ: layer 1 datatype 0 square 0 9 only in second
 
 A table has templates, an empty line, and rows. The columns of a row are separated by ` | `; `{1}`, `{2}`, .. in a
-template stand for them, and `{0}` for the first, which is the name of the row. A line that ends in ` \\` goes on in
-the next one. These are the keys of templates:
+template stand for them, and `{0}` for the first, which is the name of the row. A line that ends in `\\` goes on in
+the next one, whose first blanks are dropped. These are the keys of templates:
 
     line       the words of the command line, quoted as in a shell; in quotes `\\n` and `\\xFF` are as in `out`. The
                rows of a table with several lines are run with each of them; what follows a `line` holds for it
@@ -88,7 +88,7 @@ def joined(path):
                 continue
             begun = begun if held else number
             held += line.lstrip() if held else line
-            if held.endswith(" \\"):
+            if (len(held) - len(held.rstrip("\\"))) % 2:
                 held = held[:-1]
                 continue
             yield begun, held
