@@ -11,13 +11,15 @@
     the name of a row | 139=09 147=09 | differ: layer 1 datatype 0 square 0 9 only in second
 
 A table has templates, an empty line, and rows. The columns of a row are separated by ` | `; `{1}`, `{2}`, .. in a
-template stand for them, and `{0}` for the first, which is the name of the row. A line that ends in ` \\` goes on in
-the next one. These are the keys of templates:
+template stand for them, and `{0}` for the first, which is the name of the row. A line that ends in `\\` goes on in
+the next one, whose first blanks are dropped. These are the keys of templates:
 
-    line       the words of the command line, quoted as in a shell. The rows of a table with several lines are run with
-               each of them; what follows a `line` holds for it alone, but files and `for` hold for all
+    line       the words of the command line, quoted as in a shell; in quotes `\\n` and `\\xFF` are as in `out`. The
+               rows of a table with several lines are run with each of them; what follows a `line` holds for it
+               alone, but files and `for` hold for all
     out, err   what is printed there, with `\\n` for line feeds, `\\xFF` for a byte, and the texts of words.py; without
-               `err` nothing is printed there, and `err: *` is any lines that begin with `lvl: `
+               `err` nothing is printed there, and `err: *` is any lines that begin with `lvl: `. A text that ends in
+               ` *` is the beginning of what is printed
     last       in place of `out`, the last line. A comparison with a verdict has two head lines before it; a refusal
                stands alone
     heads      the two heads before `last`, separated by ` / `, where they are not those that the files' bytes say
@@ -28,7 +30,15 @@ the next one. These are the keys of templates:
     failing    `NAME N`: the read of the file NAME fails after N bytes, with EIO, or with an error that a third word
                names; it isn't read again, and no file after it is read
     reads      `NAME N ..`: the file NAME is read at most N times, and not after its end
-    input      the name of the file that is standard input
+    unopened   `NAME EACCES`: the file NAME can't be opened, with this error
+    opens      so many files are opened, those among them that are looked at again after a refusal
+    input      the name of the file that is standard input; the row is run with the file, and with a pipe
+    output     `closed`, `full` or `broken`: standard output is closed, a full disk, or a pipe that nobody reads;
+               `room N`: a file that takes N bytes
+    errors     `room N`: standard error is a file that takes N bytes
+    terminal   standard error is a terminal of this kind
+    progress   `NAME TEXT`: on standard error are the percents of the file NAME up to 100, and then the text
+    megabytes  `NAME 1 2`: on standard error are so many megabytes of the file NAME
     exchanged  `yes`: the row is run again with both files of the line exchanged, and the sides turned in what is
                printed
     same-for   kinds of files: the row is run for each of them, which is the kind of the files that are a `layout`
@@ -45,7 +55,8 @@ import words
 from words import texts, unescaped
 
 HERE = os.path.dirname(os.path.abspath(__file__))
-OF_LINE = {"line", "out", "err", "last", "heads", "text", "status", "pieces", "failing", "reads", "input", "exchanged"}
+MORE = ["failing", "reads", "unopened", "opens", "input", "output", "errors", "terminal", "progress", "megabytes"]
+OF_LINE = {"line", "out", "err", "last", "heads", "text", "status", "pieces", "exchanged", *MORE}
 KEYS = OF_LINE | {"for", "same-for", "growths"}
 STATUSES = [("differ: ", 1), ("refused: ", 2)]
 # The words of sides that the exchange of both files turns, in pairs; each pattern is tried at the same place.
@@ -58,8 +69,8 @@ TURNED = [
 
 # The templates of a table are a list: those of files and of all lines first, then those of each line.
 Table = namedtuple("Table", "file title templates rows")
-# A line of the program: its words, files by name, what it prints, and what else is said of it.
-Run = namedtuple("Run", "words files out err status input pieces failing reads")
+# A line of the program: its words, files by name, what it prints, and the templates of MORE that it has.
+Run = namedtuple("Run", "words files out err status more pieces")
 Row = namedtuple("Row", "label runs growths")
 
 
@@ -77,7 +88,7 @@ def joined(path):
                 continue
             begun = begun if held else number
             held += line.lstrip() if held else line
-            if held.endswith(" \\"):
+            if (len(held) - len(held.rstrip("\\"))) % 2:
                 held = held[:-1]
                 continue
             yield begun, held
@@ -134,7 +145,8 @@ def with_heads(last, given, files):
     if given[1]:
         heads = given[1].split(" / ")
     else:
-        names = shlex.split(given[0])[1:3]
+        names = [word for word in line_words(given[0])[1:] if word in files or word == "-"][:2]
+        names = [given[2] if name == "-" else name for name in names]
         heads = [words.head(files[name]) for name in names]
     return "first: %s\nsecond: %s\n%s\n" % (*heads, last)
 
@@ -146,7 +158,7 @@ def printed(table, said, files):
             return file.read()
     if "last" in said:
         line = texts(said["last"], files)
-        return unescaped(with_heads(line, (said["line"], said.get("heads")), files))
+        return unescaped(with_heads(line, (said["line"], said.get("heads"), said.get("input")), files))
     if "out" not in said:
         raise Wrong("%s: %s: neither out nor last" % (table.file, table.title))
     return unescaped(texts(said["out"], files))
@@ -160,8 +172,14 @@ def run_of(table, said):
     status = int(said["status"]) if said.get("status") else ending(out)
     err = None if err == "*" else unescaped(texts(err, files))
     pieces = [int(size) for size in said.get("pieces", "").split()]
-    return Run(shlex.split(said["line"]), files, out, err, status, said.get("input"), pieces,
-               said.get("failing", "").split(), said.get("reads", "").split())
+    more = {key: said[key].split() for key in MORE if said.get(key)}
+    return Run(line_words(said["line"]), files, out, err, status, more, pieces)
+
+
+def line_words(line):
+    """The words of a command line, as text or bytes."""
+    found = [unescaped(texts(word, {})) for word in shlex.split(line)]
+    return [word.decode() if word.isascii() else word for word in found]
 
 
 def turned_lines(text):

@@ -9,8 +9,12 @@ The first word is the kind of file:
     oasis-begin  all that follows START
     square.gds   the square 0..10 by 0..10 on 1/0 in a structure TOP, and the words after it
     square.oas   the same in OASIS, and the words after it
+    unit.gds     `square.gds` with other bytes for the metres in a grid step
+    unit.oas     `square.oas` with another real as the unit of START
     bytes        nothing but the words
     gds-um       structures, in GDSII of grid steps of a micrometre
+    gds-nm       the same of a nanometre
+    gds-2nm      the same of two nanometres
     oasis-um     records between START and END, of grid steps of a micrometre
     as-gds       a layout as GDSII of such steps; its words are described in layouts.py
     as-oas       a layout as OASIS of such steps
@@ -46,7 +50,8 @@ In `out`, `err` and `last` of a table a word in braces stands for a text:
     {head NAME}           the head that is printed of the file NAME
     {lines 1/0 0,0..3,4}  the lines of digests of boxes on Layers, from `layer` to `mask sha256`
     {mask 1/0 0,0..3,4}   the digest of a mask, 64 digits
-    {many 255 ~}          255 times the letter `~`
+    {repeat x 300}        a text 300 times; in `line` too
+    {file NAME}           the text of the file NAME in tests/texts
 
 A text is added to TEXTS.
 """
@@ -56,7 +61,8 @@ import struct
 import sys
 from functools import lru_cache
 
-sys.path.insert(0, os.path.join(os.path.dirname(os.path.abspath(__file__)), "..", "tools"))
+HERE = os.path.dirname(os.path.abspath(__file__))
+sys.path.insert(0, os.path.join(HERE, "..", "tools"))
 
 import layouts
 import records
@@ -73,6 +79,7 @@ START = assembler.MAGIC + assembler.start(b"\0\xE8\7")
 END = assembler.end()
 TOP = assembler.cell_by_name(b"TOP")
 RECTANGLE = bytes.fromhex("147B01000A0A0000")
+NANOMETRE, TWO_NANOMETRES = bytes.fromhex("0" * 16 + "3944B82FA09B5A54"), bytes.fromhex("0" * 16 + "3989705F4136B4A8")
 NUMBER, BYTE = r"(-?\d+)", r"([0-9A-F]{2})"
 POINT = NUMBER + "," + NUMBER
 
@@ -181,8 +188,12 @@ KINDS = {
     "oasis-begin": lambda words: added(START, words),
     "square.gds": lambda words: added(SQUARE, words),
     "square.oas": lambda words: added(START + TOP + RECTANGLE + END, words),
+    "unit.gds": lambda words: SQUARE[:52] + added(b"", words) + SQUARE[60:],
+    "unit.oas": lambda words: START[:18] + added(b"", words) + START[21:] + TOP + RECTANGLE + END,
     "bytes": lambda words: added(b"", words),
     "gds-um": lambda words: added(GDS_HEAD, words) + GDS_END,
+    "gds-nm": lambda words: added(assembler.stream_head(units=NANOMETRE), words) + GDS_END,
+    "gds-2nm": lambda words: added(assembler.stream_head(units=TWO_NANOMETRES), words) + GDS_END,
     "oasis-um": lambda words: added(OAS_HEAD, words) + OAS_END,
     "square-long": lambda words: (SQUARE, int(words)),
     "gds-chain": chain,
@@ -257,12 +268,19 @@ def lines(words):
     return digest.lines(layers(words))
 
 
+def kept(name):
+    """The text of a file in tests/texts, spelled as in `out`."""
+    with open(os.path.join(HERE, "texts", name), encoding="utf-8") as file:
+        return file.read().replace("\\", "\\\\").replace("\n", "\\n")
+
+
 # What a word in braces stands for, from the words after it and the bytes of the row's files by name.
 TEXTS = {
     "head": lambda name, files: head(files[name]),
     "lines": lambda words, files: lines(words),
     "mask": lambda words, files: lines(words).split()[-1],
-    "many": lambda words, files: words.split()[1] * int(words.split()[0]),
+    "file": lambda name, files: kept(name),
+    "repeat": lambda words, files: words.split()[0] * int(words.split()[1]),
 }
 
 
