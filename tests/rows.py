@@ -190,8 +190,8 @@ def turned_lines(text):
     out = text.decode("latin-1")
     for pattern, other in TURNED:
         out = re.sub(pattern, lambda it: it[0].replace(it[1], other[it[1]]), out, flags=re.MULTILINE)
-    out = re.sub(r": (.*) in the (?:first|second) file, (.*) in the (?:first|second)$",
-                 r": \2 in the first file, \1 in the second", out, flags=re.MULTILINE)
+    out = re.sub(r"differ: (.*) in the (?:first|second) file, (.*) in the (?:first|second)$",
+                 r"differ: \2 in the first file, \1 in the second", out, flags=re.MULTILINE)
     return out.encode("latin-1")
 
 
