@@ -11,23 +11,37 @@
     the name of a row | 139=09 147=09 | differ: layer 1 datatype 0 square 0 9 only in second
 
 A table has templates, an empty line, and rows. The columns of a row are separated by ` | `; `{1}`, `{2}`, .. in a
-template stand for them, and `{0}` for the first, which is the name of the row. A line that ends in ` \\` goes on in
-the next one. These are the keys of templates:
+template stand for them, and `{0}` for the first, which is the name of the row. A line that ends in `\\` goes on in
+the next one, whose first blanks are dropped. These are the keys of templates:
 
-    line       the words of the command line, quoted as in a shell
+    line       the words of the command line, quoted as in a shell; in quotes `\\n` and `\\xFF` are as in `out`. The
+               rows of a table with several lines are run with each of them; what follows a `line` holds for it
+               alone, but files and `for` hold for all
     out, err   what is printed there, with `\\n` for line feeds, `\\xFF` for a byte, and the texts of words.py; without
-               `err` nothing is printed there, and `err: *` is any lines that begin with `lvl: `
+               `err` nothing is printed there, and `err: *` is any lines that begin with `lvl: `. A text that ends in
+               ` *` is the beginning of what is printed
     last       in place of `out`, the last line. A comparison with a verdict has two head lines before it; a refusal
                stands alone
     heads      the two heads before `last`, separated by ` / `, where they are not those that the files' bytes say
     text       in place of `out`, the file in tests/texts that has it
     status     the exit status, where it isn't that of the last line: 0, 1 after `differ: `, 2 after `refused: `
     pieces     the row is run again for each of these numbers, with reads that give at most so many bytes
-    failing    `NAME N`: the read of the file NAME fails after N bytes
-    input      the name of the file that is standard input
-    exchanged  `yes`: the row is run again with both files of the line exchanged, and the sides turned in what is printed
+    for        `k M N`: the row is run for each number from M up to N, but not N, for which `{k}` stands
+    failing    `NAME N`: the read of the file NAME fails after N bytes, with EIO, or with an error that a third word
+               names; it isn't read again, and no file after it is read
+    reads      `NAME N ..`: the file NAME is read at most N times, and not after its end
+    unopened   `NAME EACCES`: the file NAME can't be opened, with this error
+    opens      so many files are opened, those among them that are looked at again after a refusal
+    input      the name of the file that is standard input; the row is run with the file, and with a pipe
+    output     `closed`, `full` or `broken`: standard output is closed, a full disk, or a pipe that nobody reads;
+               `room N`: a file that takes N bytes
+    errors     `room N`: standard error is a file that takes N bytes
+    terminal   standard error is a terminal of this kind
+    progress   `NAME TEXT`: on standard error are the percents of the file NAME up to 100, and then the text
+    megabytes  `NAME 1 2`: on standard error are so many megabytes of the file NAME
+    exchanged  `yes`: the row is run again with both files of the line exchanged, and the sides turned in what is
+               printed
     same-for   kinds of files: the row is run for each of them, which is the kind of the files that are a `layout`
-    numbers    `0..9`: the rows are named by these numbers and have no other columns
     growths    `yes`: `make growths` also runs these rows, with each allocation refused in turn
 
 Any other key is the name of a file in the folder where the program runs; words.py says how it is written.
@@ -38,10 +52,12 @@ import shlex
 from collections import namedtuple
 
 import words
+from words import texts, unescaped
 
 HERE = os.path.dirname(os.path.abspath(__file__))
-KEYS = {"line", "out", "err", "last", "heads", "text", "status", "pieces", "failing", "input", "exchanged", "same-for",
-        "growths", "numbers"}
+MORE = ["failing", "reads", "unopened", "opens", "input", "output", "errors", "terminal", "progress", "megabytes"]
+OF_LINE = {"line", "out", "err", "last", "heads", "text", "status", "pieces", "exchanged", *MORE}
+KEYS = OF_LINE | {"for", "same-for", "growths"}
 STATUSES = [("differ: ", 1), ("refused: ", 2)]
 # The words of sides that the exchange of both files turns, in pairs; each pattern is tried at the same place.
 TURNED = [
@@ -51,11 +67,11 @@ TURNED = [
     (r"(--top-a|--top-b)\b", {"--top-a": "--top-b", "--top-b": "--top-a"}),
 ]
 
+# The templates of a table are a list: those of files and of all lines first, then those of each line.
 Table = namedtuple("Table", "file title templates rows")
-# A line of the program: its words, files by name, and what it prints.
-Run = namedtuple("Run", "words files out err status input")
-# A row, with the runs that it needs: the first, its variants, and the sizes of pieces.
-Row = namedtuple("Row", "label runs pieces failing growths")
+# A line of the program: its words, files by name, what it prints, and the templates of MORE that it has.
+Run = namedtuple("Run", "words files out err status more pieces")
+Row = namedtuple("Row", "label runs growths")
 
 
 class Wrong(Exception):
@@ -72,7 +88,7 @@ def joined(path):
                 continue
             begun = begun if held else number
             held += line.lstrip() if held else line
-            if held.endswith(" \\"):
+            if (len(held) - len(held.rstrip("\\"))) % 2:
                 held = held[:-1]
                 continue
             yield begun, held
@@ -81,10 +97,10 @@ def joined(path):
 
 def tables(path):
     """The tables of a file."""
-    shared, found, in_rows = {}, [], False
+    shared, found, in_rows = [{}], [], False
     for number, line in joined(path):
         if line.startswith("== "):
-            found.append(Table(path, line[3:].rstrip("."), dict(shared), []))
+            found.append(Table(path, line[3:].rstrip("."), [dict(each) for each in shared], []))
             in_rows = False
         elif not line.strip():
             in_rows = bool(found)
@@ -94,31 +110,26 @@ def tables(path):
             key, colon, value = line.partition(":")
             if not colon:
                 raise Wrong("%s, line %d: no template: %s" % (path, number, line))
-            (found[-1].templates if found else shared)[key] = value.strip()
+            add_template(found[-1].templates if found else shared, unescaped(key).decode(), value.strip())
     return found
+
+
+def add_template(templates, key, value):
+    """Adds a template of the last line, or of all lines if it is of a file."""
+    if key == "line" and templates[-1].get("line") is not None:
+        templates.append({})
+    templates[-1 if key in OF_LINE else 0][key] = value
+
+
+def of_lines(templates):
+    """For each line all templates that hold for it."""
+    everywhere = {key: value for key, value in templates[0].items() if key not in OF_LINE}
+    return [{**everywhere, **of_line} for of_line in templates]
 
 
 def filled(template, columns):
     """A template with the columns of a row in their places."""
     return re.sub(r"\{(\d+)\}", lambda found: columns[int(found[1])], template)
-
-
-def unescaped(text):
-    """The bytes of a text of a row."""
-    bytes_of = {"n": b"\n", "\\": b"\\", "e": b"\x1b", "r": b"\r", "t": b"\t"}
-    parts = re.split(r"\\(x[0-9A-Fa-f]{2}|.)", text)
-    out = parts[0].encode()
-    for escape, plain in zip(parts[1::2], parts[2::2]):
-        out += (bytes.fromhex(escape[1:]) if len(escape) == 3 else bytes_of[escape]) + plain.encode()
-    return out
-
-
-def texts(text, files):
-    """A text with the words in braces computed."""
-    word = r"\{(%s)(?: ([^{}]*))?\}" % "|".join(words.TEXTS)
-    while re.search(word, text):
-        text = re.sub(word, lambda it: words.TEXTS[it[1]](it[2] or "", files), text)
-    return text
 
 
 def ending(out):
@@ -134,7 +145,8 @@ def with_heads(last, given, files):
     if given[1]:
         heads = given[1].split(" / ")
     else:
-        names = shlex.split(given[0])[1:3]
+        names = [word for word in line_words(given[0])[1:] if word in files or word == "-"][:2]
+        names = [given[2] if name == "-" else name for name in names]
         heads = [words.head(files[name]) for name in names]
     return "first: %s\nsecond: %s\n%s\n" % (*heads, last)
 
@@ -146,7 +158,7 @@ def printed(table, said, files):
             return file.read()
     if "last" in said:
         line = texts(said["last"], files)
-        return unescaped(with_heads(line, (said["line"], said.get("heads")), files))
+        return unescaped(with_heads(line, (said["line"], said.get("heads"), said.get("input")), files))
     if "out" not in said:
         raise Wrong("%s: %s: neither out nor last" % (table.file, table.title))
     return unescaped(texts(said["out"], files))
@@ -155,12 +167,19 @@ def printed(table, said, files):
 def run_of(table, said):
     """The run of a row's filled templates."""
     files = {name: words.file(value) for name, value in said.items() if name not in KEYS}
-    said = {**said, "line": texts(said["line"], files)}
     out = printed(table, said, files)
     err = said.get("err", "")
     status = int(said["status"]) if said.get("status") else ending(out)
-    return Run(shlex.split(said["line"]), files, out, None if err == "*" else unescaped(texts(err, files)), status,
-               said.get("input"))
+    err = None if err == "*" else unescaped(texts(err, files))
+    pieces = [int(size) for size in said.get("pieces", "").split()]
+    more = {key: said[key].split() for key in MORE if said.get(key)}
+    return Run(line_words(said["line"]), files, out, err, status, more, pieces)
+
+
+def line_words(line):
+    """The words of a command line, as text or bytes."""
+    found = [unescaped(word) for word in shlex.split(texts(line, {}))]
+    return [word.decode() if word.isascii() else word for word in found]
 
 
 def turned_lines(text):
@@ -171,8 +190,8 @@ def turned_lines(text):
     out = text.decode("latin-1")
     for pattern, other in TURNED:
         out = re.sub(pattern, lambda it: it[0].replace(it[1], other[it[1]]), out, flags=re.MULTILINE)
-    out = re.sub(r": (.*) in the (?:first|second) file, (.*) in the (?:first|second)$",
-                 r": \2 in the first file, \1 in the second", out, flags=re.MULTILINE)
+    out = re.sub(r"differ: (.*) in the (?:first|second) file, (.*) in the (?:first|second)$",
+                 r"differ: \2 in the first file, \1 in the second", out, flags=re.MULTILINE)
     return out.encode("latin-1")
 
 
@@ -185,41 +204,47 @@ def exchanged(run):
     return run._replace(words=[command, second, first, *options], out=turned_lines(run.out), err=err)
 
 
-def listed(table):
-    """The columns of the rows of a table."""
-    if "numbers" not in table.templates:
-        return table.rows
-    first, last = map(int, table.templates["numbers"].split(".."))
-    return [[str(number)] for number in range(first, last + 1)]
-
-
-def rows(table):
-    """The rows of a table."""
-    names, every = set(), listed(table)
-    for columns in every:
+def rows(table, patterns):
+    """The rows of a table whose label has one of the patterns; all, if there is none."""
+    names = set()
+    for columns in table.rows:
         label = "%s: %s: %s" % (os.path.basename(table.file), table.title, columns[0])
-        if len(columns) != len(every[0]):
-            raise Wrong("%s: it has %d columns, and the first row %d" % (label, len(columns), len(every[0])))
+        if len(columns) != len(table.rows[0]):
+            raise Wrong("%s: it has %d columns, and the first row %d" % (label, len(columns), len(table.rows[0])))
         if label in names:
             raise Wrong("%s: twice" % label)
         names.add(label)
         try:
-            yield row_of(table, columns, label)
+            if not patterns or any(pattern in label for pattern in patterns):
+                yield row_of(table, columns, label)
         except (ValueError, IndexError, KeyError, OSError) as wrong:
             raise Wrong("%s: %s %s" % (label, type(wrong).__name__, wrong)) from wrong
 
 
+def numbered(said):
+    """The templates for each of the numbers of `for`."""
+    if "for" not in said:
+        return [said]
+    name, low, high = said["for"].split()
+    return [{key: value.replace("{%s}" % name, str(k)) for key, value in said.items() if key != "for"}
+            for k in range(int(low), int(high))]
+
+
+def spelled(said):
+    """The templates for each of the kinds of `same-for`."""
+    kinds = said.get("same-for", "").split()
+    return [{key: re.sub(r"^layout\b", kind, value) if key not in KEYS else value for key, value in said.items()}
+            for kind in kinds] or [said]
+
+
 def row_of(table, columns, label):
-    said = {key: filled(value, columns) for key, value in table.templates.items()}
-    kinds = said.pop("same-for", "").split()
-    spelled = [{key: re.sub(r"^layout\b", kind, value) if key not in KEYS else value for key, value in said.items()}
-               for kind in kinds] or [said]
-    runs = [run_of(table, each) for each in spelled]
-    if said.get("exchanged") == "yes":
-        runs += [exchanged(run) for run in runs]
-    pieces = [int(size) for size in said.get("pieces", "").split()]
-    return Row(label, runs, pieces, said.get("failing", "").split(), said.get("growths") == "yes")
+    runs = []
+    for templates in of_lines(table.templates):
+        said = {key: filled(value, columns) for key, value in templates.items()}
+        found = [run_of(table, each) for numbers in numbered(said) for each in spelled(numbers)]
+        runs += found + ([exchanged(run) for run in found] if said.get("exchanged") == "yes" else [])
+    return Row(label, runs, table.templates[0].get("growths") == "yes")
 
 
-def all_rows(paths):
-    return [row for path in paths for table in tables(path) for row in rows(table)]
+def all_rows(paths, patterns=()):
+    return [row for path in paths for table in tables(path) for row in rows(table, patterns)]

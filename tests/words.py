@@ -9,10 +9,22 @@ The first word is the kind of file:
     oasis-begin  all that follows START
     square.gds   the square 0..10 by 0..10 on 1/0 in a structure TOP, and the words after it
     square.oas   the same in OASIS, and the words after it
+    unit.gds     `square.gds` with other bytes for the metres in a grid step
+    unit.oas     `square.oas` with another real as the unit of START
     bytes        nothing but the words
-    as-gds       a layout as GDSII, in micrometres; its words are described in layouts.py
-    as-oas       a layout as OASIS, in micrometres
+    gds-um       structures, in GDSII of grid steps of a micrometre
+    gds-nm       the same of a nanometre
+    gds-2nm      the same of two nanometres
+    oasis-um     records between START and END, of grid steps of a micrometre
+    as-gds       a layout as GDSII of such steps; its words are described in layouts.py
+    as-oas       a layout as OASIS of such steps
+    square-long  the square in GDSII, and zeros up to so many bytes
+    gds-chain    `N T`: structures C00001 to N, each of which places the next T times at 1,0; the last is a unit square
+    gds-many     `N`: N times the empty structure A, without an end
+    oasis-many   `N`: the empty cells 0000000 to N - 1, without an end
     oasis-NAME   a file of very many records, by numbers; made_files.py has the names
+    text         a text as in `out`
+    folder       no file, but a folder
 
 The other words, each of which adds bytes to those before it:
 
@@ -24,8 +36,12 @@ The other words, each of which adds bytes to those before it:
     A@3,-4       an SREF of the cell A
     A{           the beginning of a structure
     }            the end of a structure
-    139=09       the byte at 139 is set
+    139=09       the byte at 139 is set; with more digits, more bytes from there on
     <99          all bytes from 99 on are cut
+    >96          the words after this one put their bytes in at 96
+    XY:0,0;10,0  a record of GDSII by its name, with what it says; records.py has the names
+    [ 00 10 ]    a CBLOCK of OASIS with the bytes of the words inside, in a stored block of DEFLATE
+    ( 00 10 )*9  the bytes of the words inside, 9 times
     TOP          any other word of letters, digits and `_ . % $ -` is its letters
 
 A kind is added to KINDS, and a word to WORDS.
@@ -37,6 +53,8 @@ In `out`, `err` and `last` of a table a word in braces stands for a text:
     {mask 1/0 0,0..3,4}   the digest of a mask, 64 digits
     {verdict WORDS}       the verdict on the files that these words of a line compare, as verdicts.py finds it
     {view 3}              the options of a made map and a made window; so are `{window 3}` and `{change 3}`
+    {repeat x 300}        a text 300 times; in `line` too
+    {file NAME}           the text of the file NAME in tests/texts
 
 A text is added to TEXTS.
 """
@@ -46,13 +64,16 @@ import struct
 import sys
 from functools import lru_cache
 
-sys.path.insert(0, os.path.join(os.path.dirname(os.path.abspath(__file__)), "..", "tools"))
+HERE = os.path.dirname(os.path.abspath(__file__))
+sys.path.insert(0, os.path.join(HERE, "..", "tools"))
 
 import layouts
 import made
 import made_files
+import records
 import verdicts
-from lib import assembler, digest
+from lib import assembler, digest, oasis_blocks
+from lib.crafted import GDS_END, GDS_HEAD, OAS_END, OAS_HEAD
 
 # Between the bytes of `square.gds` are the bounds of its head, structure and boundary.
 SQUARE = assembler.short(0, 600) + assembler.record(1, 2, bytes(24)) + assembler.record(2, 6, b"LB") + \
@@ -64,6 +85,7 @@ START = assembler.MAGIC + assembler.start(b"\0\xE8\7")
 END = assembler.end()
 TOP = assembler.cell_by_name(b"TOP")
 RECTANGLE = bytes.fromhex("147B01000A0A0000")
+NANOMETRE, TWO_NANOMETRES = bytes.fromhex("0" * 16 + "3944B82FA09B5A54"), bytes.fromhex("0" * 16 + "3989705F4136B4A8")
 NUMBER, BYTE = r"(-?\d+)", r"([0-9A-F]{2})"
 POINT = NUMBER + "," + NUMBER
 
@@ -84,14 +106,19 @@ def put_layer(data, layer, datatype):
     data += assembler.short(0x0D, int(layer)) + assembler.short(0x0E, int(datatype))
 
 
-def put_byte(data, at, value):
-    data[int(at)] = int(value, 16)
+def put_bytes(data, at, digits):
+    data[int(at):int(at) + len(digits) // 2] = bytes.fromhex(digits)
 
 
 def cut(data, count):
     del data[int(count):]
 
 
+# The bytes of what stands in brackets, from those inside and what follows the closing one.
+BRACKETS = {
+    "[": (r"\]", lambda inside: oasis_blocks.written(inside, level=0)),
+    "(": (r"\)\*(\d+)", lambda inside, count: inside * int(count)),
+}
 # Each word as a pattern, and what adds it to the bytes; the first pattern that matches the whole word holds.
 WORDS = [
     (POINT + r"\.\." + POINT, put_box),
@@ -99,8 +126,9 @@ WORDS = [
     (POINT, put_point),
     (BYTE + r"\*(\d+)", lambda data, byte, count: put(data, bytes.fromhex(byte) * int(count))),
     (NUMBER + "/" + NUMBER, put_layer),
-    (r"(\d+)=" + BYTE, put_byte),
+    (r"(\d+)=((?:[0-9A-F]{2})+)", put_bytes),
     (r"<(\d+)", cut),
+    (r"(%s)(?::(\S*))?" % records.NAMES, lambda data, name, text: put(data, records.record(name, text or ""))),
     (r"(\S*)\{", lambda data, name: put(data, assembler.structure_start(name))),
     (r"\}", lambda data: put(data, assembler.STRUCTURE_END)),
     (BYTE, lambda data, byte: put(data, bytes.fromhex(byte))),
@@ -108,29 +136,77 @@ WORDS = [
 ]
 
 
+def add(data, word):
+    """Adds what a word says."""
+    for pattern, put_in in WORDS:
+        if found := re.fullmatch(pattern, word):
+            return put_in(data, *found.groups())
+    raise ValueError("no word of files: " + word)
+
+
+def inside(words, close):
+    """The bytes of the words up to a closing bracket, which are taken from the front, and what follows the bracket."""
+    held, depth = [], 0
+    while words:
+        word = words.pop(0)
+        if not depth and (found := re.fullmatch(close, word)):
+            return added(b"", " ".join(held)), *found.groups()
+        depth += (word in BRACKETS) - (word[0] in "])")
+        held.append(word)
+    raise ValueError("no closing bracket")
+
+
 def added(front, words):
     """The bytes in front, changed by each word in turn."""
-    data = bytearray(front)
-    for word in words.split():
-        for pattern, add in WORDS:
-            if found := re.fullmatch(pattern, word):
-                add(data, *found.groups())
-                break
+    data, rest, words = bytearray(front), b"", words.split()
+    while words:
+        word = words.pop(0)
+        if word in BRACKETS:
+            close, made = BRACKETS[word]
+            data += made(*inside(words, close))
+        elif found := re.fullmatch(r">(\d+)", word):
+            rest = bytes(data[int(found[1]):]) + rest
+            del data[int(found[1]):]
         else:
-            raise ValueError("no word of files: " + word)
-    return bytes(data)
+            add(data, word)
+    return bytes(data) + rest
 
 
-# What makes a file of this kind from its words.
+def chain(words):
+    """A chain of structures, as GDSII."""
+    cells, times = map(int, words.split())
+    name = lambda number: "C%05d" % number
+    links = [assembler.structure(name(at), assembler.sref(name(at + 1), 1) * times) for at in range(1, cells)]
+    return HEAD + b"".join(links) + assembler.structure(name(cells), assembler.box(0, 0, 1, 1)) + assembler.STREAM_END
+
+
+def many_cells(words):
+    """Empty cells of OASIS, with different names."""
+    return START + b"".join(assembler.cell_by_name(b"%07d" % number) for number in range(int(words)))
+
+
+# What makes a file of this kind from its words; None is a folder, and (data, N) is data and zeros up to N bytes.
 KINDS = {
-    "gds": lambda words: HEAD + BEGIN + added(b"", words) + REST,
-    "gds-cells": lambda words: HEAD + added(b"", words) + CLOSED,
-    "oasis": lambda words: START + TOP + added(b"", words) + END,
-    "oasis-cells": lambda words: START + added(b"", words) + END,
+    "gds": lambda words: added(HEAD + BEGIN, words) + REST,
+    "gds-cells": lambda words: added(HEAD, words) + CLOSED,
+    "oasis": lambda words: added(START + TOP, words) + END,
+    "oasis-cells": lambda words: added(START, words) + END,
     "oasis-begin": lambda words: added(START, words),
     "square.gds": lambda words: added(SQUARE, words),
     "square.oas": lambda words: added(START + TOP + RECTANGLE + END, words),
+    "unit.gds": lambda words: SQUARE[:52] + added(b"", words) + SQUARE[60:],
+    "unit.oas": lambda words: START[:18] + added(b"", words) + START[21:] + TOP + RECTANGLE + END,
     "bytes": lambda words: added(b"", words),
+    "gds-um": lambda words: added(GDS_HEAD, words) + GDS_END,
+    "gds-nm": lambda words: added(assembler.stream_head(units=NANOMETRE), words) + GDS_END,
+    "gds-2nm": lambda words: added(assembler.stream_head(units=TWO_NANOMETRES), words) + GDS_END,
+    "oasis-um": lambda words: added(OAS_HEAD, words) + OAS_END,
+    "square-long": lambda words: (SQUARE, int(words)),
+    "gds-chain": chain,
+    "gds-many": lambda words: HEAD + assembler.structure("A") * int(words),
+    "oasis-many": many_cells,
+    "text": lambda words: unescaped(texts(words, {})),
+    "folder": lambda words: None,
     "as-gds": layouts.as_gds,
     "as-oas": layouts.as_oas,
 }
@@ -200,6 +276,12 @@ def lines(words):
     return digest.lines(layers(words))
 
 
+def kept(name):
+    """The text of a file in tests/texts, spelled as in `out`."""
+    with open(os.path.join(HERE, "texts", name), encoding="utf-8") as file:
+        return file.read().replace("\\", "\\\\").replace("\n", "\\n")
+
+
 # What a word in braces stands for, from the words after it and the bytes of the row's files by name.
 TEXTS = {
     "head": lambda name, files: head(files[name]),
@@ -209,4 +291,24 @@ TEXTS = {
     "view": lambda words, files: made.view(int(words)),
     "window": lambda words, files: made.window(int(words)),
     "change": lambda words, files: made.change(int(words)),
+    "file": lambda name, files: kept(name),
+    "repeat": lambda words, files: words.split()[0] * int(words.split()[1]),
 }
+
+
+def texts(text, files):
+    """A text with the words in braces computed."""
+    word = r"\{(%s)(?: ([^{}]*))?\}" % "|".join(TEXTS)
+    while re.search(word, text):
+        text = re.sub(word, lambda it: TEXTS[it[1]](it[2] or "", files), text)
+    return text
+
+
+def unescaped(text):
+    """The bytes of a text of a row."""
+    bytes_of = {"n": b"\n", "\\": b"\\", "e": b"\x1b", "r": b"\r", "t": b"\t"}
+    parts = re.split(r"\\(x[0-9A-Fa-f]{2}|.)", text)
+    out = parts[0].encode()
+    for escape, plain in zip(parts[1::2], parts[2::2]):
+        out += (bytes.fromhex(escape[1:]) if len(escape) == 3 else bytes_of[escape]) + plain.encode()
+    return out
