@@ -150,6 +150,12 @@ def again_path(many, runs):
 
 
 # Cells.
+def links(many):
+    """The lines that say how such cells lead from the last to the first, where each places the one before once."""
+    lines = "why: reference 1 of 1 to C%d, place 1 of 1, at 0 0 turned 0\n"
+    return "why: cell C%d\n" % (many - 1) + "".join(lines % number for number in range(many - 1)[::-1])
+
+
 def many(many):
     """So many references to the cell A, at a place each."""
     return ["A@0,%d" % y for y in range(many)]
@@ -159,7 +165,7 @@ def rows_of(many, columns, rows, step):
     """Cells of which each places the one before, at an array of so many columns and rows; the first, C0, has two
     squares far apart."""
     found = ["C0{", "0,0..4,2", "96,98..100,100", "}"]
-    array = "*%d:%d,0*%d:0,%d" % (columns, step, rows, step) if columns * rows > 1 else ""
+    array = ("*%d:%d,0" % (columns, step) if columns > 1 else "") + ("*%d:0,%d" % (rows, step) if rows > 1 else "")
     for number in range(1, many):
         found += ["C%d{" % number, "C%d@0,0%s" % (number - 1, array), "}"]
     return found

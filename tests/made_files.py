@@ -1,7 +1,7 @@
 """OASIS files of very many records, each of them made by its numbers."""
 from functools import lru_cache
 
-from lib.assembler import MAGIC, OASIS_END, cell_by_name, placement, rectangle, signed, start, unsigned
+from lib.assembler import MAGIC, OASIS_END, cell_by_name, g_delta, placement, rectangle, signed, start, unsigned
 
 TOP = cell_by_name(b"TOP")
 MOST_NAME = 2**32 - 1
@@ -28,6 +28,13 @@ def needles(count):
     return file(TOP, first, *(b"\x15\x08" + signed(y) for y in range(1, count)))
 
 
+def corners(count):
+    """So many rings whose boxes have the square (5, 5), which they don't cover, and a last one that does."""
+    steps = [(10, 0), (0, 1), (-9, 0), (0, 9), (-1, 0)]
+    first = b"\x15\x3B\1\0\4\5" + b"".join(g_delta(*step) for step in steps) + b"\0\0"
+    return file(TOP, first, b"\x15\0" * (count - 1), rectangle(5, 5, 1, 1))
+
+
 def named(number):
     """The name of a cell; in the order of names the first cell is the last."""
     return "%d" % (MOST_NAME - number)
@@ -45,4 +52,7 @@ def empty(count):
 
 
 # The kinds of files, each with what makes it of its numbers.
-KINDS = {"oasis-layers": layers, "oasis-needles": needles, "oasis-chain": chain, "oasis-empty": empty}
+KINDS = {
+    "oasis-layers": layers, "oasis-needles": needles, "oasis-corners": corners, "oasis-chain": chain,
+    "oasis-empty": empty,
+}

@@ -52,6 +52,7 @@ In `out`, `err` and `last` of a table a word in braces stands for a text:
     {lines 1/0 0,0..3,4}  the lines of digests of boxes on Layers, from `layer` to `mask sha256`
     {mask 1/0 0,0..3,4}   the digest of a mask, 64 digits
     {verdict WORDS}       the verdict on the files that these words of a line compare, as verdicts.py finds it
+    {links 25}            the lines of --why of the references in a chain of cells that made.py makes
     {view 3}              the options of a made map and a made window; so are `{window 3}` and `{change 3}`
     {repeat x 300}        a text 300 times; in `line` too
     {file NAME}           the text of the file NAME in tests/texts
@@ -288,6 +289,7 @@ TEXTS = {
     "lines": lambda words, files: lines(words),
     "mask": lambda words, files: lines(words).split()[-1],
     "verdict": verdicts.verdict,
+    "links": lambda words, files: made.links(int(words)),
     "view": lambda words, files: made.view(int(words)),
     "window": lambda words, files: made.window(int(words)),
     "change": lambda words, files: made.change(int(words)),
