@@ -37,7 +37,7 @@ The other words, each of which adds bytes to those before it:
     }            the end of a structure
     139=09       the byte at 139 is set; with more digits, more bytes from there on
     <99          all bytes from 99 on are cut
-    >96          the words after this one put their bytes in at 96
+    >96          the words after this one put their bytes in at 96, up to the word `>` or to the end
     XY:0,0;10,0  a record of GDSII by its name, with what it says; records.py has the names
     [ 00 10 ]    a CBLOCK of OASIS with the bytes of the words inside, in a stored block of DEFLATE
     ( 00 10 )*9  the bytes of the words inside, 9 times
@@ -158,9 +158,8 @@ def added(front, words):
         if word in BRACKETS:
             close, made = BRACKETS[word]
             data += made(*inside(words, close))
-        elif found := re.fullmatch(r">(\d+)", word):
-            rest = bytes(data[int(found[1]):]) + rest
-            del data[int(found[1]):]
+        elif found := re.fullmatch(r">(\d*)", word):
+            data, rest = (data[:int(found[1])], data[int(found[1]):]) if found[1] else (data + rest, b"")
         else:
             add(data, word)
     return bytes(data) + rest
