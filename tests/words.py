@@ -22,6 +22,7 @@ The first word is the kind of file:
     gds-chain    `N T`: structures C00001 to N, each of which places the next T times at 1,0; the last is a unit square
     gds-many     `N`: N times the empty structure A, without an end
     oasis-many   `N`: the empty cells 0000000 to N - 1, without an end
+    bars, stair  rows of boxes; corners.py describes them
     text         a text as in `out`
     folder       no file, but a folder
 
@@ -50,6 +51,7 @@ In `out`, `err` and `last` of a table a word in braces stands for a text:
     {head NAME}           the head that is printed of the file NAME
     {lines 1/0 0,0..3,4}  the lines of digests of boxes on Layers, from `layer` to `mask sha256`
     {mask 1/0 0,0..3,4}   the digest of a mask, 64 digits
+    {corners 1/0 0,0:1}   the lines of digests of a Layer with these corners; corners.py has more such texts
     {repeat x 300}        a text 300 times; in `line` too
     {file NAME}           the text of the file NAME in tests/texts
 
@@ -64,6 +66,7 @@ from functools import lru_cache
 HERE = os.path.dirname(os.path.abspath(__file__))
 sys.path.insert(0, os.path.join(HERE, "..", "tools"))
 
+import corners
 import layouts
 import records
 from lib import assembler, digest, oasis_blocks
@@ -200,6 +203,7 @@ KINDS = {
     "oasis-many": many_cells,
     "text": lambda words: unescaped(texts(words, {})),
     "folder": lambda words: None,
+    **corners.KINDS,
     "as-gds": layouts.as_gds,
     "as-oas": layouts.as_oas,
 }
@@ -278,6 +282,7 @@ TEXTS = {
     "head": lambda name, files: head(files[name]),
     "lines": lambda words, files: lines(words),
     "mask": lambda words, files: lines(words).split()[-1],
+    **corners.TEXTS,
     "file": lambda name, files: kept(name),
     "repeat": lambda words, files: words.split()[0] * int(words.split()[1]),
 }
