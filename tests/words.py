@@ -53,6 +53,8 @@ In `out`, `err` and `last` of a table a word in braces stands for a text:
     {mask 1/0 0,0..3,4}   the digest of a mask, 64 digits
     {corners 1/0 0,0:1}   the lines of digests of a Layer with these corners; corners.py has more such texts
     {repeat x 300}        a text 300 times; in `line` too
+    {percents NAME}       how much of a file of 8,000,000 bytes is shown to be read, from its first megabyte on
+    {megabytes NAME 7}    the same of a file whose size isn't known, up to 7 megabytes
     {file NAME}           the text of the file NAME in tests/texts
 
 A text is added to TEXTS.
@@ -277,6 +279,11 @@ def kept(name):
         return file.read().replace("\\", "\\\\").replace("\n", "\\n")
 
 
+def shown(name, unit, numbers):
+    """The lines that say how much of a file was read."""
+    return "".join("\\rlvl: %s %d %s\\e[K" % (name, number, unit) for number in numbers)
+
+
 # What a word in braces stands for, from the words after it and the bytes of the row's files by name.
 TEXTS = {
     "head": lambda name, files: head(files[name]),
@@ -285,6 +292,8 @@ TEXTS = {
     **corners.TEXTS,
     "file": lambda name, files: kept(name),
     "repeat": lambda words, files: words.split()[0] * int(words.split()[1]),
+    "percents": lambda name, files: shown(name, "%", range(13, 101)),
+    "megabytes": lambda words, files: shown(words.split()[0], "MB", range(1, int(words.split()[1]) + 1)),
 }
 
 
