@@ -22,6 +22,7 @@ The first word is the kind of file:
     gds-chain    `N T`: structures C00001 to N, each of which places the next T times at 1,0; the last is a unit square
     gds-many     `N`: N times the empty structure A, without an end
     oasis-many   `N`: the empty cells 0000000 to N - 1, without an end
+    oasis-names  `N`: N empty cells with names of 127 digits
     bars, stair  rows of boxes; corners.py describes them
     text         a text as in `out`
     folder       no file, but a folder
@@ -178,6 +179,11 @@ def chain(words):
     return HEAD + b"".join(links) + assembler.structure(name(cells), assembler.box(0, 0, 1, 1)) + assembler.STREAM_END
 
 
+def long_names(words):
+    """Empty cells of OASIS with different names of 127 digits."""
+    return START + b"".join(assembler.cell_by_name(b"%0127d" % number) for number in range(int(words))) + END
+
+
 def many_cells(words):
     """Empty cells of OASIS, with different names."""
     return START + b"".join(assembler.cell_by_name(b"%07d" % number) for number in range(int(words)))
@@ -203,6 +209,7 @@ KINDS = {
     "gds-chain": chain,
     "gds-many": lambda words: HEAD + assembler.structure("A") * int(words),
     "oasis-many": many_cells,
+    "oasis-names": long_names,
     "text": lambda words: unescaped(texts(words, {})),
     "folder": lambda words: None,
     **corners.KINDS,
