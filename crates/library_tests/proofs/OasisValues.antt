@@ -24,7 +24,7 @@ use Rattle.oasis_values.specs.declared.point_list.Walk.{Walk}
 use Rattle.oasis_values.specs.declared.repetition.Kind.TheVariants.{Matrix}
 use Rattle.oasis_values.specs.declared.repetition.Repetition.TheVariants.{New}
 use Rattle.oasis_values.specs.declared.shift.Spacing.TheVariants.{AlongX, AlongY}
-use Rattle.oasis_tests.proofs.Spelled.{after, alone, seen, chained, small, wide}
+use Rattle.library_tests.proofs.OasisSpelled.{after, alone, seen, chained, small, wide}
 
 abbrev point : ℕ → ℕ → Point
 point x y = record { x = pos x; y = pos y }

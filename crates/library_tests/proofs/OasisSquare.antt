@@ -65,8 +65,8 @@ use Rattle.oasis_library.specs.Library.{SpellsLibrary}
 use Rattle.oasis_library.specs.Names.{AreCells}
 use Rattle.oasis_library.specs.declared.head.OasisHead.{OasisHead}
 use Rattle.oasis_library.proofs.Resolving.{same_cells}
-use Rattle.oasis_tests.proofs.Spelled.{zeros, after, alone, seen, small, wide, zero_integers, zero_bytes, magic_said}
-use Rattle.oasis_tests.proofs.Spelled.{three}
+use Rattle.library_tests.proofs.OasisSpelled.{zeros, after, alone, seen, small, wide, zero_integers, zero_bytes, magic_said}
+use Rattle.library_tests.proofs.OasisSpelled.{three}
 
 abbrev one : List ℕ
 one = 0x31 ∷ 0x2E ∷ 0x30 ∷ []
