@@ -43,6 +43,7 @@ the next one, whose first blanks are dropped. These are the keys of templates:
                printed
     same-for   kinds of files: the row is run for each of them, which is the kind of the files that are a `layout`
     growths    `yes`: `make growths` also runs these rows, with each allocation refused in turn
+               (`memory`: it runs them with ample memory, of which they take no more than .ci/memory says)
 
 Any other key is the name of a file in the folder where the program runs; words.py says how it is written.
 """

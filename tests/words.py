@@ -22,7 +22,10 @@ The first word is the kind of file:
     gds-chain    `N T`: structures C00001 to N, each of which places the next T times at 1,0; the last is a unit square
     gds-many     `N`: N times the empty structure A, without an end
     oasis-many   `N`: the empty cells 0000000 to N - 1, without an end
-    oasis-NAME   a file of very many records, by numbers; made_files.py has the names
+    oasis-layers, oasis-needles, oasis-corners, oasis-chain, oasis-empty
+                 very many records, by numbers; made_files.py describes them
+    oasis-names  `N`: N empty cells with names of 127 digits
+    bars, stair  rows of boxes; corners.py describes them
     text         a text as in `out`
     folder       no file, but a folder
 
@@ -38,7 +41,7 @@ The other words, each of which adds bytes to those before it:
     }            the end of a structure
     139=09       the byte at 139 is set; with more digits, more bytes from there on
     <99          all bytes from 99 on are cut
-    >96          the words after this one put their bytes in at 96
+    >96          the words after this one put their bytes in at 96, up to the word `>` or to the end
     XY:0,0;10,0  a record of GDSII by its name, with what it says; records.py has the names
     [ 00 10 ]    a CBLOCK of OASIS with the bytes of the words inside, in a stored block of DEFLATE
     ( 00 10 )*9  the bytes of the words inside, 9 times
@@ -54,7 +57,10 @@ In `out`, `err` and `last` of a table a word in braces stands for a text:
     {verdict WORDS}       the verdict on the files that these words of a line compare, as verdicts.py finds it
     {links 25}            the lines of --why of the references in a chain of cells that made.py makes
     {view 3}              the options of a made map and a made window; so are `{window 3}` and `{change 3}`
+    {corners 1/0 0,0:1}   the lines of digests of a Layer with these corners; corners.py has more such texts
     {repeat x 300}        a text 300 times; in `line` too
+    {percents NAME}       how much of a file of 8,000,000 bytes is shown to be read, from its first megabyte on
+    {megabytes NAME 7}    the same of a file whose size isn't known, up to 7 megabytes
     {file NAME}           the text of the file NAME in tests/texts
 
 A text is added to TEXTS.
@@ -68,6 +74,7 @@ from functools import lru_cache
 HERE = os.path.dirname(os.path.abspath(__file__))
 sys.path.insert(0, os.path.join(HERE, "..", "tools"))
 
+import corners
 import layouts
 import made
 import made_files
@@ -165,9 +172,8 @@ def added(front, words):
         if word in BRACKETS:
             close, made = BRACKETS[word]
             data += made(*inside(words, close))
-        elif found := re.fullmatch(r">(\d+)", word):
-            rest = bytes(data[int(found[1]):]) + rest
-            del data[int(found[1]):]
+        elif found := re.fullmatch(r">(\d*)", word):
+            data, rest = (data[:int(found[1])], data[int(found[1]):]) if found[1] else (data + rest, b"")
         else:
             add(data, word)
     return bytes(data) + rest
@@ -179,6 +185,11 @@ def chain(words):
     name = lambda number: "C%05d" % number
     links = [assembler.structure(name(at), assembler.sref(name(at + 1), 1) * times) for at in range(1, cells)]
     return HEAD + b"".join(links) + assembler.structure(name(cells), assembler.box(0, 0, 1, 1)) + assembler.STREAM_END
+
+
+def long_names(words):
+    """Empty cells of OASIS with different names of 127 digits."""
+    return START + b"".join(assembler.cell_by_name(b"%0127d" % number) for number in range(int(words))) + END
 
 
 def many_cells(words):
@@ -206,8 +217,10 @@ KINDS = {
     "gds-chain": chain,
     "gds-many": lambda words: HEAD + assembler.structure("A") * int(words),
     "oasis-many": many_cells,
+    "oasis-names": long_names,
     "text": lambda words: unescaped(texts(words, {})),
     "folder": lambda words: None,
+    **corners.KINDS,
     "as-gds": layouts.as_gds,
     "as-oas": layouts.as_oas,
 }
@@ -283,6 +296,11 @@ def kept(name):
         return file.read().replace("\\", "\\\\").replace("\n", "\\n")
 
 
+def shown(name, unit, numbers):
+    """The lines that say how much of a file was read."""
+    return "".join("\\rlvl: %s %d %s\\e[K" % (name, number, unit) for number in numbers)
+
+
 # What a word in braces stands for, from the words after it and the bytes of the row's files by name.
 TEXTS = {
     "head": lambda name, files: head(files[name]),
@@ -293,8 +311,11 @@ TEXTS = {
     "view": lambda words, files: made.view(int(words)),
     "window": lambda words, files: made.window(int(words)),
     "change": lambda words, files: made.change(int(words)),
+    **corners.TEXTS,
     "file": lambda name, files: kept(name),
     "repeat": lambda words, files: words.split()[0] * int(words.split()[1]),
+    "percents": lambda name, files: shown(name, "%", range(13, 101)),
+    "megabytes": lambda words, files: shown(words.split()[0], "MB", range(1, int(words.split()[1]) + 1)),
 }
 
 
