@@ -1,0 +1,11 @@
+//! Examples in the documentation of the crates, line by line: `.ci/examples` looks for them here.
+
+mod cells;
+mod gds;
+mod geometry;
+mod lines;
+mod oasis;
+mod program;
+mod progress;
+mod texts;
+mod witness;
