@@ -43,6 +43,7 @@ the next one, whose first blanks are dropped. These are the keys of templates:
                printed
     same-for   kinds of files: the row is run for each of them, which is the kind of the files that are a `layout`
     growths    `yes`: `make growths` also runs these rows, with each allocation refused in turn
+               (`memory`: it runs them with ample memory, of which they take no more than .ci/memory says)
 
 Any other key is the name of a file in the folder where the program runs; words.py says how it is written.
 """
@@ -178,7 +179,7 @@ def run_of(table, said):
 
 def line_words(line):
     """The words of a command line, as text or bytes."""
-    found = [unescaped(texts(word, {})) for word in shlex.split(line)]
+    found = [unescaped(word) for word in shlex.split(texts(line, {}))]
     return [word.decode() if word.isascii() else word for word in found]
 
 
@@ -190,8 +191,8 @@ def turned_lines(text):
     out = text.decode("latin-1")
     for pattern, other in TURNED:
         out = re.sub(pattern, lambda it: it[0].replace(it[1], other[it[1]]), out, flags=re.MULTILINE)
-    out = re.sub(r": (.*) in the (?:first|second) file, (.*) in the (?:first|second)$",
-                 r": \2 in the first file, \1 in the second", out, flags=re.MULTILINE)
+    out = re.sub(r"differ: (.*) in the (?:first|second) file, (.*) in the (?:first|second)$",
+                 r"differ: \2 in the first file, \1 in the second", out, flags=re.MULTILINE)
     return out.encode("latin-1")
 
 

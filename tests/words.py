@@ -9,6 +9,8 @@ The first word is the kind of file:
     oasis-begin  all that follows START
     square.gds   the square 0..10 by 0..10 on 1/0 in a structure TOP, and the words after it
     square.oas   the same in OASIS, and the words after it
+    unit.gds     `square.gds` with other bytes for the metres in a grid step
+    unit.oas     `square.oas` with another real as the unit of START
     bytes        nothing but the words
     gds-um       structures, in GDSII of grid steps of a micrometre
     gds-nm       the same of a nanometre
@@ -20,6 +22,9 @@ The first word is the kind of file:
     gds-chain    `N T`: structures C00001 to N, each of which places the next T times at 1,0; the last is a unit square
     gds-many     `N`: N times the empty structure A, without an end
     oasis-many   `N`: the empty cells 0000000 to N - 1, without an end
+    oasis-layers, oasis-needles, oasis-corners, oasis-chain, oasis-empty
+                 very many records, by numbers; made_files.py describes them
+    oasis-names  `N`: N empty cells with names of 127 digits
     bars, stair  rows of boxes; corners.py describes them
     text         a text as in `out`
     folder       no file, but a folder
@@ -34,8 +39,12 @@ The other words, each of which adds bytes to those before it:
     A@3,-4       an SREF of the cell A
     A{           the beginning of a structure
     }            the end of a structure
-    139=09       the byte at 139 is set
+    139=09       the byte at 139 is set; with more digits, more bytes from there on
     <99          all bytes from 99 on are cut
+    >96          the words after this one put their bytes in at 96, up to the word `>` or to the end
+    XY:0,0;10,0  a record of GDSII by its name, with what it says; records.py has the names
+    [ 00 10 ]    a CBLOCK of OASIS with the bytes of the words inside, in a stored block of DEFLATE
+    ( 00 10 )*9  the bytes of the words inside, 9 times
     TOP          any other word of letters, digits and `_ . % $ -` is its letters
 
 A kind is added to KINDS, and a word to WORDS.
@@ -45,8 +54,13 @@ In `out`, `err` and `last` of a table a word in braces stands for a text:
     {head NAME}           the head that is printed of the file NAME
     {lines 1/0 0,0..3,4}  the lines of digests of boxes on Layers, from `layer` to `mask sha256`
     {mask 1/0 0,0..3,4}   the digest of a mask, 64 digits
+    {verdict WORDS}       the verdict on the files that these words of a line compare, as verdicts.py finds it
+    {links 25}            the lines of --why of the references in a chain of cells that made.py makes
+    {view 3}              the options of a made map and a made window; so are `{window 3}` and `{change 3}`
     {corners 1/0 0,0:1}   the lines of digests of a Layer with these corners; corners.py has more such texts
     {repeat x 300}        a text 300 times; in `line` too
+    {percents NAME}       how much of a file of 8,000,000 bytes is shown to be read, from its first megabyte on
+    {megabytes NAME 7}    the same of a file whose size isn't known, up to 7 megabytes
     {file NAME}           the text of the file NAME in tests/texts
 
 A text is added to TEXTS.
@@ -62,7 +76,11 @@ sys.path.insert(0, os.path.join(HERE, "..", "tools"))
 
 import corners
 import layouts
-from lib import assembler, digest
+import made
+import made_files
+import records
+import verdicts
+from lib import assembler, digest, oasis_blocks
 from lib.crafted import GDS_END, GDS_HEAD, OAS_END, OAS_HEAD
 
 # Between the bytes of `square.gds` are the bounds of its head, structure and boundary.
@@ -96,14 +114,19 @@ def put_layer(data, layer, datatype):
     data += assembler.short(0x0D, int(layer)) + assembler.short(0x0E, int(datatype))
 
 
-def put_byte(data, at, value):
-    data[int(at)] = int(value, 16)
+def put_bytes(data, at, digits):
+    data[int(at):int(at) + len(digits) // 2] = bytes.fromhex(digits)
 
 
 def cut(data, count):
     del data[int(count):]
 
 
+# The bytes of what stands in brackets, from those inside and what follows the closing one.
+BRACKETS = {
+    "[": (r"\]", lambda inside: oasis_blocks.written(inside, level=0)),
+    "(": (r"\)\*(\d+)", lambda inside, count: inside * int(count)),
+}
 # Each word as a pattern, and what adds it to the bytes; the first pattern that matches the whole word holds.
 WORDS = [
     (POINT + r"\.\." + POINT, put_box),
@@ -111,8 +134,9 @@ WORDS = [
     (POINT, put_point),
     (BYTE + r"\*(\d+)", lambda data, byte, count: put(data, bytes.fromhex(byte) * int(count))),
     (NUMBER + "/" + NUMBER, put_layer),
-    (r"(\d+)=" + BYTE, put_byte),
+    (r"(\d+)=((?:[0-9A-F]{2})+)", put_bytes),
     (r"<(\d+)", cut),
+    (r"(%s)(?::(\S*))?" % records.NAMES, lambda data, name, text: put(data, records.record(name, text or ""))),
     (r"(\S*)\{", lambda data, name: put(data, assembler.structure_start(name))),
     (r"\}", lambda data: put(data, assembler.STRUCTURE_END)),
     (BYTE, lambda data, byte: put(data, bytes.fromhex(byte))),
@@ -120,17 +144,39 @@ WORDS = [
 ]
 
 
+def add(data, word):
+    """Adds what a word says."""
+    for pattern, put_in in WORDS:
+        if found := re.fullmatch(pattern, word):
+            return put_in(data, *found.groups())
+    raise ValueError("no word of files: " + word)
+
+
+def inside(words, close):
+    """The bytes of the words up to a closing bracket, which are taken from the front, and what follows the bracket."""
+    held, depth = [], 0
+    while words:
+        word = words.pop(0)
+        if not depth and (found := re.fullmatch(close, word)):
+            return added(b"", " ".join(held)), *found.groups()
+        depth += (word in BRACKETS) - (word[0] in "])")
+        held.append(word)
+    raise ValueError("no closing bracket")
+
+
 def added(front, words):
     """The bytes in front, changed by each word in turn."""
-    data = bytearray(front)
-    for word in words.split():
-        for pattern, add in WORDS:
-            if found := re.fullmatch(pattern, word):
-                add(data, *found.groups())
-                break
+    data, rest, words = bytearray(front), b"", words.split()
+    while words:
+        word = words.pop(0)
+        if word in BRACKETS:
+            close, made = BRACKETS[word]
+            data += made(*inside(words, close))
+        elif found := re.fullmatch(r">(\d*)", word):
+            data, rest = (data[:int(found[1])], data[int(found[1]):]) if found[1] else (data + rest, b"")
         else:
-            raise ValueError("no word of files: " + word)
-    return bytes(data)
+            add(data, word)
+    return bytes(data) + rest
 
 
 def chain(words):
@@ -139,6 +185,11 @@ def chain(words):
     name = lambda number: "C%05d" % number
     links = [assembler.structure(name(at), assembler.sref(name(at + 1), 1) * times) for at in range(1, cells)]
     return HEAD + b"".join(links) + assembler.structure(name(cells), assembler.box(0, 0, 1, 1)) + assembler.STREAM_END
+
+
+def long_names(words):
+    """Empty cells of OASIS with different names of 127 digits."""
+    return START + b"".join(assembler.cell_by_name(b"%0127d" % number) for number in range(int(words))) + END
 
 
 def many_cells(words):
@@ -155,6 +206,8 @@ KINDS = {
     "oasis-begin": lambda words: added(START, words),
     "square.gds": lambda words: added(SQUARE, words),
     "square.oas": lambda words: added(START + TOP + RECTANGLE + END, words),
+    "unit.gds": lambda words: SQUARE[:52] + added(b"", words) + SQUARE[60:],
+    "unit.oas": lambda words: START[:18] + added(b"", words) + START[21:] + TOP + RECTANGLE + END,
     "bytes": lambda words: added(b"", words),
     "gds-um": lambda words: added(GDS_HEAD, words) + GDS_END,
     "gds-nm": lambda words: added(assembler.stream_head(units=NANOMETRE), words) + GDS_END,
@@ -164,6 +217,7 @@ KINDS = {
     "gds-chain": chain,
     "gds-many": lambda words: HEAD + assembler.structure("A") * int(words),
     "oasis-many": many_cells,
+    "oasis-names": long_names,
     "text": lambda words: unescaped(texts(words, {})),
     "folder": lambda words: None,
     **corners.KINDS,
@@ -176,8 +230,10 @@ KINDS = {
 def file(text):
     """The bytes of a file in words."""
     kind, _, words = text.partition(" ")
-    if kind not in KINDS:
+    if kind not in KINDS and kind not in made_files.KINDS:
         raise ValueError("no kind of files: " + kind)
+    if kind in made_files.KINDS:
+        return made_files.KINDS[kind](*map(int, words.split()))
     return KINDS[kind](words)
 
 
@@ -240,21 +296,35 @@ def kept(name):
         return file.read().replace("\\", "\\\\").replace("\n", "\\n")
 
 
+def shown(name, unit, numbers):
+    """The lines that say how much of a file was read."""
+    return "".join("\\rlvl: %s %d %s\\e[K" % (name, number, unit) for number in numbers)
+
+
 # What a word in braces stands for, from the words after it and the bytes of the row's files by name.
 TEXTS = {
     "head": lambda name, files: head(files[name]),
     "lines": lambda words, files: lines(words),
     "mask": lambda words, files: lines(words).split()[-1],
+    "verdict": verdicts.verdict,
+    "links": lambda words, files: made.links(int(words)),
+    "view": lambda words, files: made.view(int(words)),
+    "window": lambda words, files: made.window(int(words)),
+    "change": lambda words, files: made.change(int(words)),
     **corners.TEXTS,
     "file": lambda name, files: kept(name),
     "repeat": lambda words, files: words.split()[0] * int(words.split()[1]),
+    "percents": lambda name, files: shown(name, "%", range(13, 101)),
+    "megabytes": lambda words, files: shown(words.split()[0], "MB", range(1, int(words.split()[1]) + 1)),
 }
 
 
 def texts(text, files):
     """A text with the words in braces computed."""
-    names = "|".join(TEXTS)
-    return re.sub(r"\{(%s)(?: ([^{}]*))?\}" % names, lambda it: TEXTS[it[1]](it[2] or "", files), text)
+    word = r"\{(%s)(?: ([^{}]*))?\}" % "|".join(TEXTS)
+    while re.search(word, text):
+        text = re.sub(word, lambda it: TEXTS[it[1]](it[2] or "", files), text)
+    return text
 
 
 def unescaped(text):

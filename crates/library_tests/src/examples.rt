@@ -8,3 +8,4 @@ mod oasis;
 mod program;
 mod progress;
 mod texts;
+mod witness;

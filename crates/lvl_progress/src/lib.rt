@@ -25,6 +25,4 @@ pub use watched::Watched;
 mod amount;
 mod erasing;
 mod meter;
-#[cfg(test)]
-mod tests;
 mod watched;

@@ -22,5 +22,3 @@ pub use step::GridStep;
 
 mod fraction;
 mod step;
-#[cfg(test)]
-mod tests;

@@ -34,7 +34,5 @@ mod block;
 mod fault;
 mod slice;
 mod stored;
-#[cfg(test)]
-mod tests;
 mod unpack;
 mod unpacked;

@@ -1,0 +1,5 @@
+mod GdsElements
+mod OasisModal
+pub mod OasisSpelled
+mod OasisSquare
+mod OasisValues
