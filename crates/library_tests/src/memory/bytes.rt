@@ -1,6 +1,6 @@
 //! Records of GDSII, which take a buffer and no more, and the values of OASIS.
 
-use crate::fence::fence;
+use crate::memory::fence::fence;
 use gds_records::Records;
 use gds_records::fake::{SQUARE, Stream};
 use lvl_io::fake::Pieces;

@@ -1,7 +1,6 @@
 //! Each byte of a file set to each value: whatever comes of it is a text of the program.
 
-use super::words::file;
-use super::{Answer, last_line, no_tops, written};
+use super::{Answer, SQUARE, square_in_oasis, written};
 use lvl_report::Status;
 use std::alloc::Global;
 use std::process::Abort;
@@ -9,6 +8,12 @@ use std::test::Fail;
 
 /// What the second file says of itself, and the verdict's beginning.
 const SAME: &[u8] = b"\nsecond: OASIS 1.0 unit 1000 scheme 0\nsame\n";
+
+/// The text's last line, without its line feed.
+fn last_line(text: &[u8]) -> &[u8] {
+    let front = text.strip_suffix(b"\n").unwrap_or(text);
+    front.rsplit(|byte| *byte == b'\n').next().unwrap_or(front)
+}
 
 /// Whether the text is of one line, a refusal of the first file by one of the steps.
 fn is_refusal(text: &[u8]) -> bool {
@@ -36,8 +41,8 @@ fn is_text(answer: &Answer) -> bool {
 /// A byte of the file set to a value.
 fn set(rt: &impl Abort, alloc: Global, bytes: &mut [u8], k: usize, value: u8) -> Result<(), Fail> {
     *bytes.get_mut(k).ok_or("a byte")? = value;
-    let square = file(alloc, "square.oas")?;
-    let answer = written(alloc, bytes, &square, &no_tops(), 1000)?;
+    let square = square_in_oasis(alloc)?;
+    let answer = written(alloc, bytes, &square)?;
     assert!(rt; is_text(&answer), "byte {k} set to {value}");
     Ok(())
 }
@@ -57,11 +62,11 @@ fn set_each(rt: &impl Abort, alloc: Global, bytes: &mut [u8]) -> Result<(), Fail
 #[test]
 fn each_byte_of_gds(rt: HostRuntime) -> Result<(), Fail> {
     let alloc = rt.alloc();
-    set_each(&rt, alloc, &mut file(alloc, "square.gds")?)
+    set_each(&rt, alloc, &mut Vec::from_slice(alloc, SQUARE)?)
 }
 
 #[test]
 fn each_byte_of_oasis(rt: HostRuntime) -> Result<(), Fail> {
     let alloc = rt.alloc();
-    set_each(&rt, alloc, &mut file(alloc, "square.oas")?)
+    set_each(&rt, alloc, &mut square_in_oasis(alloc)?)
 }

@@ -1,6 +1,6 @@
 //! Maps, rings, regions and sweeps.
 
-use crate::fence::fence;
+use crate::memory::fence::fence;
 use lvl_grid::{Map, Point, Ring, Rings, Square, Turn};
 use lvl_region::{GridRegion, Region, Side};
 use lvl_sweep::{SlabRegion, Sweep};

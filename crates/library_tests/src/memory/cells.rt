@@ -1,6 +1,6 @@
 //! Lists of shifts, references, checked libraries, flat layouts and views.
 
-use crate::fence::fence;
+use crate::memory::fence::fence;
 use lvl_cells::{Builder, Cell, Checked, Library, Reference, References, Shapes, check};
 use lvl_flat::{Flat, flatten};
 use lvl_grid::{Point, Ring, Turn};

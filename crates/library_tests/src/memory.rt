@@ -2,13 +2,8 @@
 //!
 //! A fence is an allocation of a size that nothing else asks for: `.ci/refuse.c` knows it, and counts the
 //! allocations from one to the next. `.ci/growths` wants none.
-#![tactic(auto)]
 
-#[cfg(test)]
 mod bytes;
-#[cfg(test)]
 mod cells;
-#[cfg(test)]
 mod fence;
-#[cfg(test)]
 mod geometry;

@@ -1,6 +1,7 @@
 //! What the documentation of the crates shows, line by line.
 
 use lvl_columns::difference_by_columns;
+use lvl_corners::corners_of;
 use lvl_grid::{Part, Point, Ring, Rings, Square};
 use lvl_path::bands;
 use lvl_region::{GridRegion, Side, difference};
@@ -72,5 +73,16 @@ fn paths(rt: HostRuntime) -> Result<(), Fail> {
     let rings = bands(alloc, &points, 2, 0, 3)?;
     assert_eq!(rt; rings.len(), 1);
     assert!(rt; rings[0].covers(Square { x: 12, y: -2 }));
+    Ok(())
+}
+
+#[test]
+fn corners(rt: HostRuntime) -> Result<(), Fail> {
+    let alloc = rt.alloc();
+    let mut rings = Rings::new(alloc);
+    rings.push_ring(&Ring::rectangle(alloc, Point { x: 0, y: 0 }, Point { x: 4, y: 2 })?)?;
+    let corners = corners_of(alloc, &rings)?;
+    assert_eq!(rt; corners.len(), 4);
+    assert_eq!(rt; (corners[3].x, corners[3].y, corners[3].change), (4, 2, 1));
     Ok(())
 }
