@@ -244,7 +244,7 @@ def row_of(table, columns, label):
         said = {key: filled(value, columns) for key, value in templates.items()}
         found = [run_of(table, each) for numbers in numbered(said) for each in spelled(numbers)]
         runs += found + ([exchanged(run) for run in found] if said.get("exchanged") == "yes" else [])
-    return Row(label, runs, table.templates[0].get("growths") == "yes")
+    return Row(label, runs, table.templates[0].get("growths"))
 
 
 def all_rows(paths, patterns=()):

@@ -4,6 +4,7 @@ mod cells;
 mod counts;
 mod gds;
 mod geometry;
+mod input;
 mod lines;
 mod oasis;
 mod program;
