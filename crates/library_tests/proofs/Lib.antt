@@ -1,0 +1,7 @@
+mod CellsComputed
+mod GdsElements
+mod GridComputed
+mod OasisModal
+pub mod OasisSpelled
+mod OasisSquare
+mod OasisValues

@@ -1,0 +1,36 @@
+//! What only a call of a library shows: examples of the documentation, promised calls that the program doesn't make,
+//! calls that take no memory, and readers and writers that fail.
+//!
+//! The rows in `tests/` at the top of the repository are run by the program.
+#![tactic(auto)]
+
+#[cfg(test)]
+mod calls;
+#[cfg(test)]
+mod examples;
+#[cfg(test)]
+mod flattening;
+#[cfg(test)]
+mod gds_bytes;
+#[cfg(test)]
+mod maps;
+#[cfg(test)]
+mod memory;
+#[cfg(test)]
+mod numbers;
+#[cfg(test)]
+mod offsets;
+#[cfg(test)]
+mod regions;
+#[cfg(test)]
+mod runs;
+#[cfg(test)]
+mod values;
+#[cfg(test)]
+mod views;
+#[cfg(test)]
+mod witness;
+#[cfg(test)]
+mod words;
+#[cfg(test)]
+mod writers;

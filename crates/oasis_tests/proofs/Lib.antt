@@ -1,4 +1,0 @@
-pub mod Spelled
-mod Square
-mod Computed
-mod Remembered
