@@ -41,13 +41,18 @@ fn hull_of(windows: &[Window]) -> Window {
     hull
 }
 
-/// Whether windows have at least half of the squares of their hull.
-pub(crate) fn are_dense(windows: &[Window]) -> bool {
+/// The number of squares of windows that share none.
+pub(crate) fn squares_of(windows: &[Window]) -> u128 {
     let mut sum = 0u128;
     for window in windows {
         sum = sum.saturating_add(area(*window));
     }
-    sum >= area(hull_of(windows)) / 2
+    sum
+}
+
+/// Whether windows have at least half of the squares of their hull.
+pub(crate) fn are_dense(windows: &[Window]) -> bool {
+    squares_of(windows) >= area(hull_of(windows)) / 2
 }
 
 /// Whether the windows are spread more along x than along y.

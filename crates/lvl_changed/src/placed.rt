@@ -5,7 +5,7 @@ ghost use Rattle.lvl_names.specs.declared.layer.Layer.{Layer};
 ghost use Rattle.lvl_changed.specs.inside.Arrays.{all_places, AddsArray};
 ghost use Rattle.lvl_changed.specs.inside.Placements.{PlacedCover, ReferencesCover};
 
-use crate::arrays::{Array, array_of};
+use crate::arrays::{Array, Form, array_of};
 use crate::placements::Placement;
 use lvl_cells::Checked;
 use std::alloc::{AllocError, Global};
@@ -43,7 +43,12 @@ impl Placed {
 }
 
 /// What a cell's references place, with the indexes of the cells that these name.
-pub(crate) fn placed_of(alloc: Global, checked: &Checked, cell: usize) -> Result<Placed, AllocError>
+pub(crate) fn placed_of(
+    alloc: Global,
+    checked: &Checked,
+    cell: usize,
+    form: Form,
+) -> Result<Placed, AllocError>
     requires { cell < length checked.now.cells }
     ensures { IfOk result (λ placed. IfSome (slice_get checked.now.cells cell)
         (λ c. (layer : Layer) (s : Square)
@@ -53,7 +58,7 @@ pub(crate) fn placed_of(alloc: Global, checked: &Checked, cell: usize) -> Result
     let mut placed = Placed::none(alloc);
     let parent = &checked.cells()[cell];
     for j in 0..parent.references.len() {
-        placed.push(array_of(checked, cell, j)?)?;
+        placed.push(array_of(checked, cell, j, form)?)?;
     }
     Ok(placed)
 }

@@ -16,7 +16,7 @@ ghost use Rattle.lvl_changed.specs.inside.Pairs.{AreFoundIn};
 ghost use Rattle.lvl_changed.specs.inside.Placements.{PlacedCover, ReferencesCover, ReferAlike};
 
 use crate::area::Area;
-use crate::arrays::{Array, array_of, sort_arrays};
+use crate::arrays::{Array, Form, array_of, places_wrappers, sort_arrays};
 use crate::found::Found;
 use crate::in_step::hold_same;
 use crate::layers::Layers;
@@ -64,6 +64,7 @@ fn partners_placed(
     alloc: Global,
     checked: &Checked,
     cell: usize,
+    form: Form,
     known: &[Option<Found>],
 ) -> Result<Placed, AllocError>
     requires { cell < length checked.now.cells }
@@ -77,7 +78,7 @@ fn partners_placed(
     let mut placed = Placed::none(alloc);
     let parent = &checked.cells()[cell];
     for j in 0..parent.references.len() {
-        let array = array_of(checked, cell, j)?;
+        let array = array_of(checked, cell, j, form)?;
         let Some(Some(found)) = known.get(array.cell) else {
             area.hold_anywhere();
             return Ok(placed);
@@ -192,14 +193,15 @@ fn hold_placed(
 }
 
 /// Adds an area outside of which the references of cell `ours` cover the same squares as those of
-/// cell `theirs` under the view's map of Layers.
-pub(crate) fn hold_references(
+/// cell `theirs` under the view's map of Layers, each taken in this form.
+fn hold_references(
     area: &mut Area,
     alloc: Global,
     pair: &Pair<'_>,
     ours: usize,
     drawn: &[Option<Layers>],
     theirs: usize,
+    form: Form,
     known: &[Option<Found>],
 ) -> Result<(), AllocError>
     requires ours { ours < length pair.now.first.now.cells }
@@ -209,11 +211,74 @@ pub(crate) fn hold_references(
         pair.now.first.now.cells ours pair.now.second.now.cells theirs) }
     ensures kept { OnOk result (Grows area.old area.new) }
 {
-    if hold_same(area, pair, ours, theirs, known)? {
+    if hold_same(area, pair, ours, theirs, form, known)? {
         return Ok(());
     }
-    let placed = partners_placed(area, alloc, pair.first.checked(), ours, known)?;
-    let others = placed_of(alloc, pair.second.checked(), theirs)?;
+    let placed = partners_placed(area, alloc, pair.first.checked(), ours, form, known)?;
+    let others = placed_of(alloc, pair.second.checked(), theirs, form)?;
     hold_placed(area, alloc, pair.second, drawn, pair.view, placed, others)?;
     Ok(())
+}
+
+/// An area as [`references_apart`] gives it, with references taken in this form.
+fn apart_in_form(
+    alloc: Global,
+    pair: &Pair<'_>,
+    ours: usize,
+    drawn: &[Option<Layers>],
+    theirs: usize,
+    form: Form,
+    known: &[Option<Found>],
+    most: usize,
+) -> Result<Area, AllocError>
+    requires ours { ours < length pair.now.first.now.cells }
+    requires drawn { AreDrawnOn pair.now.second.now.cells drawn.now }
+    requires theirs { theirs < length pair.now.second.now.cells }
+    ensures { IfOk result (λ area. AreFoundIn pair.now known.now → ReferAlike area pair.now.view.now.pairs
+        pair.now.first.now.cells ours pair.now.second.now.cells theirs) }
+{
+    let mut area = Area::none(alloc, most);
+    hold_references(&mut area, alloc, pair, ours, drawn, theirs, form, known)?;
+    Ok(area)
+}
+
+/// An area outside of which the references of cell `ours` cover the same squares as those of cell `theirs` under the
+/// view's map of Layers. They are compared as they are written; only where that leaves something, and cells that have no
+/// shapes and one reference are placed, these are seen through: a writer may place a row of cells at a list of places,
+/// which is no array of what the row has.
+pub(crate) fn references_apart(
+    alloc: Global,
+    pair: &Pair<'_>,
+    ours: usize,
+    drawn: &[Option<Layers>],
+    theirs: usize,
+    known: &[Option<Found>],
+    most: usize,
+) -> Result<Area, AllocError>
+    requires ours { ours < length pair.now.first.now.cells }
+    requires drawn { AreDrawnOn pair.now.second.now.cells drawn.now }
+    requires theirs { theirs < length pair.now.second.now.cells }
+    ensures { IfOk result (λ area. AreFoundIn pair.now known.now → ReferAlike area pair.now.view.now.pairs
+        pair.now.first.now.cells ours pair.now.second.now.cells theirs) }
+{
+    let written = apart_in_form(alloc, pair, ours, drawn, theirs, Form::Written, known, most)?;
+    let has_wrappers = places_wrappers(pair.first.checked(), ours)
+        || places_wrappers(pair.second.checked(), theirs);
+    if written.windows.is_empty() || !has_wrappers {
+        return Ok(written);
+    }
+    let through = apart_in_form(
+        alloc,
+        pair,
+        ours,
+        drawn,
+        theirs,
+        Form::SeenThrough,
+        known,
+        most,
+    )?;
+    if through.windows.squares() < written.windows.squares() {
+        return Ok(through);
+    }
+    Ok(written)
 }

@@ -158,8 +158,7 @@ fn side_at(
     square: Square,
     most: usize,
 ) -> Result<Option<Side>, AllocError>
-    ensures seen { IfOk result (λ found. IfSome found (λ _. IsShown (pair.now.view.now.window) square)) }
-    ensures alone { IfOk result (λ found. IfSome found
+    ensures { IfOk result (λ found. IfSome found
         (λ side. IsAlone (ours pair.now layer) (theirs pair.now layer) square side)) }
 {
     let Pair {

@@ -13,7 +13,7 @@ ghost use Rattle.lvl_changed.specs.inside.Placements.{PlacedCover};
 ghost use Rattle.lvl_changed.specs.inside.Windows.{Has, HasPlaced, Widens};
 
 use crate::arrays::Array;
-use crate::closeness::{along, are_dense, cost_of_joining, meet, spread_across};
+use crate::closeness::{along, are_dense, cost_of_joining, meet, spread_across, squares_of};
 use crate::corners::{between, high_corner, low_corner, spot};
 use crate::shifts::moved;
 use lvl_flat::Fitted;
@@ -80,6 +80,14 @@ impl Windows {
         ensures { IsTrue result → (s : Square) → ¬ Has self.now s }
     {
         !self.anywhere && self.list.is_empty()
+    }
+
+    /// The number of squares of the windows together, or the greatest number if the set is the whole grid.
+    pub(crate) fn squares(&self) -> u128 {
+        if self.anywhere {
+            return u128::MAX;
+        }
+        squares_of(&self.list)
     }
 
     /// At most `most` windows, and at least one, unless the set has no squares, in the order of the axis on
