@@ -179,7 +179,7 @@ def run_of(table, said):
 
 def line_words(line):
     """The words of a command line, as text or bytes."""
-    found = [unescaped(texts(word, {})) for word in shlex.split(line)]
+    found = [unescaped(word) for word in shlex.split(texts(line, {}))]
     return [word.decode() if word.isascii() else word for word in found]
 
 

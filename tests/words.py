@@ -22,6 +22,8 @@ The first word is the kind of file:
     gds-chain    `N T`: structures C00001 to N, each of which places the next T times at 1,0; the last is a unit square
     gds-many     `N`: N times the empty structure A, without an end
     oasis-many   `N`: the empty cells 0000000 to N - 1, without an end
+    oasis-layers, oasis-needles, oasis-corners, oasis-chain, oasis-empty
+                 very many records, by numbers; made_files.py describes them
     oasis-names  `N`: N empty cells with names of 127 digits
     bars, stair  rows of boxes; corners.py describes them
     text         a text as in `out`
@@ -52,6 +54,9 @@ In `out`, `err` and `last` of a table a word in braces stands for a text:
     {head NAME}           the head that is printed of the file NAME
     {lines 1/0 0,0..3,4}  the lines of digests of boxes on Layers, from `layer` to `mask sha256`
     {mask 1/0 0,0..3,4}   the digest of a mask, 64 digits
+    {verdict WORDS}       the verdict on the files that these words of a line compare, as verdicts.py finds it
+    {links 25}            the lines of --why of the references in a chain of cells that made.py makes
+    {view 3}              the options of a made map and a made window; so are `{window 3}` and `{change 3}`
     {corners 1/0 0,0:1}   the lines of digests of a Layer with these corners; corners.py has more such texts
     {repeat x 300}        a text 300 times; in `line` too
     {percents NAME}       how much of a file of 8,000,000 bytes is shown to be read, from its first megabyte on
@@ -71,7 +76,10 @@ sys.path.insert(0, os.path.join(HERE, "..", "tools"))
 
 import corners
 import layouts
+import made
+import made_files
 import records
+import verdicts
 from lib import assembler, digest, oasis_blocks
 from lib.crafted import GDS_END, GDS_HEAD, OAS_END, OAS_HEAD
 
@@ -222,8 +230,10 @@ KINDS = {
 def file(text):
     """The bytes of a file in words."""
     kind, _, words = text.partition(" ")
-    if kind not in KINDS:
+    if kind not in KINDS and kind not in made_files.KINDS:
         raise ValueError("no kind of files: " + kind)
+    if kind in made_files.KINDS:
+        return made_files.KINDS[kind](*map(int, words.split()))
     return KINDS[kind](words)
 
 
@@ -296,6 +306,11 @@ TEXTS = {
     "head": lambda name, files: head(files[name]),
     "lines": lambda words, files: lines(words),
     "mask": lambda words, files: lines(words).split()[-1],
+    "verdict": verdicts.verdict,
+    "links": lambda words, files: made.links(int(words)),
+    "view": lambda words, files: made.view(int(words)),
+    "window": lambda words, files: made.window(int(words)),
+    "change": lambda words, files: made.change(int(words)),
     **corners.TEXTS,
     "file": lambda name, files: kept(name),
     "repeat": lambda words, files: words.split()[0] * int(words.split()[1]),
@@ -306,8 +321,10 @@ TEXTS = {
 
 def texts(text, files):
     """A text with the words in braces computed."""
-    names = "|".join(TEXTS)
-    return re.sub(r"\{(%s)(?: ([^{}]*))?\}" % names, lambda it: TEXTS[it[1]](it[2] or "", files), text)
+    word = r"\{(%s)(?: ([^{}]*))?\}" % "|".join(TEXTS)
+    while re.search(word, text):
+        text = re.sub(word, lambda it: TEXTS[it[1]](it[2] or "", files), text)
+    return text
 
 
 def unescaped(text):

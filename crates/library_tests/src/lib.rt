@@ -9,14 +9,28 @@ mod calls;
 #[cfg(test)]
 mod examples;
 #[cfg(test)]
+mod flattening;
+#[cfg(test)]
 mod gds_bytes;
+#[cfg(test)]
+mod maps;
 #[cfg(test)]
 mod memory;
 #[cfg(test)]
 mod numbers;
 #[cfg(test)]
+mod offsets;
+#[cfg(test)]
+mod regions;
+#[cfg(test)]
 mod runs;
 #[cfg(test)]
 mod values;
+#[cfg(test)]
+mod views;
+#[cfg(test)]
+mod witness;
+#[cfg(test)]
+mod words;
 #[cfg(test)]
 mod writers;
