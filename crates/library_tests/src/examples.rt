@@ -3,6 +3,7 @@
 mod cells;
 mod gds;
 mod geometry;
+mod input;
 mod lines;
 mod oasis;
 mod program;
