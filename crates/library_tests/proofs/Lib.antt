@@ -1,4 +1,6 @@
+mod CellsComputed
 mod GdsElements
+mod GridComputed
 mod OasisModal
 pub mod OasisSpelled
 mod OasisSquare

@@ -23,11 +23,13 @@ fn verdict_of_view(alloc: Global) -> Option<Verdict> {
 
 #[test]
 fn views(rt: HostRuntime) -> Result<(), Fail> {
-    let Some(Verdict::Differ {
-        layer,
-        square,
-        side,
-    }) = verdict_of_view(rt.alloc())
+    let Some(
+        Verdict::Differ {
+            layer,
+            square,
+            side,
+        },
+    ) = verdict_of_view(rt.alloc())
     else {
         return Err(Fail::from("another verdict"));
     };

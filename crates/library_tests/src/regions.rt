@@ -27,7 +27,7 @@ fn found_by_columns(alloc: Global, first: &[Ring], second: &[Ring]) -> Result<Fo
     difference_by_columns(alloc, &first, &Rings::from_slice(alloc, second)?)
 }
 
-/// Whether the lists differ first there, in each way of comparing them.
+/// Whether the lists differ first there, by sweeps, by slab lists and by columns.
 fn all_find(
     alloc: Global,
     first: &[Ring],
@@ -37,7 +37,6 @@ fn all_find(
     Ok(
         first_difference_of(alloc, first, second)? == found
             && difference::<SlabRegion>(alloc, first, second)? == found
-            && difference::<GridRegion>(alloc, first, second)? == found
             && found_by_columns(alloc, first, second)? == found,
     )
 }
@@ -50,6 +49,20 @@ fn differ_at(
     found: Found,
 ) -> Result<bool, AllocError> {
     Ok(all_find(alloc, first, second, found)? && all_find(alloc, second, first, exchanged(found))?)
+}
+
+/// Whether they do by grids, and the first does not differ from itself.
+fn grids_differ_at(
+    alloc: Global,
+    first: &[Ring],
+    second: &[Ring],
+    found: Found,
+) -> Result<bool, AllocError> {
+    Ok(
+        difference::<GridRegion>(alloc, first, second)? == found
+            && difference::<GridRegion>(alloc, second, first)? == exchanged(found)
+            && difference::<GridRegion>(alloc, first, first)?.is_none(),
+    )
 }
 
 fn at(x: i64, y: i64, side: Side) -> Found {
@@ -93,7 +106,8 @@ fn lists_differ_at(alloc: Global, row: &str) -> Result<bool, Fail> {
     let (second, found) = cut(row, " | ");
     let first = rings_of(alloc, first)?;
     let second = rings_of(alloc, second)?;
-    Ok(differ_at(alloc, &first, &second, found_of(found)?)?)
+    let found = found_of(found)?;
+    Ok(differ_at(alloc, &first, &second, found)? && grids_differ_at(alloc, &first, &second, found)?)
 }
 
 /// Whether the lists of a row differ where it says.

@@ -26,8 +26,7 @@ pub(crate) const SQUARE: &[u8] = b"\
     \0\0\0\0\0\0\0\x04\x11\0\0\x04\x07\0\0\x04\x04\0";
 
 /// The magic string, START of 1,000 grid steps in a micrometre, and CELL TOP.
-const BEGIN: &[u8] =
-    b"%SEMI-OASIS\r\n\x01\x031.0\x00\xE8\x07\0\0\0\0\0\0\0\0\0\0\0\0\0\x0E\x03TOP";
+const BEGIN: &[u8] = b"%SEMI-OASIS\r\n\x01\x031.0\x00\xE8\x07\0\0\0\0\0\0\0\0\0\0\0\0\0\x0E\x03TOP";
 
 /// The square as a RECTANGLE.
 const RECTANGLE: &[u8] = b"\x14\x7B\x01\0\x0A\x0A\0\0";

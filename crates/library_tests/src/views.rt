@@ -5,10 +5,23 @@ use lvl_view::{View, ViewFault};
 use std::alloc::{AllocError, Global};
 use std::test::Fail;
 
+/// Why the texts are refused, or None where they say a view.
+fn fault_of(
+    alloc: Global,
+    map: Option<&str>,
+    window: Option<&str>,
+) -> Result<Option<ViewFault>, AllocError> {
+    match View::read(alloc, map, window) {
+        Ok(_) => Ok(None),
+        Err(Cause::Breach(fault)) => Ok(Some(fault)),
+        Err(Cause::OutOfMemory) => Err(AllocError),
+    }
+}
+
 /// The Layer of a source that is in a map twice.
 fn twice(alloc: Global, map: &str) -> Result<String, AllocError> {
-    match View::read(alloc, Some(map), None) {
-        Err(Cause::Breach(ViewFault::MapTwice(source))) => {
+    match fault_of(alloc, Some(map), None)? {
+        Some(ViewFault::MapTwice(source)) => {
             format!(in alloc; "{}/{}", source.layer, source.datatype)
         }
         _ => String::from_str(alloc, "another answer"),

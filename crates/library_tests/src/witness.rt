@@ -28,7 +28,12 @@ fn add_box(alloc: Global, cells: &mut Builder, low: Point, high: Point) -> Resul
 /// Draws two rectangles far apart.
 fn add_corners(alloc: Global, cells: &mut Builder) -> Result<(), AllocError> {
     add_box(alloc, cells, ORIGIN, Point { x: 4, y: 2 })?;
-    add_box(alloc, cells, Point { x: 96, y: 98 }, Point { x: 100, y: 100 })
+    add_box(
+        alloc,
+        cells,
+        Point { x: 96, y: 98 },
+        Point { x: 100, y: 100 },
+    )
 }
 
 /// Places the cell of that number at the shifts.
@@ -44,12 +49,7 @@ fn add_places(
 }
 
 /// Adds the cell of that number, which places the one before, or draws two rectangles.
-fn add_cell(
-    alloc: Global,
-    cells: &mut Builder,
-    number: u32,
-    shifts: &Offsets,
-) -> Result<(), Fail> {
+fn add_cell(alloc: Global, cells: &mut Builder, number: u32, shifts: &Offsets) -> Result<(), Fail> {
     cells.open(alloc, name(alloc, number)?.as_bytes())?;
     match number.checked_sub(1) {
         Some(before) => add_places(alloc, cells, before, shifts.clone()?)?,

@@ -41,7 +41,12 @@ fn library(alloc: Global, high: Point, count: u64, is_edited: bool) -> Result<Fi
     cells.open(alloc, b"TOP")?;
     add_places(alloc, &mut cells, count)?;
     if is_edited {
-        add_box(alloc, &mut cells, Point { x: 3, y: 0 }, Point { x: 4, y: 1 })?;
+        add_box(
+            alloc,
+            &mut cells,
+            Point { x: 3, y: 0 },
+            Point { x: 4, y: 1 },
+        )?;
     }
     cells.close(alloc)?;
     Fitted::new(alloc, check(alloc, cells.finish(), None)?).map_err(Fail::from)

@@ -29,7 +29,12 @@ fn put(
 /// Adds `count` squares in GDSII.
 fn put_gds(bytes: &mut Vec<u8>, starts: &mut Vec<usize>, count: u32) -> Result<(), Fail> {
     put(bytes, starts, (&SQUARE[..96], &[0, 6, 34, 40, 60, 88]), 1)?;
-    put(bytes, starts, (&SQUARE[96..160], &[0, 4, 10, 16, 60]), count)?;
+    put(
+        bytes,
+        starts,
+        (&SQUARE[96..160], &[0, 4, 10, 16, 60]),
+        count,
+    )?;
     put(bytes, starts, (&SQUARE[160..], &[0, 4, 8]), 1)
 }
 
