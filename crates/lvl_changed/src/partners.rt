@@ -7,8 +7,7 @@ ghost use Rattle.std.specs.Prelude.{◌<◌, length, IfSome};
 use crate::arrays::array_of;
 use crate::in_step::reference_count;
 use crate::placed::Placed;
-use crate::spots::{AtSpot, skip_to_spot, sort_by_spot};
-use crate::table::key_of;
+use crate::spots::{AtSpot, key_of, skip_to_spot, sort_by_spot};
 use lvl_cells::{Checked, index_of};
 use lvl_flat::Fitted;
 use lvl_refusal::Cause;
@@ -111,7 +110,7 @@ fn some_placed(
         let array = array_of(checked, cell, j)?;
         let times = checked.times().get(array.cell).copied().unwrap_or(0);
         let share = share_of(times, most);
-        if key_of(0, &array).checked_rem(share) == Some(0) {
+        if key_of(&array).checked_rem(share) == Some(0) {
             placed.push(array)?;
         }
     }

@@ -15,16 +15,16 @@ ghost use Rattle.lvl_changed.specs.inside.Finding.{AreFound};
 ghost use Rattle.lvl_changed.specs.inside.Pairs.{AreFoundIn};
 ghost use Rattle.lvl_changed.specs.inside.Placements.{PlacedCover, ReferencesCover, ReferAlike};
 
-use crate::alone::{others_alone, partners_alone};
 use crate::area::Area;
-use crate::arrays::{Array, sort_arrays};
+use crate::arrays::{Array, array_of, sort_arrays};
 use crate::found::Found;
 use crate::in_step::hold_same;
 use crate::layers::Layers;
 use crate::listing::list_alone;
-use crate::placed::Placed;
+use crate::placed::{Placed, placed_of};
 use crate::placements::{hold_alone, sort_places};
 use crate::rows::split_alone;
+use lvl_cells::Checked;
 use lvl_compare::Pair;
 use lvl_flat::Fitted;
 use lvl_view::View;
@@ -33,6 +33,59 @@ use std::alloc::{AllocError, Global};
 /// The greatest number of placements of a cell for which arrays that only one side has are written
 /// out place by place, and as many again as the other side has single placements.
 const MOST_LISTED: u64 = 1_048_576;
+
+/// Adds the area that was found for the cell of an array, at each place of the array, and adds what
+/// it places with the partner in place of the cell.
+fn place_partner(
+    area: &mut Area,
+    placed: &mut Placed,
+    array: Array,
+    found: &Found,
+) -> Result<(), AllocError>
+    ensures added { OnOk result
+        (AddsPartner (all_places placed.old) (all_places placed.new) found.now.partner array) }
+    ensures held { OnOk result ((e : Point) → Contains array.shifts e
+        → HasImages (map_at (as_reference array) e) found.now.area area.new) }
+    ensures kept { OnOk result (Grows area.old area.new) }
+{
+    area.hold_places(&found.area, &array)?;
+    let Array { by, shifts, .. } = array;
+    if let Some(cell) = found.partner {
+        placed.push(Array { cell, by, shifts })?;
+    }
+    Ok(())
+}
+
+/// What a cell's references place, with partners in place of the cells; those without a partner are
+/// left out. The area that was found for each of these cells is added at each place. If nothing is
+/// known for one of them, the area becomes the whole grid on every Layer.
+fn partners_placed(
+    area: &mut Area,
+    alloc: Global,
+    checked: &Checked,
+    cell: usize,
+    known: &[Option<Found>],
+) -> Result<Placed, AllocError>
+    requires { cell < length checked.now.cells }
+    ensures covers { IfOk result (λ placed. (pairs : List LayerPair) (theirs : List (PlainCell Rings))
+        → AreFound pairs checked.now.cells theirs known.now
+        → IfSome (slice_get checked.now.cells cell)
+        (λ c. AlikeOutside area.new (ReferencesCover checked.now.cells c.references)
+        (IsMoved pairs (PlacedCover theirs (all_places placed))))) }
+    ensures kept { OnOk result (Grows area.old area.new) }
+{
+    let mut placed = Placed::none(alloc);
+    let parent = &checked.cells()[cell];
+    for j in 0..parent.references.len() {
+        let array = array_of(checked, cell, j)?;
+        let Some(Some(found)) = known.get(array.cell) else {
+            area.hold_anywhere();
+            return Ok(placed);
+        };
+        place_partner(area, &mut placed, array, found)?;
+    }
+    Ok(placed)
+}
 
 /// Adds an area outside of which the first covers the same squares as the second, both with their
 /// Layers as the view maps them. Arrays that only one of both has are written out place by place.
@@ -159,8 +212,8 @@ pub(crate) fn hold_references(
     if hold_same(area, pair, ours, theirs, known)? {
         return Ok(());
     }
-    let placed = partners_alone(area, alloc, pair, ours, theirs, drawn, known)?;
-    let others = others_alone(area, alloc, pair, ours, theirs, drawn, known)?;
+    let placed = partners_placed(area, alloc, pair.first.checked(), ours, known)?;
+    let others = placed_of(alloc, pair.second.checked(), theirs)?;
     hold_placed(area, alloc, pair.second, drawn, pair.view, placed, others)?;
     Ok(())
 }
