@@ -47,6 +47,8 @@ the next one, whose first blanks are dropped. These are the keys of templates:
 
 Any other key is the name of a file in the folder where the program runs; words.py says how it is written.
 """
+import collections
+import glob
 import os
 import re
 import shlex
@@ -72,7 +74,8 @@ TURNED = [
 Table = namedtuple("Table", "file title templates rows")
 # A line of the program: its words, files by name, what it prints, and the templates of MORE that it has.
 Run = namedtuple("Run", "words files out err status more pieces")
-Row = namedtuple("Row", "label runs growths")
+# A row of a table, whose runs aren't made yet.
+Listed = namedtuple("Listed", "label table columns")
 
 
 class Wrong(Exception):
@@ -205,21 +208,23 @@ def exchanged(run):
     return run._replace(words=[command, second, first, *options], out=turned_lines(run.out), err=err)
 
 
-def rows(table, patterns):
-    """The rows of a table whose label has one of the patterns; all, if there is none."""
-    names = set()
+def listed_of(table):
+    """The rows of a table, by their labels."""
     for columns in table.rows:
         label = "%s: %s: %s" % (os.path.basename(table.file), table.title, columns[0])
         if len(columns) != len(table.rows[0]):
             raise Wrong("%s: it has %d columns, and the first row %d" % (label, len(columns), len(table.rows[0])))
-        if label in names:
-            raise Wrong("%s: twice" % label)
-        names.add(label)
-        try:
-            if not patterns or any(pattern in label for pattern in patterns):
-                yield row_of(table, columns, label)
-        except (ValueError, IndexError, KeyError, OSError) as wrong:
-            raise Wrong("%s: %s %s" % (label, type(wrong).__name__, wrong)) from wrong
+        yield Listed(label, table, columns)
+
+
+def listed(patterns=()):
+    """All rows in the files of this folder whose label has one of the patterns; all, if there is none."""
+    paths = sorted(glob.glob(os.path.join(HERE, "*.rows")))
+    found = [row for path in paths for table in tables(path) for row in listed_of(table)]
+    labels = collections.Counter(row.label for row in found)
+    if twice := [label for label, count in labels.items() if count > 1]:
+        raise Wrong("%s: twice" % twice[0])
+    return [row for row in found if not patterns or any(pattern in row.label for pattern in patterns)]
 
 
 def numbered(said):
@@ -238,14 +243,19 @@ def spelled(said):
             for kind in kinds] or [said]
 
 
-def row_of(table, columns, label):
+def row_of(listed):
+    """The runs of a row."""
     runs = []
-    for templates in of_lines(table.templates):
-        said = {key: filled(value, columns) for key, value in templates.items()}
-        found = [run_of(table, each) for numbers in numbered(said) for each in spelled(numbers)]
+    for templates in of_lines(listed.table.templates):
+        said = {key: filled(value, listed.columns) for key, value in templates.items()}
+        found = [run_of(listed.table, each) for numbers in numbered(said) for each in spelled(numbers)]
         runs += found + ([exchanged(run) for run in found] if said.get("exchanged") == "yes" else [])
-    return Row(label, runs, table.templates[0].get("growths"))
+    return runs
 
 
-def all_rows(paths, patterns=()):
-    return [row for path in paths for table in tables(path) for row in rows(table, patterns)]
+def made(listed):
+    """The runs of a row; what is wrong with it names the row."""
+    try:
+        return row_of(listed)
+    except (ValueError, LookupError, OSError, SyntaxError) as wrong:
+        raise Wrong("%s: %s %s" % (listed.label, type(wrong).__name__, wrong)) from wrong

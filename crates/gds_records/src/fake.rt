@@ -1,10 +1,10 @@
-//! GDSII streams for tests and benchmarks, made record by record.
+//! GDSII streams for tests and examples, made record by record.
 
 use crate::record_type;
 use std::alloc::{AllocError, Global};
 
 /// The eight-byte real 1.
-pub const ONE: [u8; 8] = [0x41, 0x10, 0, 0, 0, 0, 0, 0];
+const ONE: [u8; 8] = [0x41, 0x10, 0, 0, 0, 0, 0, 0];
 
 /// The corners of 0..10 by 0..10, the first again at the end.
 pub const SQUARE: [(i32, i32); 5] = [(0, 0), (10, 0), (10, 10), (0, 10), (0, 0)];
@@ -33,7 +33,7 @@ impl Stream {
     }
 
     /// A record of any type and data type; its payload has at most 65,531 bytes.
-    pub fn record(&mut self, kind: u8, data_type: u8, payload: &[u8]) -> Result<(), AllocError> {
+    fn record(&mut self, kind: u8, data_type: u8, payload: &[u8]) -> Result<(), AllocError> {
         let len = (payload.len() % 65_532 + 4) as u16;
         self.bytes.extend_from_slice(&len.to_be_bytes())?;
         self.bytes.push(kind)?;
@@ -48,7 +48,7 @@ impl Stream {
     }
 
     /// XY
-    pub fn points(&mut self, points: &[(i32, i32)]) -> Result<(), AllocError> {
+    fn points(&mut self, points: &[(i32, i32)]) -> Result<(), AllocError> {
         let mut payload = Vec::new(self.alloc);
         for (x, y) in points {
             payload.extend_from_slice(&x.to_be_bytes())?;
@@ -76,57 +76,8 @@ impl Stream {
         self.end_element()
     }
 
-    /// A boundary on 1/0 along these corners, with the first repeated at the end.
-    pub fn ring(&mut self, corners: &[(i32, i32)]) -> Result<(), AllocError> {
-        let mut points = Vec::from_slice(self.alloc, corners)?;
-        points.extend_from_slice(corners.get(..1).unwrap_or(&[]))?;
-        self.boundary(1, 0, &points)
-    }
-
-    /// PATH LAYER DATATYPE [PATHTYPE] WIDTH XY ENDEL on 1/0.
-    pub fn path(
-        &mut self,
-        ends: Option<i16>,
-        width: i32,
-        points: &[(i32, i32)],
-    ) -> Result<(), AllocError> {
-        self.record(record_type::PATH, 0, b"")?;
-        self.layer(1, 0)?;
-        if let Some(ends) = ends {
-            self.record(record_type::PATHTYPE, 2, &ends.to_be_bytes())?;
-        }
-        self.record(record_type::WIDTH, 3, &width.to_be_bytes())?;
-        self.points(points)?;
-        self.end_element()
-    }
-
-    /// SREF SNAME XY ENDEL; the name has an even number of bytes.
-    pub fn reference(&mut self, cell: &[u8], at: (i32, i32)) -> Result<(), AllocError> {
-        self.record(record_type::SREF, 0, b"")?;
-        self.record(record_type::SNAME, 6, cell)?;
-        self.points(&[at])?;
-        self.end_element()
-    }
-
-    /// AREF SNAME COLROW XY ENDEL; the name has an even number of bytes.
-    pub fn array(
-        &mut self,
-        cell: &[u8],
-        columns: i16,
-        rows: i16,
-        points: &[(i32, i32)],
-    ) -> Result<(), AllocError> {
-        self.record(record_type::AREF, 0, b"")?;
-        self.record(record_type::SNAME, 6, cell)?;
-        let mut counts = Vec::from_slice(self.alloc, &columns.to_be_bytes())?;
-        counts.extend_from_slice(&rows.to_be_bytes())?;
-        self.record(record_type::COLROW, 2, &counts)?;
-        self.points(points)?;
-        self.end_element()
-    }
-
     /// ENDEL
-    pub fn end_element(&mut self) -> Result<(), AllocError> {
+    fn end_element(&mut self) -> Result<(), AllocError> {
         self.record(record_type::ENDEL, 0, b"")
     }
 
@@ -135,19 +86,9 @@ impl Stream {
         self.record(record_type::ENDSTR, 0, b"")
     }
 
-    /// Where the next record begins, in bytes from the stream's beginning.
-    pub fn offset(&self) -> u64 {
-        self.bytes.len() as u64
-    }
-
     /// ENDLIB, and the bytes of the whole stream.
     pub fn end(mut self) -> Result<Vec<u8>, AllocError> {
         self.record(record_type::ENDLIB, 0, b"")?;
         Ok(self.bytes)
-    }
-
-    /// The bytes of the records so far.
-    pub fn into_bytes(self) -> Vec<u8> {
-        self.bytes
     }
 }

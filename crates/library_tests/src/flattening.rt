@@ -78,7 +78,7 @@ fn refused_cell(alloc: Global, low: Point, beside: i64) -> Result<Vec<u8>, Fail>
 #[test]
 fn out_of_range(rt: HostRuntime) -> Result<(), Fail> {
     let low = Point { x: i64::MIN, y: 0 };
-    let name = refused_cell(rt.alloc(), low, 0)?;
+    let name = refused_cell(rt.alloc(), low, 1)?;
     assert!(rt; name.as_slice() == b"A".as_slice());
     Ok(())
 }

@@ -1,5 +1,4 @@
-//! The square in GDSII with each byte set to each value: what is reported of each, and that it matters not how a reader
-//! cuts the bytes.
+//! The square in GDSII with each byte set to each value: what is reported of each, however a reader cuts the bytes.
 
 use crate::runs::SQUARE;
 use gds_library::{ElementRule, GdsFault, GdsKind, RecordFault, read_gds};
@@ -45,7 +44,7 @@ fn sign_fault(value: u8, offset: u64) -> Option<Cause<GdsFault>> {
     }
 }
 
-/// Whether it is one that another point has.
+/// Whether it is a fault of a boundary with another point.
 fn is_of_points(fault: Option<Cause<GdsFault>>) -> bool {
     fault == at(112, GdsKind::Element(ElementRule::NotClosed))
         || fault == at(112, GdsKind::Element(ElementRule::Oblique))
@@ -113,7 +112,7 @@ fn reports_each_byte_that_is_set(rt: HostRuntime) -> Result<(), AllocError> {
     Ok(())
 }
 
-/// Whether it matters not how a reader cuts the bytes with this value at a place.
+/// Whether the same is reported in pieces of every size of the bytes with this value at a place.
 fn is_alike_with(alloc: Global, bytes: &mut [u8], place: usize, value: u8) -> bool {
     if let Some(byte) = bytes.get_mut(place) {
         *byte = value;
@@ -127,7 +126,7 @@ fn is_alike_with(alloc: Global, bytes: &mut [u8], place: usize, value: u8) -> bo
     true
 }
 
-/// The same whichever bit of the byte at a place is another, which is then as it was.
+/// The same with each bit of the byte at a place flipped; then the byte is as it was.
 fn are_bits_alike(alloc: Global, bytes: &mut [u8], place: usize) -> bool {
     let kept = bytes.get(place).copied().unwrap_or(0);
     for bit in [1, 2, 4, 8, 16, 32, 64, 128] {

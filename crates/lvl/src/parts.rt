@@ -10,7 +10,7 @@ ghost use Rattle.lvl.specs.Hashes.{around, rows_around, HasAll, IsCleared, IsGat
 ghost use Rattle.lvl.specs.Hashes.{IsRightPushed, IsStripPushed};
 
 use crate::pace::{InParts, Pace};
-use crate::strip::{Axis, Strip, end_before, end_of, next_strip, slice_around};
+use crate::strip::{Axis, Strip, all_drawn, end_before, end_of, next_strip, slice_around};
 use lvl_corners::{LayerHash, Span};
 use lvl_flat::{Fitted, Flat};
 use lvl_grid::Window;
@@ -71,7 +71,7 @@ fn next_part(
         return next_part(alloc, fitted, layers, window, from, end, y, pace);
     }
     let row = slice_around(&columns, Axis::Y, y, top);
-    let flat = fitted.within(alloc, layers, &row, usize::MAX)?;
+    let flat = all_drawn(alloc, fitted, layers, &row)?;
     Ok(Part {
         flat,
         end,

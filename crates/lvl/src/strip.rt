@@ -6,9 +6,10 @@ ghost use Rattle.lvl_flat.specs.Flattened.{IsFlattenedWithin};
 ghost use Rattle.lvl.specs.Hashes.{below_at, last_of, sliced};
 
 use crate::pace::{Pace, Points};
-use lvl_flat::{Fitted, Flat};
+use lvl_flat::{Fitted, Flat, OverBudget};
 use lvl_grid::{Point, Window};
 use lvl_names::Layer;
+use lvl_refusal::Cause;
 use std::alloc::{AllocError, Global};
 
 /// The direction in which strips follow one another: columns along x, or rows along y.
@@ -100,8 +101,42 @@ pub(crate) fn end_before(end: i64, last: i64) -> Option<i64>
     if end < last { Some(end) } else { None }
 }
 
+/// The rings of some Layers in a window, or None if they have more than `most` points.
+fn drawn(
+    alloc: Global,
+    fitted: &Fitted,
+    layers: &[Layer],
+    window: &Window,
+    most: usize,
+) -> Result<Option<Flat>, AllocError>
+    requires { AllPairs ComesBefore layers.now }
+    ensures { IfOk result (λ found. IfSome found (IsFlattenedWithin fitted.now layers.now window.now)) }
+{
+    match fitted.within(alloc, layers, window, most) {
+        Ok(flat) => Ok(Some(flat)),
+        Err(Cause::Breach(OverBudget)) => Ok(None),
+        Err(Cause::OutOfMemory) => Err(AllocError),
+    }
+}
+
+/// The rings of some Layers in a window, however many points they have.
+pub(crate) fn all_drawn(
+    alloc: Global,
+    fitted: &Fitted,
+    layers: &[Layer],
+    window: &Window,
+) -> Result<Flat, AllocError>
+    requires { AllPairs ComesBefore layers.now }
+    ensures { IfOk result (IsFlattenedWithin fitted.now layers.now window.now) }
+{
+    match fitted.within(alloc, layers, window, usize::MAX) {
+        Ok(flat) => Ok(flat),
+        Err(_) => Err(AllocError),
+    }
+}
+
 /// The rings of some Layers in the strip of a window that begins at `from`. The strip is at most as
-/// wide as the pace allows, and is halved until it doesn't have too many points and fits in memory.
+/// wide as the pace allows, and is halved until it doesn't have too many points.
 /// If no narrower one is tried, its rings are None.
 pub(crate) fn next_strip(
     alloc: Global,
@@ -123,7 +158,7 @@ pub(crate) fn next_strip(
 {
     let end = end_of(end_of_all(window, axis), from, pace.width);
     let strip = slice_around(window, axis, from, end);
-    if let Ok(flat) = fitted.within(alloc, layers, &strip, pace.points) {
+    if let Some(flat) = drawn(alloc, fitted, layers, &strip, pace.points)? {
         let pace = pace.after(points_of(&flat, &strip, axis));
         return Ok(Strip {
             flat: Some(flat),

@@ -22,13 +22,6 @@ pub mod Unchanged
 pub mod Uniting
 pub mod Turned
 pub mod Leaving
-pub mod Remaining
 pub mod Resting
-pub mod Singles
-pub mod Editing
-pub mod Aligning
-pub mod Once
-pub mod Rounding
 pub mod Tops
 pub mod Rowing
-pub mod Apart

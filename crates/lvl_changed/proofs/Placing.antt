@@ -20,7 +20,7 @@ use Rattle.lvl_flat.specs.inside.Visits.{Pick, picks, PickCovers}
 use Rattle.lvl_view.specs.declared.map.LayerPair.{LayerPair}
 use Rattle.lvl_view.specs.Moved.{IsMoved}
 use Rattle.lvl_compare.specs.Tops.{Draws}
-use Rattle.lvl_cells.specs.Checks.{IsTargetOf}
+use Rattle.lvl_cells.specs.Checks.{HasReference, IsTargetOf}
 use Rattle.lvl_changed.specs.declared.arrays.Array.{Array}
 use Rattle.lvl_changed.specs.declared.found.Found.{Found}
 use Rattle.lvl_changed.specs.declared.placements.Placement.{Placement}
@@ -185,6 +185,14 @@ references_more cells i j c a at low is l s =
         | inr b ↦ Any-right P (picks (take j rs)) last (here.0 b)
       ],
     )
+
+-- the cell at an index has the reference that some cell there has
+pub reference_of : (cells : List (PlainCell Rings)) (i j : ℕ) (c : PlainCell Rings) → HasReference cells i j
+    → slice_get cells i ≡ Some c → j < length c.references
+reference_of cells i j c has at =
+    let both : Some has.0 ≡ Some c = sym has.1 ∙ at in
+    let one : has.0 ≡ c = cc in
+    subst (λ (d : PlainCell Rings). j < length d.references) one has.2
 
 -- with one more reference
 pub partners_more : (pairs : List LayerPair) (ours theirs : List (PlainCell Rings)) (i j : ℕ) (c : PlainCell Rings)

@@ -1,6 +1,8 @@
 -- Layouts without references, and what is left of two of them.
 use Rattle.std.proofs.Common.{◌≡◌, ◌↔◌, ◌∷◌, ℕ, zero, suc, List, [], Option, Some, None, slice_get, inl, inr}
 use Rattle.std.proofs.Common.{refl, subst, sym}
+use Rattle.std.specs.Prelude.{IfSome}
+use Rattle.std.proofs.lemmas.Option.{IfSome_then}
 use Rattle.lvl_grid.specs.declared.point.Square.{Square}
 use Rattle.lvl_grid.specs.declared.point.Window.{Window}
 use Rattle.lvl_grid.proofs.Anyone.{Any-nil}
@@ -15,15 +17,14 @@ use Rattle.lvl_columns.specs.Windows.{IsShown}
 use Rattle.lvl_compare.specs.Tops.{Draws, DrawSame, IsFirstDifference}
 use Rattle.lvl_view.specs.declared.map.LayerPair.{LayerPair}
 use Rattle.lvl_view.specs.Moved.{IsMoved}
+use Rattle.lvl_view.specs.Views.{target_of}
 use Rattle.lvl_changed.specs.Changed.{DrawSameBut, IsChange}
 use Rattle.lvl_changed.specs.declared.area.Area.{Area}
 use Rattle.lvl_changed.specs.declared.changes.Changes.{Changes}
-use Rattle.lvl_changed.specs.declared.rectangles.Rectangle.{Rectangle}
-use Rattle.lvl_changed.specs.declared.rest.Rest.{Rest}
-use Rattle.lvl_changed.specs.inside.Areas.{AlikeOutside, IsIn}
+use Rattle.lvl_changed.specs.inside.Areas.{IsIn}
 use Rattle.lvl_changed.specs.inside.Placements.{ReferencesCover}
-use Rattle.lvl_changed.specs.inside.Rectangles.{RectanglesCover}
-use Rattle.lvl_changed.specs.inside.Rests.{AreSameWhere, IsRest, RestCovers}
+use Rattle.lvl_changed.specs.inside.Figures.{AreLeft}
+use Rattle.lvl_changed.specs.inside.Rests.{AreSameWhere}
 use Rattle.lvl_changed.specs.inside.Shapes.{ShapesCover}
 use Rattle.lvl_changed.proofs.Moving.{covers_both, moved_more}
 use Rattle.lvl_changed.proofs.Unchanged.{moved_none}
@@ -56,83 +57,33 @@ pub top_of_one : (x : Settled) (c d : PlainCell Rings) → x.cells ≡ c ∷ [] 
     → slice_get x.cells x.top ≡ Some c
 top_of_one x c d one at = rw one (only c d x.top (rw one at at))
 
--- what is left of two layouts is left of them further on
-pub rests_where : (a b x y p q : Draws) → IsRest a b x → IsRest b a y → AreSameWhere x y p q → AreSameWhere a b p q
-rests_where a b x y p q first second further l s same =
-    let both = further l s same in (
-      λ h. elim (first.held l s h) [ inl c ↦ second.inside l s (both.0 c) | inr c ↦ c ],
-      λ h. elim (second.held l s h) [ inl c ↦ first.inside l s (both.1 c) | inr c ↦ c ],
-    )
-
--- and so it is if the rectangles of both are joined and left out
-pub joined_where : (ours theirs left other : Rest) (p q : List Rectangle)
-    → ((l : Layer) (s : Square) → RectanglesCover p l s ↔ RectanglesCover ours.rectangles.items l s)
-    → ((l : Layer) (s : Square) → RectanglesCover q l s ↔ RectanglesCover theirs.rectangles.items l s)
-    → IsRest (RectanglesCover p) (RectanglesCover q) (RectanglesCover left.rectangles.items)
-    → IsRest (RectanglesCover q) (RectanglesCover p) (RectanglesCover other.rectangles.items)
-    → left.shapes ≡ ours.shapes → other.shapes ≡ theirs.shapes
-    → AreSameWhere (RestCovers ours) (RestCovers theirs) (RestCovers left) (RestCovers other)
-joined_where ours theirs left other p q p_is q_is first second mine their l s same =
-    let Cover : List (PlainShape Rings) → Type 0 = λ hs. ShapesCover hs l s in
-    let here : RestCovers left l s → RestCovers theirs l s = λ h. elim (same.0 h) [
-      | inl y ↦ inl ((q_is l s).0 (second.inside l s y))
-      | inr f ↦ inr (subst Cover their f)
-    ] in
-    let there : RestCovers other l s → RestCovers ours l s = λ h. elim (same.1 h) [
-      | inl x ↦ inl ((p_is l s).0 (first.inside l s x))
-      | inr e ↦ inr (subst Cover mine e)
-    ] in (
-      λ h. elim h [
-        | inl a ↦ elim (first.held l s ((p_is l s).1 a)) [ inl x ↦ here (inl x) | inr b ↦ inl ((q_is l s).0 b) ]
-        | inr e ↦ here (inr (subst Cover (sym mine) e))
-      ],
-      λ h. elim h [
-        | inl b ↦ elim (second.held l s ((q_is l s).1 b)) [ inl y ↦ there (inl y) | inr a ↦ inl ((p_is l s).0 a) ]
-        | inr f ↦ there (inr (subst Cover (sym their) f))
-      ],
-    )
-
--- what is left of two flat layouts says where these are the same
-pub tops_where : (pairs : List LayerPair) (first second x y : Settled) (c d : PlainCell Rings)
-    (u v : List (PlainShape Rings)) (p q : Draws) → slice_get first.cells first.top ≡ Some c
+-- what is left of two flat layouts, without the shapes that both have, says where these are the same
+pub tops_where : (none pairs : List LayerPair) (first second x y : Settled) (c d : PlainCell Rings)
+    (u v : List (PlainShape Rings)) → none ≡ [] → slice_get first.cells first.top ≡ Some c
     → slice_get second.cells second.top ≡ Some d → c.references ≡ [] → d.references ≡ []
-    → AreSameWhere (ShapesCover c.shapes) (IsMoved pairs (ShapesCover d.shapes)) p q
-    → ((l : Layer) (s : Square) → ShapesCover u l s ↔ p l s) → ((l : Layer) (s : Square) → ShapesCover v l s ↔ q l s)
+    → AreLeft none c.shapes pairs d.shapes u → AreLeft pairs d.shapes none c.shapes v
     → ((l : Layer) (s : Square) → TopCovers x l s ↔ ShapesCover u l s)
     → ((l : Layer) (s : Square) → TopCovers y l s ↔ ShapesCover v l s)
-    → AreSameWhere (TopCovers first) (IsMoved pairs (TopCovers second)) (TopCovers x) (TopCovers y)
-tops_where pairs first second x y c d u v p q here there ours theirs left u_is v_is x_is y_is l s same =
-    let shapes = left l s (
-      λ h. (v_is l s).0 ((y_is l s).0 (same.0 ((x_is l s).1 ((u_is l s).1 h)))),
-      λ h. (u_is l s).0 ((x_is l s).0 (same.1 ((y_is l s).1 ((v_is l s).1 h)))),
-    ) in
-    let mine = flat_covers first c here ours in
-    let their = flat_covers second d there theirs in (
-      λ h.
-          moved_more pairs (ShapesCover d.shapes) (TopCovers second) s s (λ k. (their k s).1) l
-          (shapes.0 ((mine l s).0 h)),
-      λ m.
-          (mine l s).1
-          (shapes.1 (moved_more pairs (TopCovers second) (ShapesCover d.shapes) s s (λ k. (their k s).0) l m)),
-    )
-
--- flat layouts draw the same but for the changes, if their shapes cover the same outside of an area of these
-pub flat_changes : (pairs : List LayerPair) (area : Area) (changes : Changes) (first second : Settled)
-    (c d : PlainCell Rings) → slice_get first.cells first.top ≡ Some c → slice_get second.cells second.top ≡ Some d
-    → c.references ≡ [] → d.references ≡ []
-    → AlikeOutside area (ShapesCover c.shapes) (IsMoved pairs (ShapesCover d.shapes))
-    → ((l : Layer) (s : Square) → IsIn area l s → IsChange changes l s)
-    → DrawSameBut changes (TopCovers first) (IsMoved pairs (TopCovers second))
-flat_changes pairs area changes first second c d here there ours theirs alike has l s out =
-    let shapes = alike l s (λ h. out (has l s h)) in
-    let mine = flat_covers first c here ours in
-    let their = flat_covers second d there theirs in (
-      λ h.
-          moved_more pairs (ShapesCover d.shapes) (TopCovers second) s s (λ k. (their k s).1) l
-          (shapes.0 ((mine l s).0 h)),
-      λ m.
-          (mine l s).1
-          (shapes.1 (moved_more pairs (TopCovers second) (ShapesCover d.shapes) s s (λ k. (their k s).0) l m)),
+    → AreSameWhere (TopCovers first) (IsMoved pairs (TopCovers second)) (TopCovers x) (IsMoved pairs (TopCovers y))
+tops_where none pairs first second x y c d u v is here there ours theirs mine their x_is y_is l s same =
+    let top = flat_covers first c here ours l s in
+    let other = flat_covers second d there theirs in
+    let to_second : IsMoved pairs (ShapesCover d.shapes) l s → IsMoved pairs (TopCovers second) l s =
+    moved_more pairs (ShapesCover d.shapes) (TopCovers second) s s (λ k. (other k s).1) l in (
+      λ h. elim (mine.held l s ((moved_none none is (ShapesCover c.shapes) l s).1 (top.0 h))) [
+        | inl m ↦
+            to_second
+            (moved_more pairs (TopCovers y) (ShapesCover d.shapes) s s (λ k q. their.inside k s ((y_is k s).0 q)) l
+            (same.0 ((x_is l s).1 ((moved_none none is (ShapesCover u) l s).0 m))))
+        | inr m ↦ to_second m
+      ],
+      λ m. top.1 (elim (their.held l s
+          (moved_more pairs (TopCovers second) (ShapesCover d.shapes) s s (λ k. (other k s).0) l m)) [
+            | inl n ↦
+                mine.inside l s
+                ((x_is l s).0 (same.1 (moved_more pairs (ShapesCover v) (TopCovers y) s s (λ k. (y_is k s).1) l n)))
+            | inr n ↦ (moved_none none is (ShapesCover c.shapes) l s).0 n
+          ]),
     )
 
 -- what holds of some values holds of the same ones
@@ -146,34 +97,37 @@ pub rest_within : (changes : Changes) (a b x y : Draws) → AreSameWhere a b x y
 rest_within changes a b x y whole mine their l s out =
     whole l s (λ h. absurd (mine l s out h), λ h. absurd (their l s out h))
 
--- without pairs what is left may count as moved
-pub unmoved_where : (none : List LayerPair) (a b x y : Draws) → none ≡ [] → AreSameWhere a b x y
-    → AreSameWhere a b x (IsMoved none y)
-unmoved_where none a b x y is whole l s same =
-    let there = moved_none none is y l s in whole l s (λ h. there.0 (same.0 h), λ h. same.1 (there.1 h))
-
-pub given_unmoved : (none : List LayerPair) (a b x y : Draws) → none ≡ [] → AreSameWhere (IsMoved none a) b x y
-    → AreSameWhere a b x y
-given_unmoved none a b x y is whole l s same =
-    let here = moved_none none is a l s in
-    let both = whole l s same in (λ h. both.0 (here.1 h), λ h. here.0 (both.1 h))
-
--- without a window all squares are compared
-pub all_shown : (window : Option Window) → window ≡ None → (s : Square) → IsShown window s
-all_shown window none s = subst (λ (w : Option Window). IsShown w s) (sym none) tt
-
 -- if what is left draws the same, both layouts do
-pub same_where : (Seen Wide : Square → Type 0) (a b x y : Draws) → ((s : Square) → Wide s) → AreSameWhere a b x y
-    → DrawSame Wide x y → DrawSame Seen a b
-same_where Seen Wide a b x y wide whole same l s seen = whole l s (same l s (wide s))
+pub same_where : (Seen : Square → Type 0) (a b x y : Draws) → AreSameWhere a b x y → DrawSame Seen x y
+    → DrawSame Seen a b
+same_where Seen a b x y whole same l s seen = whole l s (same l s seen)
 
 -- the first difference of what is left is that of both layouts if they differ there
-pub differ_where : (Seen Wide : Square → Type 0) (a b x y : Draws) (l : Layer) (s : Square) (left side : Side)
-    → ((q : Square) → Wide q) → AreSameWhere a b x y → IsFirstDifference Wide x y l s left → Seen s
-    → IsAlone (a l) (b l) s side → IsFirstDifference Seen a b l s side
-differ_where Seen Wide a b x y l s left side wide same first seen alone = record {
-  seen = seen;
+pub differ_where : (Seen : Square → Type 0) (a b x y : Draws) (l : Layer) (s : Square) (left side : Side)
+    → AreSameWhere a b x y → IsFirstDifference Seen x y l s left → IsAlone (a l) (b l) s side
+    → IsFirstDifference Seen a b l s side
+differ_where Seen a b x y l s left side same first alone = record {
+  seen = first.seen;
   alone = alone;
-  least_layer = λ k before q shown. same k q (first.least_layer k before q (wide q));
-  least_square = λ q shown before. same l q (first.least_square q (wide q) before);
+  least_layer = λ k before q shown. same k q (first.least_layer k before q shown);
+  least_square = λ q shown before. same l q (first.least_square q shown before);
 }
+
+-- the changes that an area becomes have all that a top without references draws, if the area has
+pub changes_have : (pairs : List LayerPair) (x : Settled) (c : PlainCell Rings) (area : Area) (found : Option Changes)
+    → slice_get x.cells x.top ≡ Some c → c.references ≡ []
+    → ((l : Layer) (s : Square) → (¬ IsIn area (target_of pairs l) s) → ¬ ShapesCover c.shapes l s)
+    → IfSome found (λ changes. (l : Layer) (s : Square) → IsIn area l s → IsChange changes l s)
+    → IfSome found (λ changes. (l : Layer) (s : Square) → (¬ IsChange changes l s) → ¬ IsMoved pairs (TopCovers x) l s)
+changes_have pairs x c area found at none held has =
+    IfSome_then found has
+    (λ changes in_changes l s out m.
+    held m.source s (λ inside. out (in_changes l s (subst (λ (k : Layer). IsIn area k s) m.is_target inside)))
+    ((flat_covers x c at none m.source s).0 m.covers))
+
+-- and so if no Layer is mapped
+pub changes_have_own : (pairs : List LayerPair) (x : Settled) (found : Option Changes) → pairs ≡ []
+    → IfSome found (λ changes. (l : Layer) (s : Square) → (¬ IsChange changes l s) → ¬ IsMoved pairs (TopCovers x) l s)
+    → IfSome found (λ changes. (l : Layer) (s : Square) → (¬ IsChange changes l s) → ¬ TopCovers x l s)
+changes_have_own pairs x found is has =
+    IfSome_then found has (λ changes none l s out h. none l s out ((moved_none pairs is (TopCovers x) l s).1 h))

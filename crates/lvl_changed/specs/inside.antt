@@ -5,15 +5,10 @@ pub mod Arrays
 pub mod Finding
 pub mod Pairs
 pub mod Shapes
-pub mod Edits
-pub mod Aligned
-pub mod OnePlace
 pub mod Figures
 pub mod Layers
 pub mod Areas
 pub mod Drawing
 pub mod Rows
 pub mod InStep
-pub mod Alone
-pub mod Rectangles
 pub mod Rests

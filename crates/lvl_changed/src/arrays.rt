@@ -16,6 +16,15 @@ use std::alloc::AllocError;
 /// The greatest number of wrappers within one another that are seen through.
 const MOST_WRAPPERS: u64 = 64;
 
+/// How a reference to a cell that has no shapes and one reference, as a row of cells, is taken.
+#[derive(Clone, Copy, PartialEq, Eq)]
+pub(crate) enum Form {
+    /// As it is written.
+    Written,
+    /// As a reference to the cell within.
+    SeenThrough,
+}
+
 /// A cell, by its index, and a map that places it, moved by each of the shifts.
 #[derive(Drop)]
 pub(crate) struct Array {
@@ -111,22 +120,46 @@ fn in_order(array: Array) -> Array
     Array { cell, by, shifts }
 }
 
-/// What reference `j` of a cell places. A cell that has no shapes and one reference, as a row of
-/// cells, is seen through: what it places is taken as placed by the reference. A lattice begins at its
-/// least place, and its steps are in an order of their own.
-pub(crate) fn array_of(checked: &Checked, cell: usize, j: usize) -> Result<Array, AllocError>
+/// What reference `j` of a cell places. If it is seen through, what a cell that has no shapes and one reference places
+/// is taken as placed by the reference, where that can be kept as one array. A lattice begins at its least place, and its
+/// steps are in an order of their own.
+pub(crate) fn array_of(
+    checked: &Checked,
+    cell: usize,
+    j: usize,
+    form: Form,
+) -> Result<Array, AllocError>
     requires cell { cell < length checked.now.cells }
     requires reference { HasReference checked.now.cells cell j }
     ensures { IfOk result (IsArrayOf checked.now.cells cell j) }
 {
+    let most = match form {
+        Form::Written => 0,
+        Form::SeenThrough => MOST_WRAPPERS,
+    };
     let mut array = reference_at(checked, cell, j)?;
-    for _ in 0..MOST_WRAPPERS {
+    for _ in 0..most {
         match through(checked, &array)? {
             Some(inner) => array = inner,
             None => return Ok(in_order(array)),
         }
     }
     Ok(in_order(array))
+}
+
+/// Whether a cell places one that has no shapes and one reference.
+pub(crate) fn places_wrappers(checked: &Checked, cell: usize) -> bool {
+    let Some(parent) = checked.cells().get(cell) else {
+        return false;
+    };
+    for j in 0..parent.references.len() {
+        if let Some(target) = checked.target(cell, j) {
+            if is_wrapper(checked, target) {
+                return true;
+            }
+        }
+    }
+    false
 }
 
 impl Array {

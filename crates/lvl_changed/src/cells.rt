@@ -19,7 +19,7 @@ use crate::drawing::drawn_by_cells;
 use crate::found::Found;
 use crate::layers::Layers;
 use crate::partners::{partner_in, partners_of};
-use crate::references::hold_references;
+use crate::references::references_apart;
 use crate::shapes::hold_shapes;
 use crate::whole::{Budget, is_same_pair, settled};
 use crate::windows::MOST_WINDOWS;
@@ -67,11 +67,10 @@ fn changes_of(
     ensures { IfOk result (λ area. AreFoundIn pair.now known.now
         → AlikeOutside area (first_covers pair.now ours) (second_covers pair.now theirs)) }
 {
-    let mut area = Area::none(alloc, most);
+    let mut area = references_apart(alloc, pair, ours, drawn, theirs, known, most)?;
     let our_cell = pair.first.checked().cell(ours);
     let their_cell = pair.second.checked().cell(theirs);
     hold_shapes(&mut area, alloc, our_cell, their_cell, pair.view)?;
-    hold_references(&mut area, alloc, pair, ours, drawn, theirs, known)?;
     Ok(area)
 }
 

@@ -7,14 +7,10 @@ ghost use Rattle.lvl_compare.specs.Pairs.{ours, theirs};
 ghost use Rattle.lvl_compare.specs.Tops.{DrawSame, IsFirstDifference};
 ghost use Rattle.lvl_changed.specs.Changed.{DrawSameBut};
 
-use crate::aligned::hold_by_shapes;
-use crate::area::Area;
 use crate::cells::changed;
-use crate::changes::Changes;
+use crate::changes::{Changes, difference_among};
 use crate::pays::pays_by_cells;
-use crate::rests::{Known, known_by_rests, top_of};
-use crate::round::difference_from_below;
-use crate::windows::MOST_WINDOWS;
+use crate::rests::{Known, known_by_rests};
 use lvl_compare::{Pair, difference_by_strips};
 use lvl_flat::Fitted;
 use lvl_grid::{Square, Window};
@@ -69,41 +65,6 @@ fn changes_to_compare(alloc: Global, pair: &Pair<'_>) -> Result<Option<Changes>,
     Ok(Some(changes))
 }
 
-/// Where two layouts may differ whose tops have no references, or None if that isn't small, or isn't found by shapes.
-fn edits_to_compare(alloc: Global, pair: &Pair<'_>) -> Result<Option<Changes>, AllocError>
-    ensures { IfOk result (λ found. IfSome found (λ changes.
-        DrawSameBut changes (ours pair.now) (theirs pair.now))) }
-{
-    let (first, second) = (top_of(pair.first), top_of(pair.second));
-    if !first.references.is_empty() || !second.references.is_empty() {
-        return Ok(None);
-    }
-    let mut area = Area::none(alloc, MOST_WINDOWS);
-    if !hold_by_shapes(&mut area, alloc, &first.shapes, &second.shapes, pair.view)? {
-        return Ok(None);
-    }
-    let Some(changes) = area.into_changes() else {
-        return Ok(None);
-    };
-    if !are_small(&changes.windows, pair) {
-        return Ok(None);
-    }
-    Ok(Some(changes))
-}
-
-/// Where the layouts may differ, or None if it isn't likely to pay to compare only what is there.
-fn what_to_compare(alloc: Global, pair: &Pair<'_>) -> Result<Option<Changes>, AllocError>
-    ensures { IfOk result (λ found. IfSome found (λ changes.
-        DrawSameBut changes (ours pair.now) (theirs pair.now))) }
-{
-    let edits = edits_to_compare(alloc, pair)?;
-    if edits.is_some() {
-        return Ok(edits);
-    }
-    let changes = changes_to_compare(alloc, pair)?;
-    Ok(changes)
-}
-
 /// The first Layer, and on it the first square, by `y` and then `x`, that only one of two layouts
 /// draws, with its side; None if both draw the same squares on every Layer. The Layers of the
 /// second are mapped by the view, and if the view has a window, only its squares are compared.
@@ -111,9 +72,8 @@ fn what_to_compare(alloc: Global, pair: &Pair<'_>) -> Result<Option<Changes>, Al
 /// If cells are placed often enough for it to pay, only what [`changed`] finds is compared: its
 /// windows, and on its Layers only if these are few. Otherwise, or if the windows are more than half
 /// of the layout and the Layers aren't few, everything is: see [`difference_by_strips`], which also
-/// explains `most`. Of two tops without references, few shapes are compared one by one first, and at
-/// one place if all have the same shifts; of many, those that both have are left out first, if the view
-/// has no window. Fails only if out of memory.
+/// explains `most`. Of two tops without references that have many shapes, those that both have are left
+/// out first, if the view has no window. Fails only if out of memory.
 pub fn difference_by_changes(
     alloc: Global,
     first: &Fitted,
@@ -132,12 +92,12 @@ pub fn difference_by_changes(
         second,
         view,
     };
-    let Some(changes) = what_to_compare(alloc, &pair)? else {
-        return match known_by_rests(alloc, &pair, most) {
-            Ok(Known::Same) => Ok(None),
-            Ok(Known::Differ(layer, square, side)) => Ok(Some((layer, square, side))),
-            Ok(Known::Nothing) | Err(_) => difference_by_strips(alloc, first, second, view, most),
-        };
-    };
-    difference_from_below(alloc, &pair, changes, most)
+    if let Some(changes) = changes_to_compare(alloc, &pair)? {
+        return difference_among(alloc, &pair, &changes, most);
+    }
+    match known_by_rests(alloc, &pair, most)? {
+        Known::Same => Ok(None),
+        Known::Differ(layer, square, side) => Ok(Some((layer, square, side))),
+        Known::Nothing => difference_by_strips(alloc, first, second, view, most),
+    }
 }

@@ -1,9 +1,13 @@
 //! What a cell places: single placements and arrays.
-ghost use Rattle.std.specs.Prelude.{◌≡◌, [], OnOk};
+ghost use Rattle.std.specs.Prelude.{◌≡◌, ◌<◌, ◌↔◌, [], length, slice_get, IfOk, IfSome, OnOk};
+ghost use Rattle.lvl_grid.specs.declared.point.Square.{Square};
+ghost use Rattle.lvl_names.specs.declared.layer.Layer.{Layer};
 ghost use Rattle.lvl_changed.specs.inside.Arrays.{all_places, AddsArray};
+ghost use Rattle.lvl_changed.specs.inside.Placements.{PlacedCover, ReferencesCover};
 
-use crate::arrays::Array;
+use crate::arrays::{Array, Form, array_of};
 use crate::placements::Placement;
+use lvl_cells::Checked;
 use std::alloc::{AllocError, Global};
 
 /// Placements, and arrays of more than one place, which aren't written out place by place.
@@ -36,4 +40,25 @@ impl Placed {
         self.singles.push(Placement { cell, map: by })?;
         Ok(())
     }
+}
+
+/// What a cell's references place, with the indexes of the cells that these name.
+pub(crate) fn placed_of(
+    alloc: Global,
+    checked: &Checked,
+    cell: usize,
+    form: Form,
+) -> Result<Placed, AllocError>
+    requires { cell < length checked.now.cells }
+    ensures { IfOk result (λ placed. IfSome (slice_get checked.now.cells cell)
+        (λ c. (layer : Layer) (s : Square)
+        → PlacedCover checked.now.cells (all_places placed) layer s
+        ↔ ReferencesCover checked.now.cells c.references layer s)) }
+{
+    let mut placed = Placed::none(alloc);
+    let parent = &checked.cells()[cell];
+    for j in 0..parent.references.len() {
+        placed.push(array_of(checked, cell, j, form)?)?;
+    }
+    Ok(placed)
 }

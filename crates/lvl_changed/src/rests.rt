@@ -1,9 +1,9 @@
 //! Comparison of two flat layouts without the shapes that both have.
 //!
+//! A layout is edited in few places, or one Layer of it is written in other words: then most shapes are in both files.
 //! Where what is left of both draws the same, so do both. A square that only one of both draws is one that only
 //! what is left of it draws, so the first difference of what is left is that of both, unless a shape that both have
-//! covers its square. If rectangles that are left make up greater ones, these may be the same again, so they are joined
-//! first.
+//! covers its square.
 ghost use Rattle.std.specs.Prelude.{◌≡◌, ◌↔◌, [], slice_get, Some, IfOk, IfSome};
 ghost use Rattle.lvl_grid.specs.declared.point.Square.{Square as GridSquare};
 ghost use Rattle.lvl_names.specs.declared.layer.Layer.{Layer as PlainLayer};
@@ -13,16 +13,16 @@ ghost use Rattle.lvl_region.specs.Region.{IsAlone};
 ghost use Rattle.lvl_view.specs.Moved.{IsMoved};
 ghost use Rattle.lvl_compare.specs.Pairs.{ours, theirs};
 ghost use Rattle.lvl_changed.specs.inside.Shapes.{ShapesCover};
-ghost use Rattle.lvl_changed.specs.Changed.{DrawSameBut};
-ghost use Rattle.lvl_changed.specs.inside.Rests.{AreSameWhere, IsKnown, RestCovers};
+ghost use Rattle.lvl_changed.specs.Changed.{DrawSameBut, IsChange};
+ghost use Rattle.lvl_changed.specs.inside.Rests.{AreSameWhere, IsKnown};
 
-use crate::changes::Changes;
+use crate::area::Area;
+use crate::changes::{Changes, difference_among};
 use crate::figures::Seen;
-use crate::places::{BothPlaces, long_points, places_of};
-use crate::rectangles::{all_joined, apart, windows_round};
-use crate::rest::{Rest, cell_of, rest_of};
-use crate::round::{changes_round, difference_from_below};
-use crate::twins::{Repeated, Twins, have_many, twins_of};
+use crate::left::left_of;
+use crate::shapes::hold_extents;
+use crate::twins::{Twins, count_alone, have_many, twins_of};
+use crate::windows::MOST_WINDOWS;
 use lvl_cells::{Cell, Library, Shapes, check_or_return};
 use lvl_compare::{Pair, difference_by_strips, difference_in_windows};
 use lvl_flat::Fitted;
@@ -37,7 +37,7 @@ use std::slice;
 
 /// The least number of points that the shapes of both layouts have at one place each for which it pays to leave some
 /// shapes out.
-pub(crate) const FEWEST: usize = 262_144;
+const FEWEST: usize = 262_144;
 
 /// What is known of two layouts by what is left of them.
 #[derive(Clone, Copy)]
@@ -51,7 +51,7 @@ pub(crate) enum Known {
 }
 
 /// The top of a library.
-pub(crate) fn top_of(library: &Fitted) -> &Cell
+fn top_of(library: &Fitted) -> &Cell
     ensures { slice_get library.now.cells library.now.top ≡ Some result.now }
 {
     let checked = library.checked();
@@ -59,7 +59,7 @@ pub(crate) fn top_of(library: &Fitted) -> &Cell
 }
 
 /// A layout that draws what a cell without references does. None if it isn't accepted.
-pub(crate) fn layout_of(alloc: Global, cell: Cell) -> Result<Option<Fitted>, AllocError>
+fn layout_of(alloc: Global, cell: Cell) -> Result<Option<Fitted>, AllocError>
     requires { cell.references ≡ [] }
     ensures { IfOk result (λ found. IfSome found (λ fitted. (layer : PlainLayer) (s : GridSquare)
         → TopCovers fitted layer s ↔ ShapesCover cell.shapes layer s)) }
@@ -80,7 +80,7 @@ pub(crate) fn layout_of(alloc: Global, cell: Cell) -> Result<Option<Fitted>, All
 }
 
 /// About the number of points that the shapes have at one place each, or some number of at least [`FEWEST`].
-pub(crate) fn points_of(shapes: &Shapes) -> usize {
+fn points_of(shapes: &Shapes) -> usize {
     let mut points: usize = 0;
     for i in 0..shapes.len() {
         if points >= FEWEST {
@@ -94,119 +94,30 @@ pub(crate) fn points_of(shapes: &Shapes) -> usize {
     points
 }
 
-/// Which shapes of two tops may be the same, as shapes and as long rings at their places.
-#[derive(Drop)]
-struct Common {
-    twins: Twins,
-    places: BothPlaces,
-}
-
-/// Whether the shapes have so many points at all that it may pay to leave some out.
-fn are_many(ours: &Shapes, theirs: &Shapes) -> bool {
-    let long = long_points(ours).saturating_add(long_points(theirs));
-    let points = points_of(ours).saturating_add(points_of(theirs));
-    long >= FEWEST as u64 || points >= FEWEST
-}
-
 /// Which shapes of two tops may be the same, or None if they have few in common or few points at all.
 fn much_in_common(
     alloc: Global,
     ours: Seen<'_>,
     theirs: Seen<'_>,
-) -> Result<Option<Common>, AllocError> {
-    if !are_many(ours.shapes, theirs.shapes) || !have_many(alloc, ours, theirs)? {
+) -> Result<Option<Twins>, AllocError> {
+    let points = points_of(ours.shapes).saturating_add(points_of(theirs.shapes));
+    if points < FEWEST || !have_many(alloc, ours, theirs)? {
         return Ok(None);
     }
-    let twins = twins_of(alloc, ours, theirs, Repeated::Alone)?;
-    let places = places_of(alloc, ours, theirs)?;
-    let (all, left) = places.count_left(ours, theirs, &twins);
-    if left > all / 8 * 3 {
+    let twins = twins_of(alloc, ours, theirs)?;
+    let all = ours.shapes.len().saturating_add(theirs.shapes.len());
+    if count_alone(&twins) > all / 8 * 3 {
         return Ok(None);
     }
-    Ok(Some(Common { twins, places }))
+    Ok(Some(twins))
 }
 
-/// What is left of two layouts if the rectangles of each are joined, without those that both then have, but with those
-/// that are near what only one has: what one layout draws in a part of its own, the other may draw in one of them.
-fn without_joined(alloc: Global, ours: Rest, theirs: Rest) -> Result<(Rest, Rest), AllocError>
-    ensures { IfOk result (λ left. AreSameWhere (RestCovers ours) (RestCovers theirs) (RestCovers left.0)
-        (RestCovers left.1)) }
-{
-    let our_joined = all_joined(alloc, ours.rectangles)?;
-    let their_joined = all_joined(alloc, theirs.rectangles)?;
-    let our_own = apart(alloc, &our_joined, &their_joined, &[])?;
-    let their_own = apart(alloc, &their_joined, &our_joined, &[])?;
-    let windows = windows_round(alloc, &our_own, &their_own)?;
-    drop(our_own);
-    drop(their_own);
-    let our_left = apart(alloc, &our_joined, &their_joined, &windows)?;
-    let their_left = apart(alloc, &their_joined, &our_joined, &windows)?;
-    Ok((
-        Rest {
-            rectangles: our_left,
-            shapes: ours.shapes,
-        },
-        Rest {
-            rectangles: their_left,
-            shapes: theirs.shapes,
-        },
-    ))
-}
-
-/// What is left of two lists of shapes without those that both have, under their views' maps of Layers. None if they
-/// have few in common, or few points at all.
-fn left_of_lists(
-    alloc: Global,
-    shapes: &Shapes,
-    view: &View,
-    others: &Shapes,
-    other_view: &View,
-) -> Result<Option<(Rest, Rest)>, AllocError>
-    ensures { IfOk result (λ found. IfSome found (λ left. AreSameWhere (IsMoved view.now.pairs (ShapesCover shapes.now))
-        (IsMoved other_view.now.pairs (ShapesCover others.now)) (RestCovers left.0) (RestCovers left.1))) }
-{
-    let ours = Seen { shapes, view };
-    let theirs = Seen {
-        shapes: others,
-        view: other_view,
-    };
-    let Some(common) = much_in_common(alloc, ours, theirs)? else {
-        return Ok(None);
-    };
-    let Common { twins, places } = common;
-    let Some(rest) = rest_of(alloc, ours, theirs, &twins.ours, &places.theirs)? else {
-        return Ok(None);
-    };
-    let Some(their_rest) = rest_of(alloc, theirs, ours, &twins.theirs, &places.ours)? else {
-        return Ok(None);
-    };
-    drop(twins);
-    drop(places);
-    let left = without_joined(alloc, rest, their_rest)?;
-    Ok(Some(left))
-}
-
-/// What is left of the shapes of two cells without those that both have, under the view's map of Layers. None if they
-/// have few in common, or few at all.
-fn left_of_cells(
-    alloc: Global,
-    ours: &Cell,
-    theirs: &Cell,
-    view: &View,
-) -> Result<Option<(Rest, Rest)>, AllocError>
-    ensures { IfOk result (λ found. IfSome found (λ left. AreSameWhere (ShapesCover ours.now.shapes)
-        (IsMoved view.now.pairs (ShapesCover theirs.now.shapes)) (RestCovers left.0) (RestCovers left.1))) }
-{
-    let whole = View::whole(alloc);
-    left_of_lists(alloc, &ours.shapes, &whole, &theirs.shapes, view)
-}
-
-/// What is left of two layouts whose tops have no references, without the shapes that both have, on the Layers of the
-/// first. None if there are few of these, if only a window is compared, so that most shapes needn't be looked at
-/// again, or if what is left isn't accepted as a layout.
+/// What is left of two layouts whose tops have no references, without the shapes that both have. None if there are few
+/// of these, if only a window is compared, so that most shapes needn't be looked at again, or if what is left isn't
+/// accepted as a layout.
 fn rests_of(alloc: Global, pair: &Pair<'_>) -> Result<Option<(Fitted, Fitted)>, AllocError>
     ensures { IfOk result (λ found. IfSome found (λ rests. AreSameWhere (ours pair.now) (theirs pair.now)
-        (TopCovers rests.0) (TopCovers rests.1))) }
+        (TopCovers rests.0) (IsMoved pair.now.view.now.pairs (TopCovers rests.1)))) }
 {
     let (first, second) = (top_of(pair.first), top_of(pair.second));
     if !first.references.is_empty() || !second.references.is_empty() {
@@ -215,15 +126,25 @@ fn rests_of(alloc: Global, pair: &Pair<'_>) -> Result<Option<(Fitted, Fitted)>, 
     if pair.view.window().is_some() {
         return Ok(None);
     }
-    let Some((left, their_left)) = left_of_cells(alloc, first, second, pair.view)? else {
+    let whole = View::whole(alloc);
+    let ours = Seen {
+        shapes: &first.shapes,
+        view: &whole,
+    };
+    let theirs = Seen {
+        shapes: &second.shapes,
+        view: pair.view,
+    };
+    let Some(twins) = much_in_common(alloc, ours, theirs)? else {
         return Ok(None);
     };
-    let cell = cell_of(alloc, first.name.clone()?, left)?;
-    let their_cell = cell_of(alloc, second.name.clone()?, their_left)?;
-    let Some(rest) = layout_of(alloc, cell)? else {
+    let left = left_of(alloc, first, &whole, second, pair.view, &twins.ours)?;
+    let their_left = left_of(alloc, second, pair.view, first, &whole, &twins.theirs)?;
+    drop(twins);
+    let Some(rest) = layout_of(alloc, left)? else {
         return Ok(None);
     };
-    let Some(their_rest) = layout_of(alloc, their_cell)? else {
+    let Some(their_rest) = layout_of(alloc, their_left)? else {
         return Ok(None);
     };
     Ok(Some((rest, their_rest)))
@@ -237,8 +158,7 @@ fn side_at(
     square: Square,
     most: usize,
 ) -> Result<Option<Side>, AllocError>
-    ensures seen { IfOk result (λ found. IfSome found (λ _. IsShown (pair.now.view.now.window) square)) }
-    ensures alone { IfOk result (λ found. IfSome found
+    ensures { IfOk result (λ found. IfSome found
         (λ side. IsAlone (ours pair.now layer) (theirs pair.now layer) square side)) }
 {
     let Pair {
@@ -277,6 +197,31 @@ fn most_of_rests(pair: &Pair<'_>, rest: &Fitted, their_rest: &Fitted, most: usiz
     most.saturating_sub(left_out / 4).max(most / 4)
 }
 
+/// Windows round all that is left of two layouts, on the Layers on which it draws, those of the second as the view maps
+/// them. None if one of the tops has references.
+fn changes_round(
+    alloc: Global,
+    rest: &Fitted,
+    their_rest: &Fitted,
+    view: &View,
+) -> Result<Option<Changes>, AllocError>
+    ensures ours { IfOk result (λ found. IfSome found (λ changes. (layer : PlainLayer) (s : GridSquare)
+        → ¬ IsChange changes layer s → ¬ TopCovers rest.now layer s)) }
+    ensures theirs { IfOk result (λ found. IfSome found (λ changes. (layer : PlainLayer) (s : GridSquare)
+        → ¬ IsChange changes layer s → ¬ IsMoved view.now.pairs (TopCovers their_rest.now) layer s)) }
+{
+    let (first, second) = (top_of(rest), top_of(their_rest));
+    if !first.references.is_empty() || !second.references.is_empty() {
+        return Ok(None);
+    }
+    let whole = View::whole(alloc);
+    let mut area = Area::none(alloc, MOST_WINDOWS);
+    hold_extents(&mut area, &first.shapes, &whole)?;
+    hold_extents(&mut area, &second.shapes, view)?;
+    let changes = area.into_changes();
+    Ok(changes)
+}
+
 /// What is known of two layouts that draw the same but for the changes, of which only these are compared.
 fn known_among(
     alloc: Global,
@@ -287,7 +232,7 @@ fn known_among(
     requires { DrawSameBut changes (ours pair.now) (theirs pair.now) }
     ensures { IfOk result (IsKnown (IsShown pair.now.view.now.window) (ours pair.now) (theirs pair.now)) }
 {
-    let found = difference_from_below(alloc, pair, changes, most)?;
+    let found = difference_among(alloc, pair, &changes, most)?;
     let Some((layer, square, side)) = found else {
         return Ok(Known::Same);
     };
@@ -307,15 +252,14 @@ pub(crate) fn known_by_rests(
         return Ok(Known::Nothing);
     };
     let most = most_of_rests(pair, &rest, &their_rest, most);
-    let whole = View::whole(alloc);
-    let found = difference_by_strips(alloc, &rest, &their_rest, &whole, most)?;
+    let found = difference_by_strips(alloc, &rest, &their_rest, pair.view, most)?;
     let Some((layer, square, _)) = found else {
         return Ok(Known::Same);
     };
     if let Some(side) = side_at(alloc, pair, layer, square, most)? {
         return Ok(Known::Differ(layer, square, side));
     }
-    let Some(changes) = changes_round(alloc, &rest, &their_rest)? else {
+    let Some(changes) = changes_round(alloc, &rest, &their_rest, pair.view)? else {
         return Ok(Known::Nothing);
     };
     drop(rest);

@@ -11,7 +11,6 @@ ghost use Rattle.lvl_view.specs.Views.{target_of};
 ghost use Rattle.lvl_changed.specs.inside.Areas.{AlikeOutside, Grows, IsIn};
 ghost use Rattle.lvl_changed.specs.inside.Shapes.{ShapesCover, FlatCovers, HasMoved};
 
-use crate::aligned::hold_by_shapes;
 use crate::area::Area;
 use crate::corners::between;
 use crate::figures::Seen;
@@ -19,7 +18,7 @@ use crate::left::left_of;
 use crate::pays::rings_of;
 use crate::rings::hold_rings;
 use crate::shifts::moved;
-use crate::twins::{Repeated, twins_of};
+use crate::twins::twins_of;
 use lvl_cells::{Cell, MovedRing, Shapes};
 use lvl_compare::{lesser, past};
 use lvl_flat::{Flat, flatten_shapes};
@@ -62,7 +61,7 @@ fn hold_flats(area: &mut Area, alloc: Global, ours: &Flat, theirs: &Flat) -> Res
 
 /// Adds an area outside of which the shapes of cell `ours`, which are flattened, cover the same
 /// squares as those of cell `theirs` under the view's map of Layers.
-pub(crate) fn hold_flattened(
+fn hold_flattened(
     area: &mut Area,
     alloc: Global,
     ours: &Cell,
@@ -143,9 +142,10 @@ pub(crate) fn hold_extents(area: &mut Area, shapes: &Shapes, view: &View) -> Res
     Ok(())
 }
 
-/// Adds an area as [`hold_shapes`] does. The same shapes on both sides are left out. The others are flattened, unless
-/// these are more than [`MOST_FLATTENED`] rings.
-fn hold_others(
+/// Adds an area outside of which the own shapes of cell `ours` cover the same squares as those of cell `theirs` under
+/// the view's map of Layers. The same shapes on both sides are left out. The others are flattened, unless these are more
+/// than [`MOST_FLATTENED`] rings.
+pub(crate) fn hold_shapes(
     area: &mut Area,
     alloc: Global,
     ours: &Cell,
@@ -165,7 +165,7 @@ fn hold_others(
         shapes: &theirs.shapes,
         view,
     };
-    let twins = twins_of(alloc, our_shapes, their_shapes, Repeated::Paired)?;
+    let twins = twins_of(alloc, our_shapes, their_shapes)?;
     let left = left_of(alloc, ours, &whole, theirs, view, &twins.ours)?;
     let their_left = left_of(alloc, theirs, view, ours, &whole, &twins.theirs)?;
     if rings_of(&left).saturating_add(rings_of(&their_left)) <= MOST_FLATTENED {
@@ -174,26 +174,5 @@ fn hold_others(
     }
     hold_extents(area, &left.shapes, &whole)?;
     hold_extents(area, &their_left.shapes, view)?;
-    Ok(())
-}
-
-/// Adds an area outside of which the own shapes of cell `ours` cover the same squares as those of cell `theirs` under
-/// the view's map of Layers: round what was edited, if they are the same one by one but for that, or none if they are
-/// found to cover the same at one place.
-pub(crate) fn hold_shapes(
-    area: &mut Area,
-    alloc: Global,
-    ours: &Cell,
-    theirs: &Cell,
-    view: &View,
-) -> Result<(), AllocError>
-    ensures held { OnOk result (AlikeOutside area.new (ShapesCover ours.now.shapes)
-        (IsMoved view.now.pairs (ShapesCover theirs.now.shapes))) }
-    ensures kept { OnOk result (Grows area.old area.new) }
-{
-    if hold_by_shapes(area, alloc, &ours.shapes, &theirs.shapes, view)? {
-        return Ok(());
-    }
-    hold_others(area, alloc, ours, theirs, view)?;
     Ok(())
 }

@@ -4,6 +4,7 @@ use crate::placements::{Placement, quarters};
 use crate::shifts::{last_shift, shift_at};
 use lvl_cells::Checked;
 use lvl_grid::Map;
+use std::hash::{FoldHasher, Hasher};
 
 /// How a cell is placed first, then how many places there are, and the second and the last of them.
 pub(crate) type Spot = ((i64, i64, u8, bool), (u64, i64, i64, i64, i64));
@@ -66,4 +67,23 @@ pub(crate) fn skip_to_spot<T: AtSpot>(placed: &[T], from: usize, spot: &Spot) ->
         }
     }
     placed.len()
+}
+
+/// A number that arrays have in common that place cells at the same places, and few others have.
+pub(crate) fn key_of(array: &Array) -> u64 {
+    let mut hasher = FoldHasher::default();
+    let by = array.by;
+    hasher.write_i64(by.at.x);
+    hasher.write_i64(by.at.y);
+    hasher.write_u64(u64::from(quarters(by.turn)) * 2 + u64::from(by.flip));
+    if !array.shifts.is_single() {
+        let second = shift_at(&array.shifts, 1);
+        let last = last_shift(&array.shifts);
+        hasher.write_u64(array.shifts.len());
+        hasher.write_i64(second.x);
+        hasher.write_i64(second.y);
+        hasher.write_i64(last.x);
+        hasher.write_i64(last.y);
+    }
+    hasher.finish()
 }

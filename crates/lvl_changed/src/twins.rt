@@ -5,7 +5,7 @@ ghost use Rattle.std.specs.Prelude.{◌<◌, length, IsTrue};
 ghost use Rattle.lvl_cells.specs.Cells.{shape_at};
 
 use crate::figures::Seen;
-use crate::table::{Look, Table};
+use crate::slots::{Look, Table};
 use lvl_cells::Shapes;
 use std::alloc::{AllocError, Global};
 use std::hash::{FoldHasher, Hasher};
@@ -25,15 +25,6 @@ const FEW: usize = 1_024;
 /// The number of bits that tell most keys from those of the sampled shapes.
 const BITS: u64 = 4096;
 
-/// What becomes of shapes that a list has more than once.
-#[derive(Clone, Copy, PartialEq, Eq)]
-pub(crate) enum Repeated {
-    /// All of them have one twin.
-    Paired,
-    /// They have no twins, and those of the other list that are the same have none either.
-    Alone,
-}
-
 /// For each shape of two lists, by index, the shape of the other list that may be the same.
 #[derive(Drop)]
 pub(crate) struct Twins {
@@ -48,8 +39,6 @@ struct Classes {
     table: Table,
     /// For each shape of the first list that represents a key, the first shape of the second list that has it.
     found: Vec<u32>,
-    /// Whether one of the lists has more than one shape with the key.
-    are_repeated: Vec<bool>,
 }
 
 /// The number at an index, or `NONE`.
@@ -129,15 +118,7 @@ impl Classes {
         Ok(Classes {
             table: Table::with_room(alloc, count)?,
             found: vec![in alloc; NONE; count]?,
-            are_repeated: vec![in alloc; false; count]?,
         })
-    }
-
-    /// Notes that one of the lists has more than one shape with the key of a shape of the first list.
-    fn repeat(&mut self, first: usize) {
-        if let Some(is_repeated) = self.are_repeated.get_mut(first) {
-            *is_repeated = true;
-        }
     }
 
     /// Adds a shape of the first list. Returns the one that represents its key, which may have been found before.
@@ -146,11 +127,7 @@ impl Classes {
             Some(first) => Some(first),
             None => self.table.put(key, shape),
         };
-        let Some(first) = before else {
-            return word(shape);
-        };
-        self.repeat(first);
-        word(first)
+        word(before.unwrap_or(shape))
     }
 
     /// Adds a shape of the second list. Returns the one of the first list that represents its key, if there is one,
@@ -163,17 +140,10 @@ impl Classes {
         let Some(first) = there else {
             return NONE;
         };
-        match self.found.get_mut(first) {
-            Some(found) if *found == NONE => *found = word(shape),
-            _ => self.repeat(first),
+        if let Some(found) = self.found.get_mut(first) {
+            *found = word(shape).min(*found);
         }
         word(first)
-    }
-
-    /// Whether a shape of the first list represents shapes that have twins.
-    fn has_twins(&self, first: u32, repeated: Repeated) -> bool {
-        let is_repeated = self.are_repeated.get(first as usize) == Some(&true);
-        first != NONE && (repeated == Repeated::Paired || !is_repeated)
     }
 }
 
@@ -211,7 +181,7 @@ fn add_all(alloc: Global, classes: &mut Classes, ours: Seen<'_>) -> Result<Vec<u
         for k in 0..TOGETHER {
             let shape = start.saturating_add(k);
             if shape < ours.shapes.len() {
-                firsts.push(classes.add(keys[k], shape, looks[k].reference()))?;
+                firsts.push(classes.add(keys[k], shape, looks[k].shape()))?;
             }
         }
     }
@@ -232,35 +202,24 @@ fn join_all(
         for k in 0..TOGETHER {
             let shape = start.saturating_add(k);
             if shape < theirs.shapes.len() {
-                firsts.push(classes.join(keys[k], shape, looks[k].reference()))?;
+                firsts.push(classes.join(keys[k], shape, looks[k].shape()))?;
             }
         }
     }
     Ok(firsts)
 }
 
-/// The twins of the shapes of two lists.
+/// The twins of the shapes of two lists. Shapes that a list has more than once have one twin.
 pub(crate) fn twins_of(
     alloc: Global,
     ours: Seen<'_>,
     theirs: Seen<'_>,
-    repeated: Repeated,
 ) -> Result<Twins, AllocError> {
     let mut classes = Classes::new(alloc, ours.shapes.len())?;
     let mut our_twins = add_all(alloc, &mut classes, ours)?;
-    let mut their_twins = join_all(alloc, &mut classes, theirs)?;
+    let their_twins = join_all(alloc, &mut classes, theirs)?;
     for twin in &mut our_twins {
-        let first = *twin;
-        *twin = if classes.has_twins(first, repeated) {
-            at(&classes.found, first as usize)
-        } else {
-            NONE
-        };
-    }
-    for twin in &mut their_twins {
-        if !classes.has_twins(*twin, repeated) {
-            *twin = NONE;
-        }
+        *twin = at(&classes.found, *twin as usize);
     }
     Ok(Twins {
         ours: our_twins,
@@ -322,7 +281,8 @@ pub(crate) fn have_many(
     Ok(found.saturating_mul(2) as u64 >= SAMPLED)
 }
 
-/// How many shapes of a list have no twin.
-pub(crate) fn count_alone(twins: &[u32]) -> usize {
-    twins.iter().filter(|twin| **twin == NONE).count()
+/// How many shapes of both lists have no twin.
+pub(crate) fn count_alone(twins: &Twins) -> usize {
+    let ours = twins.ours.iter().filter(|twin| **twin == NONE).count();
+    ours.saturating_add(twins.theirs.iter().filter(|twin| **twin == NONE).count())
 }

@@ -11,7 +11,6 @@ ghost use Rattle.lvl_changed.specs.inside.Pairs.{IsFoundIn, first_covers, second
 use crate::area::Area;
 use crate::changes::{Changes, difference_among};
 use crate::found::Found;
-use crate::look::differ_at_a_look;
 use crate::pays::{placed_in, placed_rings, size_of};
 use lvl_cells::Checked;
 use lvl_compare::Pair;
@@ -40,8 +39,9 @@ const POINTS: usize = 65_536;
 /// places one that differs mostly differs too.
 const MOST_IN_VAIN: u8 = 2;
 
-/// Up to how many rings on both sides are compared at once, without a first look at a part of them.
-const MOST_AT_ONCE: u64 = 16_384;
+/// Which part of what both tops place a cell may place that is placed once, if it is compared as a whole. So a block of
+/// a chip whose placements were moved into its own cells, or drawn in it, is compared once, beside what it is placed in.
+const PART_OF_ONCE: u64 = 4;
 
 /// What comparisons of whole cells may still cost. Each costs the rings that both cells place, and
 /// once the cells and references of both libraries, since the places of these cells are counted.
@@ -49,6 +49,8 @@ const MOST_AT_ONCE: u64 = 16_384;
 pub(crate) struct Budget {
     left: u64,
     each: u64,
+    /// The most that a comparison of a cell that is placed once may cost.
+    once: u64,
     /// For each cell of the first library, how many levels below it, with itself, were compared in
     /// vain.
     in_vain: Vec<u8>,
@@ -72,6 +74,7 @@ impl Budget {
         Ok(Budget {
             left,
             each,
+            once: placed / PART_OF_ONCE,
             in_vain,
         })
     }
@@ -130,6 +133,7 @@ fn are_same_tops(
     alloc: Global,
     pair: &Pair<'_>,
     changes: &Changes,
+    times: u64,
     budget: &mut Budget,
 ) -> Result<bool, AllocError>
     ensures { IfOk result (λ same. IsTrue same → DrawSameBut changes.now (ours pair.now) (theirs pair.now)
@@ -140,10 +144,7 @@ fn are_same_tops(
     }
     let (first, second) = (pair.first.checked(), pair.second.checked());
     let rings = placed_rings(first).saturating_add(placed_rings(second));
-    if !budget.takes(rings) {
-        return Ok(false);
-    }
-    if rings > MOST_AT_ONCE && differ_at_a_look(alloc, pair, changes, POINTS)? {
+    if times < 2 && rings > budget.once || !budget.takes(rings) {
         return Ok(false);
     }
     let found = difference_among(alloc, pair, changes, POINTS)?;
@@ -186,6 +187,7 @@ fn are_same_cells(
     cell: usize,
     partner: usize,
     area: &Area,
+    times: u64,
     budget: &mut Budget,
 ) -> Result<bool, AllocError>
     ensures { IfOk result (λ same. IsTrue same
@@ -203,12 +205,12 @@ fn are_same_cells(
         second: &roots.theirs,
         view: pair.view,
     };
-    are_same_tops(alloc, &tops, &changes, budget)
+    are_same_tops(alloc, &tops, &changes, times, budget)
 }
 
 /// Whether a cell draws the same as its partner, with all that they place, if it does so outside of
-/// the area that was found. `false` says nothing if nothing was found, if the cell is placed only
-/// once, if what it places was compared in vain, or if the comparison would cost too much.
+/// the area that was found. `false` says nothing if nothing was found, if what it places was compared in
+/// vain, or if the comparison would cost too much.
 pub(crate) fn is_same_pair(
     alloc: Global,
     pair: &Pair<'_>,
@@ -224,10 +226,10 @@ pub(crate) fn is_same_pair(
     let Some(partner) = found.partner else {
         return Ok(false);
     };
-    if times < 2 || found.area.windows.is_empty() || !budget.takes_on(pair.first.checked(), cell) {
+    if found.area.windows.is_empty() || !budget.takes_on(pair.first.checked(), cell) {
         return Ok(false);
     }
-    let is_same = are_same_cells(alloc, pair, cell, partner, &found.area, budget)?;
+    let is_same = are_same_cells(alloc, pair, cell, partner, &found.area, times, budget)?;
     budget.settle(cell, is_same);
     Ok(is_same)
 }

@@ -13,7 +13,7 @@ ghost use Rattle.lvl_changed.specs.inside.Placements.{PlacedCover};
 ghost use Rattle.lvl_changed.specs.inside.Windows.{Has, HasPlaced, Widens};
 
 use crate::arrays::Array;
-use crate::closeness::{cost_of_joining, meet};
+use crate::closeness::{along, are_dense, cost_of_joining, meet, spread_across, squares_of};
 use crate::corners::{between, high_corner, low_corner, spot};
 use crate::shifts::moved;
 use lvl_flat::Fitted;
@@ -82,32 +82,44 @@ impl Windows {
         !self.anywhere && self.list.is_empty()
     }
 
-    /// At most `most` windows, and at least one, unless the set has no squares; those with the least
-    /// `y` first. None if it is the whole grid.
+    /// The number of squares of the windows together, or the greatest number if the set is the whole grid.
+    pub(crate) fn squares(&self) -> u128 {
+        if self.anywhere {
+            return u128::MAX;
+        }
+        squares_of(&self.list)
+    }
+
+    /// At most `most` windows, and at least one, unless the set has no squares, in the order of the axis on
+    /// which they spread most; one if they have most squares of their hull. None if it is the whole grid.
     pub(crate) fn into_list(self) -> Option<Vec<Window>>
         ensures { IfSome result (λ list. (s : Square) → Has self s → SomeHas list.items s) }
     {
         let most = self.most;
         let mut reduced = self;
         reduced.reduce(most);
+        reduced.condense();
         if reduced.anywhere {
             return None;
         }
+        let across = spread_across(&reduced.list);
         reduced
             .list
-            .sort_unstable_by_key(|window| (window.y0, window.x0));
+            .sort_unstable_by_key(|window| along(window, across));
         Some(reduced.list)
     }
 
-    /// A copy of the windows, or None if the set is the whole grid.
+    /// The windows of a copy, as [`Windows::into_list`] gives them.
     pub(crate) fn copied(&self, alloc: Global) -> Result<Option<Vec<Window>>, AllocError>
         ensures { IfOk result (λ copied. IfSome copied
             (λ list. (s : Square) → Has self.now s → SomeHas list.items s)) }
     {
-        if self.anywhere {
-            return Ok(None);
-        }
-        Ok(Some(Vec::from_slice(alloc, &self.list)?))
+        let copy = Windows {
+            list: Vec::from_slice(alloc, &self.list)?,
+            most: self.most,
+            anywhere: self.anywhere,
+        };
+        Ok(copy.into_list())
     }
 
     /// Makes the set the whole grid.
@@ -218,6 +230,18 @@ impl Windows {
             let least = cost_of_joining(self.list[i], self.list[i + 1]);
             self.join_next(i);
             self.join_at(least.saturating_mul(2));
+        }
+    }
+
+    /// Joins all windows if they have most of the squares of their hull: to search that once costs less.
+    fn condense(&mut self)
+        ensures { Widens self.old self.new }
+    {
+        if !are_dense(&self.list) {
+            return;
+        }
+        while self.list.len() > 1 {
+            self.join_next(0);
         }
     }
 

@@ -16,8 +16,10 @@ use crate::groups::Group;
 use crate::lists::{Lists, shorter};
 use crate::pace::Pace;
 use crate::pair::Pair;
+use lvl_flat::OverBudget;
 use lvl_grid::{Square, Window};
 use lvl_names::{Layer, comes_before};
+use lvl_refusal::Cause;
 use lvl_region::Side;
 use lvl_view::View;
 use std::alloc::{AllocError, Global};
@@ -67,8 +69,8 @@ pub(crate) fn shared(first: Window, second: Option<&Window>) -> Window
     }
 }
 
-/// The first difference of two layouts on the Layers of a group within a window. If one of them has
-/// more than `most` points there, that is reported as out of memory.
+/// The first difference of two layouts on the Layers of a group within a window, unless one of them has
+/// more than `most` points there.
 fn drawn_difference(
     alloc: Global,
     pair: &Pair<'_>,
@@ -76,7 +78,7 @@ fn drawn_difference(
     lists: &Lists,
     window: &Window,
     most: usize,
-) -> Result<Option<Difference>, AllocError>
+) -> Result<Option<Difference>, Cause<OverBudget>>
     requires listed { AreListed pair.now group.now }
     requires lists { AreBoth pair.now window.now lists.now }
     ensures { IfOk result (IsFoundIn (ours pair.now) (theirs pair.now) (on group.now.span (IsInWindow window.now))) }
@@ -172,7 +174,7 @@ fn difference_after(
     window: &Window,
     found: Option<Difference>,
     most: usize,
-) -> Result<Option<Difference>, AllocError>
+) -> Result<Option<Difference>, Cause<OverBudget>>
     requires listed { AreListed pair.now group.now }
     requires lists { AreBoth pair.now window.now lists.now }
     ensures { IfOk result (IsImproved (ours pair.now) (theirs pair.now)
@@ -267,7 +269,7 @@ fn whole(
     window: &Window,
     before: Search,
     most: usize,
-) -> Result<Search, AllocError>
+) -> Result<Search, Cause<OverBudget>>
     requires listed { AreListed pair.now group.now }
     requires lists { AreBoth pair.now window.now lists.now }
     ensures found { IfOk result (λ after. IsImproved (ours pair.now) (theirs pair.now)
@@ -282,6 +284,30 @@ fn whole(
         pace: before.pace,
         windows: before.windows.saturating_add(1),
     })
+}
+
+/// The search after a window that is tried as a whole, or None if a side has more than `most` points there.
+fn tried(
+    alloc: Global,
+    pair: &Pair<'_>,
+    group: &Group,
+    lists: &Lists,
+    window: &Window,
+    before: Search,
+    most: usize,
+) -> Result<Option<Search>, AllocError>
+    requires listed { AreListed pair.now group.now }
+    requires lists { AreBoth pair.now window.now lists.now }
+    ensures found { IfOk result (λ tried. IfSome tried (λ after. IsImproved (ours pair.now) (theirs pair.now)
+        (on group.now.span (IsInWindow window.now)) before.found after.found)) }
+    ensures few { IfOk result (λ tried. IfSome tried (λ after. after.windows + 2 * cuts_left after.pace
+        ≤ before.windows + 2 * cuts_left before.pace + 1)) }
+{
+    match whole(alloc, pair, group, lists, window, before, most) {
+        Ok(after) => Ok(Some(after)),
+        Err(Cause::Breach(OverBudget)) => Ok(None),
+        Err(Cause::OutOfMemory) => Err(AllocError),
+    }
 }
 
 /// The search after a window that isn't cut. Rings that lie over one another are joined where there are more than
@@ -302,17 +328,18 @@ fn uncut(
         ≤ before.windows + 2 * cuts_left before.pace + 1) }
 {
     let most = before.pace.points();
-    let tried = whole(alloc, pair, group, lists, window, before, most);
-    if let Ok(after) = tried {
+    if let Some(after) = tried(alloc, pair, group, lists, window, before, most)? {
         return Ok(after);
     }
-    let any = usize::MAX;
-    whole(alloc, pair, group, lists, window, before, any)
+    match whole(alloc, pair, group, lists, window, before, usize::MAX) {
+        Ok(after) => Ok(after),
+        Err(_) => Err(AllocError),
+    }
 }
 
 /// The search of a window, where a side is expected to have this number of points at most. If that
-/// fits the budget, the window is drawn as a whole; else, or if it has more points or doesn't fit in
-/// memory, its halves are searched one after the other. A window of one square may have any number of
+/// fits the budget, the window is drawn as a whole; else, or if it has more points, its halves are searched one after
+/// the other. A window of one square may have any number of
 /// points, and so may each window once all cuts are made. Each window looks only at those own shapes
 /// and references of the tops that may cover squares of the one that it is a half of, and none is looked
 /// at of which no square may come before what is known.
@@ -339,16 +366,14 @@ pub(crate) fn difference_within(
     }
     let most = before.pace.points();
     if expected <= most as u64 {
-        let tried = whole(alloc, pair, group, wider, window, before, most);
-        if let Ok(after) = tried {
+        if let Some(after) = tried(alloc, pair, group, wider, window, before, most)? {
             return Ok(after);
         }
     }
     let (short, sizes) = wider.shortened(alloc, pair, window)?;
     let lists = shorter(&short, wider);
     if sizes.are_tried(expected, most) {
-        let tried = whole(alloc, pair, group, lists, window, before, most);
-        if let Ok(after) = tried {
+        if let Some(after) = tried(alloc, pair, group, lists, window, before, most)? {
             return Ok(after);
         }
     }

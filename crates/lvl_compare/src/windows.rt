@@ -1,5 +1,5 @@
 //! Comparison of two libraries, as a whole or in some windows.
-ghost use Rattle.std.specs.Prelude.{IfOk, IfSome, IfNone};
+ghost use Rattle.std.specs.Prelude.{◌<◌, ◌≤◌, length, IfOk, IfSome, IfNone};
 ghost use Rattle.lvl_columns.specs.Windows.{IsShown};
 ghost use Rattle.lvl_flat.specs.Flattened.{TopCovers};
 ghost use Rattle.lvl_view.specs.Moved.{IsMoved};
@@ -22,9 +22,34 @@ use lvl_view::View;
 use std::alloc::{AllocError, Global};
 use std::slice;
 
-/// How many windows are searched together. Then a layout is looked at as a whole once for each eight windows, and
-/// not once for each.
+/// How many windows are searched together. Then a layout is looked at as a whole once for each eight windows near one
+/// another, and not once for each.
 const TOGETHER: usize = 8;
+
+/// The number of squares of a window, at most `u128::MAX`.
+fn area(window: &Window) -> u128 {
+    let width = u128::from(window.x0.abs_diff(window.x1));
+    width.saturating_mul(u128::from(window.y0.abs_diff(window.y1)))
+}
+
+/// The end, which is excluded, of the windows from an index on that are searched together: at most
+/// [`TOGETHER`] of them, and with at most half of what both layouts draw between them.
+fn end_of_near(pair: &Pair<'_>, windows: &[Window], from: usize) -> usize
+    requires { from < length windows.now }
+    ensures after { from < result }
+    ensures inside { result ≤ length windows.now }
+{
+    let half = area(&pair.first.extent().joined(pair.second.extent())) / 2;
+    let most = windows.len().min(from.saturating_add(TOGETHER));
+    let mut hull = windows[from];
+    for end in from + 1..most {
+        hull = hull.joined(windows[end]);
+        if area(&hull) > half {
+            return end;
+        }
+    }
+    most
+}
 
 /// The first difference of two layouts on the Layers of a group, in some windows, of which those that
 /// follow one another should be near one another.
@@ -43,7 +68,7 @@ pub(crate) fn difference_in_group(
     let mut found = None;
     let mut from = 0;
     while from < windows.len() {
-        let end = windows.len().min(from.saturating_add(TOGETHER));
+        let end = end_of_near(pair, windows, from);
         let near = &windows[from..end];
         found = difference_together(alloc, pair, group, &lists, near, most, found)?;
         from = end;

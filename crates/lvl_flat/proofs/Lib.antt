@@ -22,5 +22,3 @@ pub mod Summing
 pub mod Forward
 pub mod Own
 pub mod Choosing
-pub mod Beside
-pub mod Replacing

@@ -9,4 +9,3 @@ pub mod Passing
 pub mod Listed
 pub mod Parts
 pub mod Kept
-pub mod Near

@@ -1,4 +1,4 @@
-//! Why a library can't be flattened.
+//! Why a library can't be flattened, or not in the room that is given.
 use thiserror::Error;
 
 /// Why a library can't be flattened (own rule).
@@ -10,3 +10,8 @@ pub enum FlatFault {
     #[error("a placed coordinate is outside 64 bits")]
     OutOfRange(Vec<u8>),
 }
+
+/// What is to be drawn has more points than are allowed (own rule).
+#[derive(Clone, Copy, Debug, PartialEq, Eq, Error)]
+#[error("too many points")]
+pub struct OverBudget;

@@ -12,13 +12,13 @@ ghost use Rattle.lvl_refusal.specs.Refused.{Says};
 use crate::boxes::Boxes;
 use crate::candidates::{Candidates, Part, narrowed, sampled};
 use crate::estimate::{Count, Estimate, Measures};
-use crate::fault::FlatFault;
+use crate::fault::{FlatFault, OverBudget};
 use crate::flat::Flat;
 use crate::indexes::Indexes;
 use crate::layers::{empty_sheets, layers_of};
 use crate::room::Room;
 use crate::selected::draw_candidates;
-use crate::windowed::{check_range, flatten_within};
+use crate::windowed::check_range;
 use lvl_cells::Checked;
 use lvl_grid::Window;
 use lvl_names::Layer;
@@ -127,23 +127,19 @@ impl Fitted {
     /// On each of these Layers the rings together cover exactly the squares of the window that the
     /// top covers there through all references. The Layers must be in their order, without
     /// duplicates. Only what is drawn on them in the window takes memory. If the rings would have
-    /// more than `most` points, those that lie over one another are joined. If that doesn't halve
-    /// them, that is reported as out of memory.
+    /// more than `most` points, those that lie over one another are joined; if that doesn't halve
+    /// them, that is over the budget.
     pub fn within(
         &self,
         alloc: Global,
         layers: &[Layer],
         window: &Window,
         most: usize,
-    ) -> Result<Flat, AllocError>
+    ) -> Result<Flat, Cause<OverBudget>>
         requires { AllPairs ComesBefore layers.now }
         ensures { IfOk result (IsFlattenedWithin self.now layers.now window.now) }
     {
-        match flatten_within(alloc, &self.checked, &self.boxes, layers, window, most) {
-            Ok(flat) => Ok(flat),
-            Err(Cause::OutOfMemory) => Err(AllocError),
-            Err(Cause::Breach(_)) => unreachable!(),
-        }
+        self.within_of(alloc, &self.candidates(), layers, window, most)
     }
 
     /// All own shapes and references of the top. They are candidates for any window.
@@ -226,16 +222,17 @@ impl Fitted {
         layers: &[Layer],
         window: &Window,
         most: usize,
-    ) -> Result<Flat, AllocError>
+    ) -> Result<Flat, Cause<OverBudget>>
         requires rising { AllPairs ComesBefore layers.now }
         requires candidates { AreCandidates self.now window.now candidates.now }
         ensures { IfOk result (IsFlattenedWithin self.now layers.now window.now) }
     {
-        let room = Room {
-            alloc,
-            points: most,
-        };
+        let mut room = Room::of(alloc, most);
         let sheets = empty_sheets(alloc, layers)?;
-        draw_candidates(room, &self.checked, &self.boxes, candidates, sheets, window)
+        let (checked, boxes) = (&self.checked, &self.boxes);
+        match draw_candidates(&mut room, checked, boxes, candidates, sheets, window) {
+            Ok(flat) => Ok(flat),
+            Err(_) => Err(room.cause()),
+        }
     }
 }

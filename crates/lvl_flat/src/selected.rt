@@ -62,7 +62,7 @@ fn draw_own(
 /// The rings that the candidates of a top place on the Layers of the sheets, which are empty,
 /// clipped to a window.
 pub(crate) fn draw_candidates(
-    room: Room,
+    room: &mut Room,
     checked: &Checked,
     boxes: &Boxes,
     candidates: &Candidates,
@@ -76,24 +76,15 @@ pub(crate) fn draw_candidates(
     requires candidates { AreCandidates checked.now window.now candidates.now }
     ensures { IfOk result (IsFlattenedWithin checked.now (map (λ s. s.layer) empty.items) window.now) }
 {
-    let mut room = room;
     let mut sheets = empty;
     let top = checked.top();
     let scope = Scope::Within(*window);
-    draw_own(&mut room, checked, &mut sheets, candidates, window)?;
+    draw_own(room, checked, &mut sheets, candidates, window)?;
     let mut stack = Vec::new(room.alloc);
     push_visit(&mut stack, Visit::begun(top, UNMOVED))?;
     while let Some(visit) = stack.pop() {
         let visit = forwarded(top, &candidates.references, visit);
-        let Ok(()) = advance(
-            &mut room,
-            checked,
-            boxes,
-            &scope,
-            &mut sheets,
-            &mut stack,
-            visit,
-        ) else {
+        let Ok(()) = advance(room, checked, boxes, &scope, &mut sheets, &mut stack, visit) else {
             return Err(AllocError);
         };
     }

@@ -42,10 +42,7 @@ pub(crate) fn flatten_within(
     ensures ok { IfOk result (IsFlattenedWithin checked.now layers.now window.now) }
     ensures err { IfErr result (λ refusal. Says refusal (IsFlatFault checked.now)) }
 {
-    let room = Room {
-        alloc,
-        points: most,
-    };
+    let room = Room::of(alloc, most);
     let sheets = empty_sheets(alloc, layers)?;
     draw_all(room, checked, boxes, sheets, &Scope::Within(*window))
 }

@@ -1,4 +1,4 @@
-//! What the documentation of the crates shows, line by line.
+//! What the documentation of `lvl_io` and `lvl_profile` shows, line by line.
 
 use lvl_io::{Counted, Read};
 use lvl_profile::{Ignore, IgnoreFault};
@@ -6,7 +6,7 @@ use lvl_refusal::Cause;
 use std::test::Fail;
 
 #[test]
-fn readers(rt: HostRuntime) {
+fn reads_a_slice_of_std(rt: HostRuntime) {
     let bytes: &[u8] = b"mask";
     let mut reader = Counted::new(bytes);
     let mut buf = [0; 3];
@@ -17,7 +17,7 @@ fn readers(rt: HostRuntime) {
 }
 
 #[test]
-fn words(rt: HostRuntime) -> Result<(), Fail> {
+fn what_is_ignored(rt: HostRuntime) -> Result<(), Fail> {
     let alloc = rt.alloc();
     let ignore = Ignore::read(alloc, "properties,names")?;
     assert!(rt; ignore.properties && ignore.names && !ignore.texts);

@@ -1,12 +1,12 @@
 use Rattle.std.proofs.lemmas.Result.{IfOk-weaker}
 use Rattle.lvl_changed.proofs.difference.difference_by_changes.Goals as goal
 
-pub returns-clause-same : goal.returns-clause-same
-returns-clause-same c =
-    let outside = rw c.in-Some.is at c.in_ok-changes.ensures in
-    IfOk-weaker c.difference_from_below.result _ _ (λ found same. same outside) c.difference_from_below.ensures.same
+pub returns-in-Some-clause-same : goal.returns-in-Some-clause-same
+returns-in-Some-clause-same c =
+    let outside = rw c.in-Some.is at c.in_ok-found.ensures in
+    IfOk-weaker c.difference_among.result _ _ (λ found same. same outside) c.difference_among.ensures.same
 
-pub returns-clause-differ : goal.returns-clause-differ
-returns-clause-differ c =
-    let outside = rw c.in-Some.is at c.in_ok-changes.ensures in
-    IfOk-weaker c.difference_from_below.result _ _ (λ found differ. differ outside) c.difference_from_below.ensures.differ
+pub returns-in-Some-clause-differ : goal.returns-in-Some-clause-differ
+returns-in-Some-clause-differ c =
+    let outside = rw c.in-Some.is at c.in_ok-found.ensures in
+    IfOk-weaker c.difference_among.result _ _ (λ found differ. differ outside) c.difference_among.ensures.differ

@@ -10,9 +10,8 @@ use Rattle.lvl_changed.specs.declared.arrays.Array.{Array}
 use Rattle.lvl_changed.specs.declared.found.Found.{Found}
 use Rattle.lvl_changed.specs.inside.Arrays.{IsArrayOf}
 use Rattle.lvl_changed.specs.inside.Placements.{ReferencesCover}
-use Rattle.lvl_changed.proofs.Apart.{reference_of}
 use Rattle.lvl_changed.proofs.Moving.{alike_wider}
-use Rattle.lvl_changed.proofs.Placing.{same_more}
+use Rattle.lvl_changed.proofs.Placing.{reference_of, same_more}
 use Rattle.lvl_changed.proofs.in_step.hold_same_at.Goals as goal
 
 pub returns-clause-more : goal.returns-clause-more

@@ -3,20 +3,13 @@ use Rattle.lvl_grid.specs.declared.point.Square.{Square}
 use Rattle.lvl_names.specs.declared.layer.Layer.{Layer}
 use Rattle.lvl_region.specs.declared.region.Side.{Side}
 use Rattle.lvl_region.specs.Region.{IsAlone}
-use Rattle.lvl_columns.specs.Windows.{IsShown}
 use Rattle.lvl_compare.specs.Pairs.{ours, theirs}
 use Rattle.lvl_compare.specs.declared.pair.Pair.{Pair}
 use Rattle.lvl_changed.proofs.Lists.{equal_layers, equal_squares}
 use Rattle.lvl_changed.proofs.rests.side_at.Goals as goal
 
-pub returns-then-eq-2-clause-seen : goal.returns-then-eq-2-clause-seen
-returns-then-eq-2-clause-seen c =
-    let square : c.in-Some.at ≡ c.args.square = equal_squares c.in-Some.at c.args.square c.if-eq-2.ensures in
-    let first = rw c.in-Some.is at c.in_ok-found.ensures.differ in
-    subst (λ (q : Square). IsShown c.args.pair.now.view.now.window q) square first.seen.0
-
-pub returns-then-eq-2-clause-alone : goal.returns-then-eq-2-clause-alone
-returns-then-eq-2-clause-alone c =
+pub returns-then-eq-2 : goal.returns-then-eq-2
+returns-then-eq-2 c =
     let p : Pair = c.args.pair.now in
     let on : Layer = c.in-Some.on in
     let side : Side = c.in-Some.side in

@@ -17,8 +17,8 @@ loop-from-preserved c =
     let pair : Pair = c.args.pair.now in
     let ws : List Window = c.args.windows.now in
     let from = c.loop-from.from in
-    let end = c.min-end.result in
-    let up : from + (end - from) ≡ end = omega (arith, c.loop-from-test.true, c.min-end.ensures, c.saturating_add.ensures) in
+    let end = c.end_of_near-end.result in
+    let up : from + (end - from) ≡ end = omega (arith, c.end_of_near-end.ensures.after) in
     let cut : take end ws ≡ take from ws ++ take (end - from) (drop from ws) =
     ap (λ n. take n ws) (sym up) ∙ take-add from (end - from) ws in
     subst (λ us. IsImproved (ours pair) (theirs pair) (on c.args.group.now.span (seen_in pair us)) None

@@ -1,4 +1,4 @@
-use Rattle.std.proofs.Common.{◌≡◌, ◌∙◌, IfSome, ℕ, List, Option, Some, sym, subst, ap}
+use Rattle.std.proofs.Common.{◌≡◌, IfSome, ℕ, List, Option, Some, sym, subst, ap}
 use Rattle.lvl_cells.specs.Cells.{PlainCell, Rings}
 use Rattle.lvl_cells.specs.Checks.{Settled}
 use Rattle.lvl_flat.specs.Boxes.{AreBoxes}
