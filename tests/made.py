@@ -138,6 +138,12 @@ def sizes(many):
     return [box(k, 7, k + 1 + k % 10, 8 + k % 100 // 10) for k in range(many)]
 
 
+def sizes_rows(hundreds):
+    """What a hundred times so many of these boxes cover, in rows."""
+    return [box(100 * c + 10 * row, 7 + row, 100 * c + 109, 8 + row)
+            for c in range(hundreds) for row in range(10)]
+
+
 def again(many, *corners):
     """A box so often."""
     return [box(*corners)] * many
@@ -325,7 +331,7 @@ def view(number):
 
 
 MAKERS = {maker.__name__: maker for maker in (
-    comb, rake, stair, stairs, winding, wire, turns, brackets, bars, ladder, listed, column, sizes, again, again_path,
+    comb, rake, stair, stairs, winding, wire, turns, brackets, bars, ladder, listed, column, sizes, sizes_rows, again, again_path,
     many, rows_of, rings, narrow, boxes, lattice, parts,
 )}
 WORD = re.compile(r"(\d+/\d+:)?%(\w+)((?::-?\d+)*)(\*\S+)?")
