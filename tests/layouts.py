@@ -11,8 +11,8 @@
 
 Before a box, polygon or path `2/5:` says its Layer, else it is on 1/0. After any of them `*3:10,0` has it at three
 places, each 10,0 after the one before it, and `*3:10,0*2:0,20` at two such rows; `*@7,3;9,-4` has it at its place, and
-moved from there by 7,3 and by 9,-4; `*=`, in OASIS alone, at the places of the repetition before it. A word `%comb:4:5`
-stands for more words, which made.py makes.
+moved from there by 7,3 and by 9,-4; `*=`, in OASIS alone, at the places of the repetition before it. A word
+`%comb:4:5` stands for more words, which made.py makes.
 
 In OASIS a box is a RECTANGLE, and a POLYGON begins at its first corner at which a point list can begin.
 """

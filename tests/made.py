@@ -91,6 +91,45 @@ def brackets(first, last, least):
     return found
 
 
+# Rings at the ends of the grid.
+LEAST, MOST = -2**63, 2**63 - 1
+
+
+def left():
+    """A square at the left end."""
+    return [box(LEAST + 1, 4294967281, LEAST + 3, 4294967283)]
+
+
+def tower():
+    """A ring near 2^31, from the middle of the lower half of the grid to its upper end."""
+    return [ring([(2147483650, 4294967308), (2147483650, 4294967308), (2147483650, 4294967288),
+                  (2147483613, 4294967288), (2147483613, 2305843013508661239),
+                  (2147483613, 4611686022722355190), (2147483613, 6917529031936049141),
+                  (2147483613, 9223372036854775807), (2147483679, 9223372036854775807),
+                  (2147483679, 6917529027641081856), (2147483679, 4611686018427387905),
+                  (2147483679, 2305843009213693954), (2147483679, 4294967264), (1, 4294967264),
+                  (1, 4294967269), (2147483655, 4294967269), (2147483655, -2305843004918726682),
+                  (2147483655, -4611686014132420633), (2147483655, -4611686018427387904),
+                  (2147483650, -4611686018427387904)])]
+
+
+def wide():
+    """From the left end to just right of the middle, with a corner taken out."""
+    return [ring([(0, 1), (-9223372036854775807, 1), (-9223372036854775807, 9), (0, 9), (0, 9), (1, 9), (1, 4),
+                  (0, 4)])]
+
+
+def whole():
+    """All of the grid."""
+    return [box(LEAST, LEAST, MOST, MOST)]
+
+
+def nearly_all():
+    """All but a square at the upper right end."""
+    return [ring([(LEAST, LEAST), (MOST, LEAST), (MOST, MOST - 1), (MOST - 1, MOST - 1), (MOST - 1, MOST),
+                  (LEAST, MOST)])]
+
+
 # Many rings.
 def bars(many, pieces):
     """Bars beside each other, each a step higher than the one before it, in one piece or two; and some squares far
@@ -109,7 +148,7 @@ def bars(many, pieces):
 def ladder(many, downward):
     """Boxes as wide as the grid, which overlap by pairs, upwards or downwards."""
     rungs = range(many)[::-1] if downward else range(many)
-    return [box(-2**63, 3 * rung, 2**63 - 1, 3 * rung + 4) for rung in rungs]
+    return [box(LEAST, 3 * rung, MOST, 3 * rung + 4) for rung in rungs]
 
 
 def listed(many, reverse, twice=-1):
@@ -136,6 +175,12 @@ def column(many):
 def sizes(many):
     """Boxes beside each other, of which none has the size of the one before."""
     return [box(k, 7, k + 1 + k % 10, 8 + k % 100 // 10) for k in range(many)]
+
+
+def sizes_rows(hundreds):
+    """What a hundred times so many of these boxes cover, in rows."""
+    return [box(100 * c + 10 * row, 7 + row, 100 * c + 109, 8 + row)
+            for c in range(hundreds) for row in range(10)]
 
 
 def again(many, *corners):
@@ -201,7 +246,7 @@ def made_ring(seed, at):
 
 def rings(number, second):
     """One of the two lists of rings with this number: about 0, or at an end of the grid."""
-    at = {0: -2**63, 1: 2**63 - 21}.get(number % 4, -4)
+    at = {0: LEAST, 1: MOST - 20}.get(number % 4, -4)
     seed, found = number * (104_729 if second else 7919) % 2**64, []
     for _ in range(number % (4 if second else 5)):
         seed = following(seed)
@@ -233,7 +278,8 @@ def boxes(number, second):
     return found
 
 
-# What the top of a made library places: cells moved, turned and reflected, arrays of one place less, one cell for another.
+# What the top of a made library places: cells moved, turned and reflected, arrays of one place less, one cell for
+# another.
 PLACED = [
     "A@0,0*8:10,0", "A@0,0*7:10,0", "A@1,0*8:10,0", "A@0,0^90*8:10,0", "A@0,0*4:10,0 A@40,0*4:10,0", "M@0,0*4:10,0",
     "M@0,0^180*4:10,0", "M@0,0*4:10,0 B@50,0^f*4:10,0", "A@0,0*8:10,0 M@5,0^f90*3:10,0", "B@0,0*8:10,0 A@80,0",
@@ -325,8 +371,9 @@ def view(number):
 
 
 MAKERS = {maker.__name__: maker for maker in (
-    comb, rake, stair, stairs, winding, wire, turns, brackets, bars, ladder, listed, column, sizes, again, again_path,
-    many, rows_of, rings, narrow, boxes, lattice, parts,
+    comb, rake, stairs, winding, wire, turns, brackets, bars, ladder, listed, column, sizes, sizes_rows, again,
+    again_path, many, rows_of, rings, narrow, boxes, lattice, parts,
+    left, tower, wide, whole, nearly_all,
 )}
 WORD = re.compile(r"(\d+/\d+:)?%(\w+)((?::-?\d+)*)(\*\S+)?")
 

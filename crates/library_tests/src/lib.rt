@@ -13,6 +13,8 @@ mod flattening;
 #[cfg(test)]
 mod gds_bytes;
 #[cfg(test)]
+mod inner;
+#[cfg(test)]
 mod maps;
 #[cfg(test)]
 mod memory;

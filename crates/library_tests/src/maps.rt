@@ -1,7 +1,7 @@
-//! Rings and maps worked by hand.
-use crate::words::{cut, is_text, points_of, ring_of, rows_hold};
+//! Maps, and rings placed by them, worked by hand.
+use crate::words::ring_of;
 use lvl_grid::{Map, PlaceFault, Point, Ring, Square, Turn};
-use std::alloc::{AllocError, Global};
+use std::alloc::Global;
 use std::test::Fail;
 
 const ORIGIN: Point = Point { x: 0, y: 0 };
@@ -24,51 +24,6 @@ fn covered(ring: &Ring) -> Covered {
         }
     }
     found
-}
-
-/// What rings are, their points, and what they cover, with the number of points; or why they are none.
-const RINGS: &str = "\
-once round | 0,0 4,0 4,4 0,4 | 4 points, 16 squares from 0,0 to 3,3
-twice round | 0,0 4,0 4,4 0,4 0,0 4,0 4,4 0,4 | 8 points, 16 squares from 0,0 to 3,3
-repeated points | 0,0 4,0 4,0 4,4 4,4 0,4 | 6 points, 16 squares from 0,0 to 3,3
-corner | 0,0 4,0 4,2 2,2 2,4 0,4 | 6 points, 12 squares from 0,0 to 1,3
-no area | 0,0 0,4 0,0 | 3 points, no squares
-two points | 0,0 1,1 | TooFew
-an oblique first edge | 0,0 1,1 1,0 | Oblique
-an oblique closing edge | 0,0 1,0 1,1 | Oblique
-";
-
-/// How many points the ring has, and what it covers.
-fn covered_text(alloc: Global, ring: &Ring) -> Result<String, AllocError> {
-    let points = ring.points().len();
-    match covered(ring) {
-        Some((squares, Square { x, y }, last)) => {
-            let (x1, y1) = (last.x, last.y);
-            format!(in alloc; "{points} points, {squares} squares from {x},{y} to {x1},{y1}")
-        }
-        None => format!(in alloc; "{points} points, no squares"),
-    }
-}
-
-/// How many points the ring of these points has, and what it covers; or why there is none.
-fn ring_text(alloc: Global, points: Vec<Point>) -> Result<String, Fail> {
-    let text = match Ring::new(points) {
-        Ok(ring) => covered_text(alloc, &ring),
-        Err(fault) => format!(in alloc; "{fault:?}"),
-    };
-    text.map_err(Fail::from)
-}
-
-/// Whether the ring of a row is as it says.
-fn row_is_ring(alloc: Global, row: &str) -> Result<bool, Fail> {
-    let (_, row) = cut(row, " | ");
-    let (points, want) = cut(row, " | ");
-    is_text(ring_text(alloc, points_of(alloc, points)?), want)
-}
-
-#[test]
-fn rings_by_their_points(rt: HostRuntime) -> Result<(), Fail> {
-    rows_hold(rt.alloc(), RINGS, row_is_ring)
 }
 
 const FLIP_AND_RISE: Map = Map {
