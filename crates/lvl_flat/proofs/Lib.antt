@@ -22,3 +22,5 @@ pub mod Summing
 pub mod Forward
 pub mod Own
 pub mod Choosing
+pub mod Beside
+pub mod Replacing

@@ -9,3 +9,4 @@ pub mod Passing
 pub mod Listed
 pub mod Parts
 pub mod Kept
+pub mod Near

@@ -113,7 +113,7 @@ impl Bounds {
     }
 
     /// Whether the box is on one side of the window.
-    fn is_beside(self, window: &Window) -> bool
+    pub(crate) fn is_beside(self, window: &Window) -> bool
         ensures { IsTrue result → IsBeside self window.now }
     {
         if self.high.x <= window.x0 || window.x1 <= self.low.x {

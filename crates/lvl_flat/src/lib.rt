@@ -45,6 +45,7 @@ mod indexes;
 mod layers;
 mod mapped;
 mod missed;
+mod near;
 mod passing;
 mod room;
 mod rows;

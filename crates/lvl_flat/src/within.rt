@@ -12,6 +12,7 @@ ghost use Rattle.lvl_flat.specs.inside.Drawn.{FitsAtEach, IsRingDrawn};
 use crate::bounds::Bounds;
 use crate::boxes::bounds_of_shifts;
 use crate::missed::{LEAST_RUN, missed_from};
+use crate::near::placed_near;
 use crate::room::Room;
 use crate::rows::known_row;
 use crate::scope::Scope;
@@ -82,6 +83,33 @@ fn draw_cut(
     Ok(())
 }
 
+/// Appends a ring that has stretches as [`draw_cut`] does, without those of its points that are on one side of the
+/// window and needn't be placed.
+fn draw_near(
+    alloc: Global,
+    rings: &mut Rings,
+    ring: &MovedRing<'_>,
+    shift: Point,
+    map: &Map,
+    window: &Window,
+) -> Result<(), PlaceFault>
+    requires { IsRing ring.now }
+    ensures covers { OnOk result ((q : GridSquare) → SomeCovers rings.new q
+        ↔ (SomeCovers rings.old q ⊎ (IsInWindow window.now q × IsPlaceOfCovered map.now shift ring.now q))) }
+    ensures out { result ≡ Err PlaceFault.OutOfRange → ¬ FitsRing map.now shift ring.now }
+{
+    let Ok(found) = placed_near(alloc, ring, shift, map, window) else {
+        return Err(PlaceFault::OutOfMemory);
+    };
+    let Some(near) = found else {
+        return draw_cut(alloc, rings, ring, shift, map, window);
+    };
+    let Ok(()) = rings.push_clipped(&Part::Within(*window), near.points()) else {
+        return Err(PlaceFault::OutOfMemory);
+    };
+    Ok(())
+}
+
 /// Appends a ring whose points are within `bounds`, moved by the shift, placed by the map and
 /// clipped to the window. If the bounds show that it is outside of the window, or inside, it
 /// needn't be clipped.
@@ -107,6 +135,10 @@ fn draw_ring_at(
         }
         if placed.is_inside(window) {
             ring.push_placed(alloc, rings, shift, map)?;
+            return Ok(());
+        }
+        if ring.reach_of_stretch(0).is_some() {
+            draw_near(alloc, rings, ring, shift, map, window)?;
             return Ok(());
         }
     }

@@ -17,3 +17,8 @@ returns-then-is_inside-clause-covers c =
     inside_adds c.args.map.now c.args.shift c.args.window.now c.args.bounds c.in-Some.placed c.args.ring.now
     c.args.rings.now c.push_placed.new.rings c.in-Some.ensures.held c.requires.bounds (c.if-is_inside.ensures refl)
     c.in_ok-push_placed.ensures.ok c.in_ok-push_placed.ensures.covers
+
+pub returns-then-is_some-clause-fits : goal.returns-then-is_some-clause-fits
+returns-then-is_some-clause-fits c =
+    placed_ring_fits c.args.map.now c.args.shift c.args.bounds c.in-Some.placed c.args.ring.now c.in-Some.ensures.fits
+    c.in-Some.ensures.held c.requires.bounds
