@@ -2,8 +2,8 @@
 """Measures what hostile files cost, a case for each kind, and prints a table of it as in docs/HOSTILE.md.
 
 Each case makes its files and runs the program on them. Its row has the size of the files in bytes, about how many
-corners they place, seconds of processor time, the peak of memory in MB, and how much of that is beyond 12 bytes for
-each byte of the files; last is what the program was asked and answered.
+corners they place, seconds of processor time, the peak of memory in MB, how much of that is beyond 12 bytes for each
+byte of the files, and what the program was asked and answered.
 """
 import os
 import random
@@ -13,8 +13,7 @@ import zlib
 from collections import namedtuple
 
 from lib import crafted, options
-from lib.assembler import cell_by_name, column, counted_name, lattice, line, oas_path, placement, polygon, rectangle
-from lib.assembler import signed, string, unsigned
+from lib.assembler import cell_by_name, column, lattice, line, placement, polygon, rectangle, signed, string, unsigned
 from lib.crafted import oas_cell, oas_file
 from lib.oasis import steps_of
 
@@ -31,22 +30,20 @@ def one(*records):
     return oas_file(oas_cell("TOP", *records))
 
 
-def comb(teeth, last=9):
-    """A polygon whose edges go up, right, down and right, with a last tooth of its own height, at places to come."""
-    deltas = [signed(9), signed(1), signed(-8), signed(1)] * (teeth - 1)
-    deltas += [signed(last), signed(1), signed(1 - last), signed(1)]
-    return polygon(deltas, 1).replace(b"\x15\x3B", b"\x15\x3F", 1)
-
-
 def combs():
-    """Few bytes that place many corners."""
-    many = lambda last: one(comb(16_383, last) + line(100, 7, 3))
-    yield case("a polygon of 65,534 corners at 100 places over one another, a tooth of it edited", 13_106_800,
-               many(9), many(7))
-    yield case("the polygon, not edited", 6_553_400, many(9), words=("digest",))
-    again = polygon([signed(9), signed(1), signed(-8), signed(1)] * 16_383, 1) + b"\x15\0" * 999
-    yield case("1,000 polygons by 2 bytes each, not placed", 0, oas_file(oas_cell("TOP"), oas_cell("B", again)),
-               words=("show", "--top", "TOP"))
+    """A long polygon at places over one another, whose last tooth has another height in the second file."""
+    def file(tall):
+        teeth = [signed(9), signed(1), signed(-8), signed(1)] * 16_382
+        comb = polygon([*teeth, signed(tall), signed(1), signed(1 - tall), signed(1)], 1)
+        return one(comb.replace(b"\x15\x3B", b"\x15\x3F", 1) + line(100, 7, 3))
+    yield case("a polygon of 65,534 corners at 100 places over one another, edited", 13_106_800, file(9), file(7))
+
+
+def distinct():
+    """Polygons with a byte for each corner, which is kept in 16 bytes."""
+    rng, lengths = random.Random(1), bytes((at % 63 + 1) << 1 | at >> 7 for at in range(256))
+    rings = (polygon([rng.randbytes(1_000).translate(lengths)], 1, 1_000, (3 * at, 5 * at)) for at in range(30_000))
+    yield case("30,000 polygons of 1,000 corners, no two alike", 30_000_000, one(*rings), words=("show",))
 
 
 def hierarchies():
@@ -62,15 +59,20 @@ def hierarchies():
                doubling(rectangle(0, 0, 1, 1)), doubling(rectangle(0, 0, 1, 1), rectangle(5, 5, 1, 1)))
 
 
+def placements():
+    """Placements by few bytes each."""
+    n = 5_000_000
+    def file(width, first, step):
+        steps = (b"\x11\x20" + signed(step) if step else b"\x11\0") * (n - 1)
+        top = oas_cell("TOP", placement("A", first), b"\x10", steps)
+        return oas_file(oas_cell("A", rectangle(0, 0, width, 2)), top)
+    yield case("5,000,000 placements of 3 bytes, the other way round", 8 * n, file(2, 0, 3), file(2, 3 * (n - 1), -3))
+    yield case("5,000,000 placements of 2 bytes, against those of a wider square", 8 * n, file(2, 0, 0), file(3, 0, 0))
+
+
 def records():
-    n, name = 5_000_000, "N" * 255
-    file = lambda width: oas_file(oas_cell("A", rectangle(0, 0, width, 2)),
-                                  oas_cell("TOP", placement("A"), b"\x11\0" * (n - 1)))
-    yield case("5,000,000 placements of 2 bytes, against those of a wider square", 8 * n, file(2), file(3))
     yield case("100 MB of PAD records", 0, [crafted.OAS_HEAD + cell_by_name(b"A"), 10**8, crafted.OAS_END],
                words=("show",))
-    table = (counted_name(b"N" * 248 + b"%07d" % at) for at in random.Random(1).sample(range(10**6), 10**6))
-    yield case("a table of a million names of 255 bytes", 0, oas_file(table, oas_cell("TOP")), words=("show",))
     packed = zlib.compressobj(9, wbits=-15)
     inside = packed.compress(bytes(10**8)) + packed.flush()
     yield case("100,000,000 PAD records in one compressed block", 0,
@@ -84,38 +86,33 @@ def layers():
                file(range(n - 1, -1, -1)))
 
 
-def against_itself(what, boxes):
-    """The boxes against the same boxes in another order and one unit square above them, which is compared last."""
-    high = max(top for _, _, _, top in boxes) + 5
-    more = boxes + [(boxes[0][0], high, boxes[0][0] + 1, high + 1)]
-    random.Random(1).shuffle(more)
-    files = (one(b"".join(rectangle(x0, y0, x1 - x0, y1 - y0) for x0, y0, x1, y1 in order)) for order in (boxes, more))
-    return case(what, 8 * len(boxes), *files)
+def in_parts(what, boxes):
+    """The boxes against the same boxes, each as two that overlap."""
+    parts = [part for x0, y0, x1, y1 in boxes for part in (
+        (x0, y0, (x0 + x1) // 2 + 1, y1), ((x0 + x1) // 2, y0, x1, y1))]
+    files = (one(b"".join(rectangle(x0, y0, x1 - x0, y1 - y0) for x0, y0, x1, y1 in each)) for each in (boxes, parts))
+    return case(what, 12 * len(boxes), *files)
 
 
 def overlaps():
-    n, m, rng = 10_000, 4_000, random.Random(7)
-    yield against_itself("10,000 nested squares", [(at, at, 3 * n - at, 3 * n - at) for at in range(n)])
+    n, m = 10_000, 4_000
+    yield in_parts("10,000 nested squares, against each in two parts",
+                   [(at, at, 3 * n - at, 3 * n - at) for at in range(n)])
     along = [(0, 2 * at, 2 * m, 2 * at + 1) for at in range(m)]
-    yield against_itself("a grid of 4,000 by 4,000 wires", along + [(y0, x0, y1, x1) for x0, y0, x1, y1 in along])
-    spots = [(rng.randrange(10**6), rng.randrange(10**6)) for _ in range(200_000)]
-    yield against_itself("200,000 scattered squares of a fiftieth of their field",
-                         [(x, y, x + 20_000, y + 20_000) for x, y in spots])
+    yield in_parts("a grid of 4,000 by 4,000 wires, against each in two parts",
+                   along + [(y0, x0, y1, x1) for x0, y0, x1, y1 in along])
     bars = lambda more: one(rectangle(0, 0, 1, 80_000, 1, line(79_999, 2, 1)), rectangle(0, 10**13, 1, 1, 1, line(
         1_600, 100, 10**11)), rectangle(159_998, 79_999, 1, 80_000 + more))
     yield case("80,000 bars as a stair, which a sample doesn't show", 640_000, bars(0), bars(1))
-    steps = [signed(10), signed(10), signed(-10), signed(-10)] * 16_384
-    paths = lambda half: one(oas_path(steps, half)[:-2], b"\0\0", b"\x16\0" * 15)
-    yield case("16 paths of 65,536 runs on themselves, two widths", 8 * 2**20, paths(2), paths(3))
 
 
-def columns():
+def arrays():
     n = 1_000_000
     yield case("a column of a million rectangles", 4 * n, one(rectangle(0, 0, 10, 1, 1, column(n, 2))),
                words=("digest",))
     leaf = lambda width: oas_file(oas_cell("A", rectangle(0, 0, width, 1)),
                                   oas_cell("TOP", placement("A", 0, 0, lattice(4096, 4095, 4, 4))))
-    yield case("a square at 16.8 million places, wider", 8 * 4096 * 4095, leaf(1), leaf(2))
+    yield case("a square at 16.8 million places", 4 * 4096 * 4095, leaf(1), words=("digest",))
 
 
 def turning(points):
@@ -136,10 +133,8 @@ def wound(rng, times):
 
 def rounds():
     rings = [wound(random.Random(at), 1_000) for at in range(16)]
-    first, other = (b"".join(turning(ring) for ring in order)
-                    for order in (rings, [ring[:1] + ring[:0:-1] for ring in rings[::-1]]))
-    yield case("16 polygons of 4,000 corners that wind 1,000 times, at the end of the grid", 128_000, one(first),
-               one(other, rectangle(LOW, -LOW - 1, 1, 1)))
+    yield case("16 polygons of 4,000 corners that wind 1,000 times, the other way round", 128_000, *(
+        one(*(turning(ring) for ring in order)) for order in (rings, [ring[:1] + ring[:0:-1] for ring in rings])))
 
 
 def measure(program, each, folder, most):
@@ -147,10 +142,10 @@ def measure(program, each, folder, most):
     names = [os.path.join(folder, "f%d" % at) for at in range(len(each.files))]
     size = sum(crafted.write(name, file) for name, file in zip(names, each.files))
     done = crafted.run(program, [each.words[0], *names, *each.words[1:]], most)
-    answer = "stopped" if done.status is None else done.output.rstrip("\n").split("\n")[-1].split(" ")[0]
+    last = "stopped" if done.status is None else done.output.rstrip("\n").split("\n")[-1].split(" ")[0].rstrip(":")
     beyond = max(0, done.megabytes - 12 * size / 2**20)
     numbers = f"{size:,} | {each.corners:,} | {done.seconds:.1f} | {done.megabytes:,.0f} | {beyond:,.0f}"
-    print("| %s | %s | %s: %s |" % (each.what, numbers, each.words[0], answer), flush=True)
+    print("| %s | %s | %s: %s |" % (each.what, numbers, each.words[0], last), flush=True)
 
 
 def main():
@@ -159,9 +154,10 @@ def main():
     parser.add_argument("--most", metavar="SECONDS", type=float, default=300,
                         help="the elapsed seconds after which a run is stopped (default: 300)")
     asked = options.parsed(parser)
-    print("| What | Bytes | Placed corners | Seconds | Peak MB | Beyond 12 a byte | Answer |\n|---|---|---|---|---|---|---|")
+    print("| What | Bytes | Placed corners | Seconds | Peak MB | Beyond 12 a byte | Answer |")
+    print("|---|---|---|---|---|---|---|")
     with tempfile.TemporaryDirectory(prefix="lvl-hostile-") as folder:
-        for group in (combs, hierarchies, records, layers, overlaps, columns, rounds):
+        for group in (combs, distinct, hierarchies, placements, records, layers, overlaps, arrays, rounds):
             for each in group() if asked.only in group.__name__ else ():
                 measure(asked.program, each, folder, asked.most)
 
