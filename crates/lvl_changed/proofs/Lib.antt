@@ -19,7 +19,6 @@ pub mod Own
 pub mod Missing
 pub mod Boxing
 pub mod Unchanged
-pub mod Uniting
 pub mod Turned
 pub mod Leaving
 pub mod Resting

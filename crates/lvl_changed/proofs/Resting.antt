@@ -1,10 +1,9 @@
 -- Layouts without references, and what is left of two of them.
-use Rattle.std.proofs.Common.{◌≡◌, ◌↔◌, ◌∷◌, ℕ, zero, suc, List, [], Option, Some, None, slice_get, inl, inr}
-use Rattle.std.proofs.Common.{refl, subst, sym}
+use Rattle.std.proofs.Common.{◌≡◌, ◌↔◌, ◌∷◌, ℕ, zero, suc, List, [], Option, Some, slice_get, inl, inr}
+use Rattle.std.proofs.Common.{refl, subst}
 use Rattle.std.specs.Prelude.{IfSome}
 use Rattle.std.proofs.lemmas.Option.{IfSome_then}
 use Rattle.lvl_grid.specs.declared.point.Square.{Square}
-use Rattle.lvl_grid.specs.declared.point.Window.{Window}
 use Rattle.lvl_grid.proofs.Anyone.{Any-nil}
 use Rattle.lvl_names.specs.declared.layer.Layer.{Layer}
 use Rattle.lvl_cells.specs.Cells.{PlainCell, PlainReference, PlainShape, Rings}
@@ -13,7 +12,6 @@ use Rattle.lvl_flat.specs.Flattened.{TopCovers}
 use Rattle.lvl_flat.specs.inside.Visits.{PickCovers}
 use Rattle.lvl_region.specs.declared.region.Side.{Side}
 use Rattle.lvl_region.specs.Region.{IsAlone}
-use Rattle.lvl_columns.specs.Windows.{IsShown}
 use Rattle.lvl_compare.specs.Tops.{Draws, DrawSame, IsFirstDifference}
 use Rattle.lvl_view.specs.declared.map.LayerPair.{LayerPair}
 use Rattle.lvl_view.specs.Moved.{IsMoved}

@@ -1,7 +1,6 @@
 use Rattle.std.proofs.Common.{◌≡◌, [], List, ap, sym, ◌∙◌}
-use Rattle.lvl_cells.specs.Cells.{PlainCell, PlainShape, Rings}
+use Rattle.lvl_cells.specs.Cells.{PlainCell, Rings}
 use Rattle.lvl_view.specs.declared.map.LayerPair.{LayerPair}
-use Rattle.lvl_changed.specs.inside.Figures.{AreLeft}
 use Rattle.lvl_changed.proofs.Resting.{tops_where}
 use Rattle.lvl_changed.proofs.rests.rests_of.Goals as goal
 
