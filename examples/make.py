@@ -1,5 +1,10 @@
 #!/usr/bin/env python3
-"""Writes the example layouts; README.md beside it says what each of them is."""
+"""Writes the example layouts; README.md beside it says what each of them is.
+
+    examples/make.py [FOLDER]
+
+The default FOLDER is that of this script.
+"""
 import argparse
 import os
 import sys
@@ -8,9 +13,9 @@ HERE = os.path.dirname(os.path.abspath(__file__))
 sys.path.insert(0, os.path.join(os.path.dirname(HERE), "tools"))
 sys.dont_write_bytecode = True
 
-import assembler
-from assembler import MAGIC, OASIS_END, STREAM_END, aref, cell_by_number, numbered_name, path, row, signed, sref, start
-from assembler import stream_head, structure, text, unsigned
+from lib import assembler
+from lib.assembler import MAGIC, OASIS_END, STREAM_END, aref, cell_by_number, numbered_name, path, row, signed, sref
+from lib.assembler import start, stream_head, structure, text, unsigned
 
 UNITS = bytes.fromhex("3e4189374bc6a7f0") + bytes.fromhex("3944b82fa09b5a54")
 
@@ -72,11 +77,6 @@ def placed_rectangle(by, layer, x0, y0, x1, y1):
     return layer, min(a, c), min(b, d), max(a, c), max(b, d)
 
 
-def write(name, data):
-    with open(os.path.join(HERE, name), "wb") as file:
-        file.write(data)
-
-
 def hierarchy_in_gds():
     wire = path([(20, 0), (30, 0), (30, 20)], 4, layer=3, square=True)
     gate = structure("GATE", box(*GATE[0]), box(*GATE[1]), wire, text(9, (2, 2), b"gate"))
@@ -102,14 +102,25 @@ def in_one_cell(rectangles):
     return library(structure("PLAIN", *[box(*each) for each in rectangles]))
 
 
-def main():
-    argparse.ArgumentParser(description="Writes the example layouts, each into the folder of this script.").parse_args()
+def layouts():
+    """The bytes of each file, by its name."""
     *others, last = flat_rectangles()
     layer, x0, y0, x1, y1 = last
-    write("chip.gds", hierarchy_in_gds())
-    write("chip.oas", hierarchy_in_oasis())
-    write("plain.gds", in_one_cell([*others, last]))
-    write("wrong.gds", in_one_cell([*others, (layer, x0, y0, x1 - 1, y1)]))
+    return {
+        "chip.gds": hierarchy_in_gds(),
+        "chip.oas": hierarchy_in_oasis(),
+        "plain.gds": in_one_cell([*others, last]),
+        "wrong.gds": in_one_cell([*others, (layer, x0, y0, x1 - 1, y1)]),
+    }
+
+
+def main():
+    line = argparse.ArgumentParser(description="Writes the example layouts.")
+    line.add_argument("folder", metavar="FOLDER", nargs="?", default=HERE, help="where (default: beside this script)")
+    folder = line.parse_args().folder
+    for name, data in layouts().items():
+        with open(os.path.join(folder, name), "wb") as file:
+            file.write(data)
 
 
 if __name__ == "__main__":

@@ -27,6 +27,7 @@ The first word is the kind of file:
     oasis-names  `N`: N empty cells with names of 127 digits
     bars, stair  rows of boxes; corners.py describes them
     text         a text as in `out`
+    example      a file of examples/ by its name
     folder       no file, but a folder
 
 The other words, each of which adds bytes to those before it:
@@ -62,9 +63,11 @@ In `out`, `err` and `last` of a table a word in braces stands for a text:
     {percents NAME}       how much of a file of 8,000,000 bytes is shown to be read, from its first megabyte on
     {megabytes NAME 7}    the same of a file whose size isn't known, up to 7 megabytes
     {file NAME}           the text of the file NAME in tests/texts
+    {readme LINE}         what README.md has after `$ lvl LINE`
 
 A text is added to TEXTS.
 """
+import itertools
 import os
 import re
 import struct
@@ -72,7 +75,8 @@ import sys
 from functools import lru_cache
 
 HERE = os.path.dirname(os.path.abspath(__file__))
-sys.path.insert(0, os.path.join(HERE, "..", "tools"))
+TOP_FOLDER = os.path.dirname(HERE)
+sys.path.insert(0, os.path.join(TOP_FOLDER, "tools"))
 
 import corners
 import layouts
@@ -197,6 +201,12 @@ def many_cells(words):
     return START + b"".join(assembler.cell_by_name(b"%07d" % number) for number in range(int(words)))
 
 
+def example(name):
+    """A file of examples/."""
+    with open(os.path.join(TOP_FOLDER, "examples", name), "rb") as kept:
+        return kept.read()
+
+
 # What makes a file of this kind from its words; None is a folder, and (data, N) is data and zeros up to N bytes.
 KINDS = {
     "gds": lambda words: added(HEAD + BEGIN, words) + REST,
@@ -219,6 +229,7 @@ KINDS = {
     "oasis-many": many_cells,
     "oasis-names": long_names,
     "text": lambda words: unescaped(texts(words, {})),
+    "example": example,
     "folder": lambda words: None,
     **corners.KINDS,
     "as-gds": layouts.as_gds,
@@ -290,10 +301,25 @@ def lines(words):
     return digest.lines(layers(words))
 
 
+def spelled(text):
+    """A text as it is spelled in `out`."""
+    return text.replace("\\", "\\\\").replace("\n", "\\n")
+
+
 def kept(name):
     """The text of a file in tests/texts, spelled as in `out`."""
     with open(os.path.join(HERE, "texts", name), encoding="utf-8") as file:
-        return file.read().replace("\\", "\\\\").replace("\n", "\\n")
+        return spelled(file.read())
+
+
+def readme(line):
+    """The lines of README.md after this line of the program, up to the next line or the end of the example."""
+    with open(os.path.join(TOP_FOLDER, "README.md"), encoding="utf-8") as file:
+        after = file.read().split("\n    $ lvl %s\n" % line)
+    if len(after) != 2:
+        raise ValueError("README.md: not one example: " + line)
+    shown = itertools.takewhile(lambda it: re.match(r"    [^$]", it), after[1].split("\n"))
+    return spelled("".join(it[4:] + "\n" for it in shown))
 
 
 def shown(name, unit, numbers):
@@ -313,6 +339,7 @@ TEXTS = {
     "change": lambda words, files: made.change(int(words)),
     **corners.TEXTS,
     "file": lambda name, files: kept(name),
+    "readme": lambda line, files: readme(line),
     "repeat": lambda words, files: words.split()[0] * int(words.split()[1]),
     "percents": lambda name, files: shown(name, "%", range(13, 101)),
     "megabytes": lambda words, files: shown(words.split()[0], "MB", range(1, int(words.split()[1]) + 1)),
