@@ -50,16 +50,25 @@ klayout:
 # An archive and a Debian package of what make built, for machines without the toolchain.
 dist:
 	@command -v dpkg-deb >/dev/null 2>&1 || { echo "make dist: dpkg-deb is not on the PATH" >&2; exit 2; }
+	@command -v objdump >/dev/null 2>&1 || { echo "make dist: objdump is not on the PATH" >&2; exit 2; }
 	@test -x bin/lvl || { echo "make dist: bin/lvl is missing: run make first" >&2; exit 2; }
 	@contrib/dist
 
+# DOCDIR and ZSHDIR are where the documents and the completion for zsh go.
+DOCDIR ?= $(PREFIX)/share/doc/lvl
+ZSHDIR ?= $(PREFIX)/share/zsh/site-functions
 install:
 	@test -x bin/lvl || { echo "make install: bin/lvl is missing: run make first" >&2; exit 2; }
 	install -D -m 755 bin/lvl $(DESTDIR)$(PREFIX)/bin/lvl
 	install -D -m 644 contrib/man/lvl.1 $(DESTDIR)$(PREFIX)/share/man/man1/lvl.1
 	install -D -m 644 contrib/completions/lvl.bash $(DESTDIR)$(PREFIX)/share/bash-completion/completions/lvl
-	install -D -m 644 contrib/completions/_lvl $(DESTDIR)$(PREFIX)/share/zsh/site-functions/_lvl
+	install -D -m 644 contrib/completions/_lvl $(DESTDIR)$(ZSHDIR)/_lvl
 	install -D -m 644 contrib/completions/lvl.fish $(DESTDIR)$(PREFIX)/share/fish/vendor_completions.d/lvl.fish
+	install -d $(DESTDIR)$(DOCDIR)/docs $(DESTDIR)$(DOCDIR)/examples $(DESTDIR)$(DOCDIR)/contrib/klayout
+	install -m 644 README.md SECURITY.md CHANGELOG.md LICENSE $(DESTDIR)$(DOCDIR)
+	install -m 644 docs/*.md docs/*.png $(DESTDIR)$(DOCDIR)/docs
+	install -m 644 examples/*.md examples/*.gds examples/*.oas $(DESTDIR)$(DOCDIR)/examples
+	install -m 644 contrib/klayout/lvl.lym contrib/klayout/picture.py $(DESTDIR)$(DOCDIR)/contrib/klayout
 
 clean:
 	rm -rf bin dist crates/*/out
