@@ -252,10 +252,9 @@ def places_of(pages):
     return {d.key: f"{page.name}.md#{anchor(file)}" for page in pages for _, file, ds in page.order for d in ds}
 
 
-def foreign(book, pages, page, file, definitions):
+def foreign(book, places, page, file, definitions):
     """What names of a file mean that are other names elsewhere, are defined in several places, or on another page."""
-    places = places_of(pages)
-    several = [d.name for one in pages for d in one.definitions]
+    several = [name for _, name in places]
     rows = {}
     texts = [d.text for d in definitions if d.file == file]
     for here, (module, there, definition) in book.used(file, texts).items():
@@ -272,7 +271,7 @@ def foreign(book, pages, page, file, definitions):
     return "; ".join(f"{', '.join(names)} in {where}" for where, names in rows.items())
 
 
-def body(book, pages, page):
+def body(book, places, page):
     """The definitions of a page under its titles."""
     rows = []
     last = None
@@ -286,7 +285,7 @@ def body(book, pages, page):
         module = book.modules.get(name_of(file))
         if module and module.head:
             rows.append(module.head + "\n")
-        elsewhere = foreign(book, pages, page, file, definitions)
+        elsewhere = foreign(book, places, page, file, definitions)
         rows += [f"Names: {elsewhere}.\n"] if elsewhere else []
         rows += blocks(definitions)
     return "\n".join(rows)
@@ -338,11 +337,11 @@ def library_words(words):
     return "\n".join(rows) + "\n"
 
 
-def text_of(book, pages, page):
+def text_of(book, pages, places, page):
     """A page: what is written by hand, and the definitions."""
     front = (FRONTS / f"{page.name}.md").read_text().rstrip()
     front = front.replace("{names}", names_table(pages)).replace("{counts}", counts(pages))
-    text = f"{front}\n\n{body(book, pages, page)}"
+    text = f"{front}\n\n{body(book, places, page)}"
     return text + ("\n" + library_words(book.words) if page.name == "BELIEVE" else "")
 
 
@@ -376,9 +375,10 @@ def main():
     for page in pages:
         arrange(book, page)
     found = list(faults(book, pages))
+    places = places_of(pages)
     for page in pages:
         file = DOCS / f"{page.name}.md"
-        text = text_of(book, pages, page)
+        text = text_of(book, pages, places, page)
         if "--check" not in sys.argv:
             file.write_text(text)
         elif not file.exists() or file.read_text() != text:
