@@ -252,11 +252,10 @@ def places_of(pages):
     return {d.key: f"{page.name}.md#{anchor(file)}" for page in pages for _, file, ds in page.order for d in ds}
 
 
-def foreign(book, places, page, file, definitions):
-    """What names of a file mean that are other names elsewhere, are defined in several places, or on another page."""
+def foreign(book, places, page, file, texts):
+    """What names in texts of a file mean that are others elsewhere, are defined in several places, or on another page."""
     several = [name for _, name in places]
     rows = {}
-    texts = [d.text for d in definitions if d.file == file]
     for here, (module, there, definition) in book.used(file, texts).items():
         place = places.get(definition.key) if definition else None
         if here == there and (not place or place.startswith(f"{page.name}.md") and several.count(here) < 2):
@@ -277,7 +276,7 @@ def body(book, places, page):
     last = None
     for title, file, definitions in page.order:
         if title != last:
-            rows += clauses(book, last) if page.name == "BELIEVE" else []
+            rows += clauses(book, places, page) if last == "Same and differ" else []
             rows.append(f"## {title}\n")
         last = title
         path = file.relative_to(CRATES)
@@ -285,20 +284,20 @@ def body(book, places, page):
         module = book.modules.get(name_of(file))
         if module and module.head:
             rows.append(module.head + "\n")
-        elsewhere = foreign(book, places, page, file, definitions)
+        elsewhere = foreign(book, places, page, file, [d.text for d in definitions if d.file == file])
         rows += [f"Names: {elsewhere}.\n"] if elsewhere else []
         rows += blocks(definitions)
     return "\n".join(rows)
 
 
-def clauses(book, title):
-    """The clauses of the headline, after the subject to which they belong."""
-    if title != "Same and differ":
-        return []
+def clauses(book, places, page):
+    """The clauses of the headline."""
     rows = ["### The clauses\n"]
     for file, function, names in COMPARED:
-        rows.append(f"Of `{function}` ([{file}](../crates/{file})):\n")
-        rows.append(f"```\n{book.contract(file, function, names)[0]}\n```\n")
+        kept, _ = book.contract(file, function, names)
+        elsewhere = foreign(book, places, page, CRATES / file, [kept])
+        rows.append(f"Of `{function}` ([{file}](../crates/{file})). Names: {elsewhere}.\n")
+        rows.append(f"```rust\n{kept}\n```\n")
     return rows
 
 

@@ -8,6 +8,7 @@ ROOT = pathlib.Path(__file__).resolve().parent.parent.parent
 CRATES = ROOT / "crates"
 
 IMPORT = re.compile(r"^ *(?:ghost |pub )?use Rattle\.([\w.]+)\.\{([^}]*)\};?$", re.M)
+ALIAS = re.compile(r"^ *(?:ghost |pub )?use Rattle\.([\w.]+) as (\w+);?$", re.M)
 RUST_IMPORT = re.compile(r"^(?:pub )?use ([^;]+);", re.M)
 DEFINITION = re.compile(r"^(?:(?:abbrev|unfoldable|pub|record|data)\s+)+(\S+)", re.M)
 CONSTANT = re.compile(r"^(?:abbrev|unfoldable) pub (\S+) : (ℕ|List ℕ)\n\1 = (\S[^\n]*)$")
@@ -80,8 +81,8 @@ def comment_of(text):
 
 
 def imports_of(text):
-    """What each name means that the text imports: a module and a name there."""
-    found = {}
+    """What each name means that the text imports: a module and a name there, or for a module its name here."""
+    found = {here: (module, here) for module, here in ALIAS.findall(text)}
     for module, names in IMPORT.findall(text):
         for name in names.split(","):
             there, _, here = name.strip().partition(" as ")
