@@ -253,7 +253,7 @@ def places_of(pages):
 
 
 def foreign(book, places, page, file, texts):
-    """What names in texts of a file mean that are others elsewhere, are defined in several places, or on another page."""
+    """What names in texts of a file mean that are others elsewhere, in several places, or on another page."""
     several = [name for _, name in places]
     rows = {}
     for here, (module, there, definition) in book.used(file, texts).items():
