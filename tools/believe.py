@@ -1,348 +1,387 @@
 #!/usr/bin/env python3
-"""Writes docs/BELIEVE.md: every definition that the headline stands on, by subject, with its place and its comment.
+"""Writes docs/BELIEVE*.md: every definition that the headline stands on, as it is written, each after those it names.
 
-The list begins with the names in the contracts of `lvl`, and goes from each definition to those that it names, in
-`specs/` and in the types of the code. With `--check` nothing is written: it fails if the page isn't what would be
-written, if a definition has no comment, or if one of a format names no section of its standard and isn't an own rule.
+The pages begin with the names in the contracts of `lvl` and `lvl_job`, and go from each definition to those that it
+names: in `specs/`, in the types of the code, and in the two traits of lvl_io. What is written by hand at the front of a
+page is in tools/believe/. With `--check` nothing is written: it fails if a page isn't what would be written, if a
+definition has no comment or comes before one that it names, or if one of a format names no section of its standard and
+isn't an own rule.
 """
 
-import pathlib
 import re
 import sys
 
-ROOT = pathlib.Path(__file__).resolve().parent.parent
-CRATES = ROOT / "crates"
-PAGE = ROOT / "docs" / "BELIEVE.md"
+from lib.definitions import CRATES, ROOT, Book, name_of
 
-SUBJECTS = {
-    "The verdict": ["lvl", "lvl_refusal", "lvl_region"],
-    "Cells": ["lvl_cells", "lvl_names", "lvl_count", "lvl_flat"],
+FRONTS = ROOT / "tools" / "believe"
+DOCS = ROOT / "docs"
+
+# The subjects of the page of what is drawn, in reading order, and the modules of each.
+DRAWN = {
+    "Squares and windings": ["lvl_grid"],
+    "Maps": ["lvl_grid.specs.Turn"],
     "Paths": ["lvl_path"],
-    "The grid": ["lvl_grid"],
-    "What is ignored": ["lvl_profile"],
-    "Streams of records, and spellings": ["lvl_grammar", "lvl_io"],
-    "GDSII": ["gds_library", "gds_elements", "gds_records"],
-    "OASIS": ["oasis_library", "oasis_stream", "oasis_figures", "oasis_records", "oasis_blocks", "oasis_values"],
-    "DEFLATE": ["lvl_inflate"],
-    "Views": ["lvl_view", "lvl_compare", "lvl_columns"],
-    "Digests": ["lvl_corners"],
-    "Reasons": ["lvl_why", "lvl_witness"],
+    "Libraries": ["lvl_names", "lvl_cells.specs.Cells"],
+    "Coverage": ["lvl_cells.specs.Coverage", "lvl_region"],
+    "Soundness": ["lvl_cells.specs.Soundness"],
+    "What fits": ["lvl_profile", "lvl_cells"],
+    "Readers, and streams of records": ["lvl_io", "lvl_grammar"],
+    "Views": ["lvl_grid.specs.Clip", "lvl_view", "lvl_columns", "lvl_compare"],
+    "Same and differ": ["lvl"],
+    "Texts and statuses": ["lvl_report", "lvl_job"],
 }
 
-# The contracts, and of each the clauses whose names begin a part of the page.
+ANSWERS = {
+    "Why a library is refused": [
+        "lvl_io", "lvl_refusal", "lvl_profile", "lvl_names", "lvl_path", "lvl_cells", "lvl_flat",
+    ],
+    "Why a stream is refused": ["lvl_grammar"],
+    "GDSII": ["gds_"],
+    "OASIS": ["oasis_"],
+    "Digests": ["lvl_corners"],
+    "Reasons": ["lvl_grid", "lvl_why", "lvl_witness"],
+    "Views": ["lvl_view", "lvl_count"],
+    "Answers": ["lvl"],
+}
+
+LINE = {
+    "Words, and the texts that they are": ["lvl_line", "lvl_profile", "lvl_view", "lvl_list"],
+    "Grid steps, and what else is answered": ["lvl_units", "lvl_count", "lvl_cells", "oasis_figures", "lvl"],
+    "Texts": ["lvl_text", "lvl_report"],
+    "Jobs": ["lvl_job"],
+}
+
+# The pages of the first part that have crates of their own, by the beginnings of their names.
+FORMATS = {"BELIEVE-GDSII": "gds_", "BELIEVE-OASIS": "oasis_", "BELIEVE-DEFLATE": "lvl_inflate"}
+COMPARED = [
+    ("lvl/src/compare.rt", "compare_layouts", {"same", "differ"}),
+    ("lvl/src/compare.rt", "compare_view", {"verdict", "whole"}),
+]
+
+# The parts: the page and its subjects, the contracts with the clauses (None: all) and the definitions and traits beside
+# these with which it begins. A part has what no part before it has.
 PARTS = [
-    ("`same` and `differ`", [("compare.rt", "compare_layouts", {"same", "differ"})]),
-    ("What refusals need beside that", [("compare.rt", "compare_layouts", None)]),
-    ("Views, heads, reasons and digests", [
-        ("compare.rt", "compare_view", None),
-        ("compare.rt", "compare_files", None),
-        ("compare.rt", "explain_files", None),
-        ("digest.rt", "digest_file", None),
-        ("digest.rt", "digests_decide", None),
-        ("layout.rt", "widening_keeps", None),
+    ("BELIEVE", DRAWN, COMPARED, [
+        ("lvl_report.specs.Texts", "verdict_text"),
+        ("lvl_report.specs.Writing", "verdict_status"),
+        ("lvl_report.specs.Writing", "status_code"),
+        ("lvl_job.specs.Ends", "fault_code"),
+        ("lvl_io", "Read"),
+        ("lvl_io", "Write"),
+    ]),
+    ("BELIEVE-REFUSALS", ANSWERS, [
+        ("lvl/src/compare.rt", "compare_layouts", None),
+        ("lvl/src/compare.rt", "compare_view", None),
+        ("lvl/src/compare.rt", "compare_files", None),
+        ("lvl/src/compare.rt", "explain_files", None),
+        ("lvl/src/digest.rt", "digest_file", None),
+        ("lvl/src/digest.rt", "digests_decide", None),
+        ("lvl/src/layout.rt", "widening_keeps", None),
+    ], []),
+    ("BELIEVE-LINE", LINE, [("lvl_job/src/line.rt", "do_line", None), ("lvl_job/src/job.rt", "code_of", None)], [
+        ("lvl_job", "Files"),
     ]),
 ]
 
-IMPORT = re.compile(r"^(?:ghost |pub )?use Rattle\.([\w.]+)\.\{([^}]*)\};?$", re.M)
-DEFINITION = re.compile(r"^(?:(?:abbrev|unfoldable|pub|record|data)\s+)+(\S+)", re.M)
-SECTIONS = {
-    "GDSII": re.compile(r"GDSII Stream Format Manual, Release 6.*?(\"[A-Z]|[A-Z]{4})", re.S),
-    "OASIS": re.compile(r"SEMI P39 OASIS 1\.0.*?(\"[A-Z]|section of each)", re.S),
-    "DEFLATE": re.compile(r"RFC 1951"),
+# What names a section of a page's standard.
+STANDARDS = {
+    "BELIEVE-GDSII": re.compile(r"GDSII Stream Format Manual, Release 6,?\s*([^);.]*(?:\"|[A-Z]{4})[^);:.]*)"),
+    "BELIEVE-OASIS": re.compile(r"SEMI P39(?: OASIS 1\.0)?,?\s*([^);:.]*(?:\"[A-Z]|section of each)[^);:.]*)"),
+    "BELIEVE-DEFLATE": re.compile(r"(RFC 1951[^);:]*)"),
 }
+CRATE_ORDER = [row.split(":")[0] for row in (ROOT / "crates.txt").read_text().splitlines()]
 OWN = re.compile(r"own (rule|notation)", re.I)
 
 
-class Definition:
-    """A definition of `specs/`, or a type of the code."""
+class Page:
+    """A page: its name, and its definitions by subject."""
 
-    def __init__(self, file, name, line, text, comment):
-        self.file = file
+    def __init__(self, name, subjects):
         self.name = name
-        self.line = line
-        self.text = text
-        self.comment = comment
-        self.lines = sum(1 for line in text.splitlines() if not line.startswith("--"))
-        self.is_type = file.suffix == ".rt"
-        self.crate = file.relative_to(CRATES).parts[0]
+        self.subjects = subjects
+        self.definitions = []
+        self.order = []
+
+    def subject_of(self, book, definition):
+        """The title under which a definition comes."""
+        module = name_of(definition.file)
+        if self.subjects:
+            fits = [(len(begin), title) for title, begins in self.subjects.items() for begin in begins
+                    if begin in (module, definition.crate) or begin.endswith("_") and module.startswith(begin)]
+            return max(fits)[1]
+        return section_of(self.name, book.modules[module].head) if module in book.modules else "Types"
 
 
-class Module:
-    """A file of `specs/`: its definitions, its head comment, and what it imports."""
-
-    def __init__(self, file):
-        self.file = file
-        text = file.read_text()
-        self.imports = imports_of(text)
-        self.head = comment_of(text.split("\nuse ", 1)[0]) if text.startswith("--") else ""
-        self.definitions = {}
-        self.parts = {}
-        for block in re.finditer(r"(?:^[^\n]*\S[^\n]*\n?)+", text, re.M):
-            self.add(block.group(), text.count("\n", 0, block.start()) + 1)
-
-    def add(self, block, line):
-        code = [row for row in block.splitlines() if not row.startswith(("use ", "pub use ", "infix"))]
-        body = "\n".join(code)
-        found = DEFINITION.search(body)
-        if not found or found.group().startswith("pub mod"):
-            return
-        at = next(i for i, row in enumerate(block.splitlines()) if DEFINITION.match(row))
-        definition = Definition(self.file, found.group(1), line + at, body, comment_of(body))
-        self.definitions[definition.name] = definition
-        if re.match(r"(?:pub )?data ", body[found.start():]):
-            for variant in re.findall(r"^  (\S+) :", body, re.M):
-                self.parts[variant] = definition
+def section_of(name, text):
+    """The first section of the page's standard that a text names."""
+    found = STANDARDS[name].search(text)
+    if not found:
+        return "Own rules and notation"
+    quoted = re.match(r'.*?"([^"]+)"', found.group(1), re.S)
+    title = " ".join((quoted or found).group(1).split())
+    return title[0].upper() + title[1:]
 
 
-def name_of(file):
-    """The name of the module that a file of `specs/` is."""
-    return ".".join(file.relative_to(CRATES).with_suffix("").parts)
-
-
-def comment_of(text):
-    """The comment lines at the front of the text, as one line."""
-    rows = []
-    for row in text.splitlines():
-        if not row.startswith("--"):
-            break
-        rows.append(row[2:].strip())
-    return " ".join(rows)
-
-
-def imports_of(text):
-    """What each name means that the text imports: a module and a name there."""
-    found = {}
-    for module, names in IMPORT.findall(text):
-        for name in names.split(","):
-            there, _, here = name.strip().partition(" as ")
-            if there:
-                found[here or there] = (module, there)
-    return found
-
-
-def words_of(text):
-    """The words of a definition that may be names of others: neither comments, fields of values, nor what it binds."""
-    text = re.sub(r"--[^\n]*", "", text)
-    text = re.sub(r"(?<=[\w')])\.[\w-]+", "", text)
-    text = re.sub(r"([{;]|^ +)\s*[\w-]+ = ", r"\1 ", text, flags=re.M)
-    text = re.sub(r"^  (?:  )?(?:pub )?[\w'-]+ : ", "", text, flags=re.M)
-    bound = set()
-    for names in re.findall(r"[({]([\w' -]+) : ", text) + re.findall(r"λ ([\w' -]+)\.", text):
-        bound.update(names.split())
-    words = re.findall(r"[^\s(){}\[\],;]+", text)
-    return [word.rstrip(".") for word in words if word.rstrip(".") not in bound]
-
-
-class Book:
-    """All modules of `specs/`, and the types of the code."""
-
-    def __init__(self):
-        self.modules = {}
-        self.types = {}
-        self.words = {}
-        for file in sorted(CRATES.glob("*/specs/**/*.antt")):
-            self.modules[name_of(file)] = Module(file)
-
-    def type_of(self, path):
-        """The type of the code that a module `CRATE.specs.declared.FILE.NAME` stands for."""
-        parts = path.split(".")
-        crate, name = parts[0], [part for part in parts[3:] if part != "TheVariants"][-1]
-        if (crate, name) not in self.types:
-            self.types[crate, name] = find_type(crate, name)
-        return self.types[crate, name]
-
-    def find(self, module, name):
-        """The definition that a name of a module means, or None if it isn't of this repository."""
-        if module.startswith("std.") or module not in self.modules:
-            if ".specs.declared." in module and not module.endswith("TheConstants"):
-                return self.type_of(module)
-            self.words.setdefault(module, set()).add(name)
-            return None
-        here = self.modules[module]
-        if name in here.definitions:
-            return here.definitions[name]
-        if name in here.parts:
-            return here.parts[name]
-        if name in here.imports:
-            return self.find(*here.imports[name])
-        raise SystemExit(f"{module} has no {name}")
-
-    def named_in(self, words, module, imports):
-        """The definitions that some words mean where these are imported, in the order of the words."""
-        names = dict(imports)
-        if module:
-            names.update({name: (module, name) for name in self.modules[module].definitions})
-            names.update({name: (module, name) for name in self.modules[module].parts})
-        operators = {name: [part for part in name.split("◌") if part] for name in names if "◌" in name}
-        present = set(words)
-        found = {}
-        for word in words:
-            here = [word] if word in names else []
-            here += [name for name, parts in operators.items() if parts[0] == word and present.issuperset(parts)]
-            for name in here:
-                definition = self.find(*names[name])
-                if definition:
-                    found[definition.file, definition.name] = definition
-        return list(found.values())
-
-    def below(self, roots, known):
-        """The definitions that the roots stand on, in order of their first mention, without those that are known."""
-        found = {}
-        stack = list(reversed(roots))
-        while stack:
-            definition = stack.pop()
-            key = definition.file, definition.name
-            if key in known or key in found:
-                continue
-            found[key] = definition
-            if not definition.is_type:
-                module = name_of(definition.file)
-                words = words_of(definition.text)
-                stack.extend(reversed(self.named_in(words, module, self.modules[module].imports)))
-        return found
-
-    def roots(self, file, function, clauses):
-        """The definitions that the clauses of a function's contract name."""
-        text = (CRATES / "lvl" / "src" / file).read_text()
-        start = re.search(rf"^pub fn {function}\b", text, re.M).start()
-        contract = text[start:text.index("\n{", start)]
-        kept = ""
-        for clause in re.split(r"(?=^    ensures )", contract, flags=re.M)[1:]:
-            if not clauses or clause.split()[1] in clauses:
-                kept += clause.split("{", 1)[1]
-        return self.named_in(words_of(kept), None, imports_of(text))
-
-
-def find_type(crate, name):
-    """The struct or enum of that name in the sources of the crate, with its documentation."""
-    for file in sorted((CRATES / crate / "src").glob("**/*.rt")):
-        rows = file.read_text().splitlines()
-        for number, row in enumerate(rows):
-            if re.match(rf"pub(?:\([a-z]+\))? (?:struct|enum) {name}\b", row):
-                comment = []
-                at = number - 1
-                while rows[at].startswith(("///", "#[")):
-                    if rows[at].startswith("///"):
-                        comment.insert(0, rows[at][3:].strip())
-                    at -= 1
-                end = number
-                while not row.endswith(";") and rows[end] != "}":
-                    end += 1
-                first = " ".join(comment).split("  ")[0]
-                return Definition(file, name, number + 1, "\n".join(rows[at + 1:end + 1]), first)
-    raise SystemExit(f"{crate} has no type {name}")
-
-
-def subject_of(definition):
-    for subject, crates in SUBJECTS.items():
-        if definition.crate in crates:
-            return subject
-    raise SystemExit(f"no subject has the crate {definition.crate}")
-
-
-def by_subject(found):
-    return {subject: [d for d in found.values() if subject_of(d) == subject] for subject in SUBJECTS}
-
-
-def counts(parts):
-    """A table of how many definitions each part has, and how many lines they are, by subject."""
-    rows = ["| Subject | " + " | ".join(title for title, _ in parts) + " |", "|---" * (len(parts) + 1) + "|"]
-    for subject in SUBJECTS:
-        rows.append(f"| {subject} | " + " | ".join(tally(by_subject(found)[subject]) for _, found in parts) + " |")
-    rows.append("| **All** | " + " | ".join(f"**{tally(found.values())}**" for _, found in parts) + " |")
-    return "\n".join(rows)
-
-
-def tally(definitions):
-    made = [d for d in definitions if not d.is_type]
-    return f"{len(made)}, {sum(d.lines for d in made):,} lines" if made else ""
-
-
-def listed(book, found):
-    """The definitions of a part, by subject and file; in a file in its order, in which each follows those it names."""
-    rows = []
-    for subject, definitions in by_subject(found).items():
-        files = {}
-        for definition in definitions:
-            files.setdefault(definition.file, []).append(definition)
-        if files:
-            rows.append(f"### {subject}\n")
-        order = sorted(files, key=lambda file: file.suffix == ".rt")
-        for file in order:
-            path = file.relative_to(ROOT)
-            module = book.modules.get(name_of(file))
-            head = f": {module.head}" if module and module.head else ""
-            rows.append(f"[`{path.relative_to('crates')}`](../{path}){head}\n")
-            for d in sorted(files[file], key=lambda d: d.line):
-                kind = ", a type" if d.is_type else ""
-                rows.append(f"- `{d.name}` ({d.line}{kind}): {d.comment}")
-            rows.append("")
-    return "\n".join(rows)
-
-
-def standard_words(words):
-    """The words of Rattle's library that the definitions use, by module."""
-    rows = []
-    for module in sorted(words):
-        if module.startswith("std."):
-            rows.append(f"- `{module}`: " + ", ".join(f"`{word}`" for word in sorted(words[module])))
-    return "\n".join(rows)
-
-
-HEAD = """# What must be believed
-
-What `same` and `differ` mean, and when a refusal is true, is said by the definitions on this page. Proofs connect the
-code with them, and a checker reads the proofs; the definitions themselves only a reader can judge.
-[PROOF.md](PROOF.md) has the clauses that name them.
-
-`tools/believe.py` writes this page, and `make check` fails if it is out of date. It begins with the names in the
-contracts of `compare_layouts`, and then of `compare_view`, `compare_files`, `explain_files`, `digest_file`,
-`digests_decide` and `widening_keeps`, and goes from each definition to all those that it names; each is listed once, in
-the first part that needs it. A number is the line in the file, and what follows it is the comment there; a file is
-followed by its first comment. Lines are counted without comments, and types of the code aren't counted. What the
-program prints (`lvl_text`, `lvl_report`, `lvl_job`, `lvl_line`) has definitions of its own, which the verdict doesn't
-need.
-"""
-
-
-def page(book):
+def pages_of(book):
+    """All pages, with the definitions of each, as they are found from the contracts."""
     known = {}
-    parts = []
-    for title, contracts in PARTS:
-        roots = [root for contract in contracts for root in book.roots(*contract)]
+    pages = []
+    for name, subjects, contracts, names in PARTS:
+        roots = [root for contract in contracts for root in book.contract(*contract)[1]]
+        roots += [book.find(module, one) if "." in module else book.type_of(module, one) for module, one in names]
         found = book.below(roots, known)
         known.update(found)
-        parts.append((title, found))
-    head = re.sub(r"(?<!\n)\n(?!\n)", " ", HEAD.strip())
-    text = head + "\n\n" + counts(parts) + "\n"
-    for title, found in parts:
-        text += f"\n## {title}\n\n{listed(book, found)}"
-    text += "\n## Words of Rattle's library\n\nThese are explained in the library itself.\n\n"
-    return text + standard_words(book.words) + "\n", known
+        formats = [Page(one, None) for one in FORMATS] if name == "BELIEVE" else []
+        main = Page(name, subjects)
+        for definition in found.values():
+            of_format = [page for page in formats if definition.crate.startswith(FORMATS[page.name])]
+            (of_format or [main])[0].definitions.append(definition)
+        move_types(book, main, formats)
+        pages += [main] + formats
+    return pages
 
 
-def faults(book, known):
-    """What is missing in the definitions of the page."""
-    for d in known.values():
-        place = f"{d.file.relative_to(ROOT)}:{d.line}: {d.name}"
-        if not d.comment:
-            yield f"{place} has no comment"
-        if d.is_type or subject_of(d) not in SECTIONS:
+def move_types(book, main, formats):
+    """Moves each type that a page of a format alone names to that page."""
+    named = {d.key for one in main.definitions for d in book.named_by(one)}
+    for page in formats:
+        there = {d.key for one in page.definitions for d in book.named_by(one)}
+        for definition in [d for d in main.definitions if d.is_code and d.key in there - named]:
+            main.definitions.remove(definition)
+            page.definitions.append(definition)
+
+
+def files_of(page):
+    """The files of `specs/` that a page has definitions of, and these in their order there."""
+    files = {}
+    for definition in sorted(page.definitions, key=lambda d: d.line):
+        if not definition.is_code:
+            files.setdefault(definition.file, []).append(definition)
+    return files
+
+
+def in_reading_order(book, page):
+    """The titles of a page, and for each its files in an order in which they come after those that they name."""
+    files = files_of(page)
+    needs = {file: {other.file for d in ds for other in book.named_by(d)} & set(files) - {file}
+             for file, ds in files.items()}
+    titles = {file: page.subject_of(book, ds[0]) for file, ds in files.items()}
+    order = []
+    while len(order) < len(files):
+        ready = [file for file in files if file not in order and needs[file] <= set(order)]
+        if not ready:
+            raise SystemExit(f"{page.name}: files name each other")
+        waiting = [titles[file] for file in files if file not in order + ready]
+        last = titles[order[-1]] if order else None
+        order.append(min(ready, key=lambda file: priority(page, file, titles[file], last, waiting)))
+    return [(titles[file], file, files[file]) for file in order]
+
+
+def priority(page, file, title, last, waiting):
+    """Which of the files that may come next comes: by subject, or else one under the last title, or of a low crate."""
+    crate = CRATE_ORDER.index(file.relative_to(CRATES).parts[0])
+    if page.subjects:
+        return list(page.subjects).index(title), crate, str(file)
+    return title != last, crate, waiting.count(title), str(file)
+
+
+def with_types(book, page, definition, done):
+    """A definition after the types and traits of the page that it names and that weren't shown yet."""
+    if definition in done or definition not in page.definitions:
+        return []
+    done.add(definition)
+    before = [other for other in book.named_by(definition) if other.is_code]
+    return [d for other in before for d in with_types(book, page, other, done)] + [definition]
+
+
+def arrange(book, page):
+    """Puts the definitions of a page in order: a title, a file, and what comes there."""
+    done = set()
+    for title, file, definitions in in_reading_order(book, page):
+        shown = [d for one in definitions for d in with_types(book, page, one, done)]
+        page.order.append((title, file, shown))
+    for definition in [d for d in page.definitions if d.is_code]:
+        shown = with_types(book, page, definition, done)
+        title = page.subject_of(book, definition)
+        at = [i for i, (other, _, _) in enumerate(page.order) if other == title]
+        if shown:
+            page.order.insert(at[-1] + 1 if at else len(page.order), (title, definition.file, shown))
+
+
+def anchor(file):
+    """The anchor of the heading of a file."""
+    return re.sub(r"[^\w-]", "", str(file.relative_to(CRATES)).lower())
+
+
+def shown(definition):
+    """A definition under its comment."""
+    kind = "rust" if definition.is_code else ""
+    return f"**`{definition.name}`**: {definition.comment}\n\n```{kind}\n{definition.text}\n```\n"
+
+
+def table(constants):
+    """Constants as a table."""
+    rows = ["| Name | Value | |", "|---|---|---|"]
+    for d in constants:
+        rows.append(f"| `{d.name}` | `{d.constant()}` | {d.comment or character(d)} |")
+    return "\n".join(rows) + "\n"
+
+
+def character(definition):
+    """The character of which a constant without a comment is the code, or nothing."""
+    value = definition.constant() or ""
+    return f"`{chr(int(value))}`" if re.fullmatch(r"\d+", value) and 32 < int(value) < 127 else ""
+
+
+def blocks(definitions):
+    """The definitions of a file as they are shown, with neighbouring constants in one table."""
+    rows = []
+    run = []
+    for definition in definitions:
+        if definition.constant():
+            run.append(definition)
             continue
-        module = book.modules[name_of(d.file)]
-        said = module.head + " " + d.comment
-        if not SECTIONS[subject_of(d)].search(said) and not OWN.search(said):
-            yield f"{place} names no section of its standard"
+        rows += [table(run)] if run else []
+        run = []
+        rows.append(shown(definition))
+    return rows + ([table(run)] if run else [])
+
+
+def places_of(pages):
+    """Where the pages have each definition: the page, and the heading there."""
+    return {d.key: f"{page.name}.md#{anchor(file)}" for page in pages for _, file, ds in page.order for d in ds}
+
+
+def foreign(book, places, page, file, texts):
+    """What names in texts of a file mean that are others elsewhere, in several places, or on another page."""
+    several = [name for _, name in places]
+    rows = {}
+    for here, (module, there, definition) in book.used(file, texts).items():
+        place = places.get(definition.key) if definition else None
+        if here == there and (not place or place.startswith(f"{page.name}.md") and several.count(here) < 2):
+            continue
+        name = f"`{here}`" if here == there else f"`{here}` (`{there}`)"
+        if definition and definition.name != there:
+            if here == there:
+                continue
+            name += f" of `{definition.name}`"
+        where = f"[{definition.file.relative_to(CRATES)}]({place})" if place else f"`{module}`"
+        rows.setdefault(where.replace(f"({page.name}.md#", "(#"), []).append(name)
+    return "; ".join(f"{', '.join(names)} in {where}" for where, names in rows.items())
+
+
+def body(book, places, page):
+    """The definitions of a page under its titles."""
+    rows = []
+    last = None
+    for title, file, definitions in page.order:
+        if title != last:
+            rows += clauses(book, places, page) if last == "Same and differ" else []
+            rows.append(f"## {title}\n")
+        last = title
+        path = file.relative_to(CRATES)
+        rows.append(f"### [{path}](../crates/{path})\n")
+        module = book.modules.get(name_of(file))
+        if module and module.head:
+            rows.append(module.head + "\n")
+        elsewhere = foreign(book, places, page, file, [d.text for d in definitions if d.file == file])
+        rows += [f"Names: {elsewhere}.\n"] if elsewhere else []
+        rows += blocks(definitions)
+    return "\n".join(rows)
+
+
+def clauses(book, places, page):
+    """The clauses of the headline."""
+    rows = ["### The clauses\n"]
+    for file, function, names in COMPARED:
+        kept, _ = book.contract(file, function, names)
+        elsewhere = foreign(book, places, page, CRATES / file, [kept])
+        rows.append(f"Of `{function}` ([{file}](../crates/{file})). Names: {elsewhere}.\n")
+        rows.append(f"```rust\n{kept}\n```\n")
+    return rows
+
+
+def names_table(pages):
+    """The table of PROOF.md, with links from its files to where the pages have them."""
+    places = {str(file.relative_to(CRATES)): f"{page.name}.md#{anchor(file)}"
+              for page in pages[::-1] for _, file, _ in page.order}
+    rows = []
+    for row in re.search(r"(?:^\| .*\n|^\|-.*\n)+", (DOCS / "PROOF.md").read_text(), re.M).group().splitlines():
+        folder = ""
+        for path in re.findall(r"`([\w/]+\.antt)`", row):
+            folder = path.rsplit("/", 1)[0] if "/" in path else folder
+            whole = path if "/" in path else f"{folder}/{path}"
+            if whole in places:
+                row = row.replace(f"`{path}`", f"[`{path}`]({places[whole].removeprefix('BELIEVE.md')})")
+        rows.append(row)
+    return "\n".join(rows)
+
+
+def counts(pages):
+    """A table of how many definitions each page has, and how many lines they are."""
+    rows = ["| Page | Definitions | Lines | Types of the code |", "|---|---|---|---|"]
+    for page in pages:
+        made = [d for d in page.definitions if not d.is_code]
+        rows.append(f"| [{page.name}]({page.name}.md) | {len(made)} | {sum(d.lines for d in made):,} "
+                    f"| {len(page.definitions) - len(made)} |")
+    return "\n".join(rows)
+
+
+def library_words(words):
+    """The words of Rattle's library and of the kit that the definitions use, by module."""
+    rows = ["## Words of Rattle's library and of the kit\n", "These are explained in the library and the kit.\n"]
+    for module in sorted(words):
+        if module.split(".")[0] == "std" or not (CRATES / module.split(".")[0]).is_dir():
+            rows.append(f"- `{module}`: " + ", ".join(f"`{word}`" for word in sorted(words[module])))
+    return "\n".join(rows) + "\n"
+
+
+def text_of(book, pages, places, page):
+    """A page: what is written by hand, and the definitions."""
+    front = (FRONTS / f"{page.name}.md").read_text().rstrip()
+    front = front.replace("{names}", names_table(pages)).replace("{counts}", counts(pages))
+    text = f"{front}\n\n{body(book, places, page)}"
+    return text + ("\n" + library_words(book.words) if page.name == "BELIEVE" else "")
+
+
+def names_section(book, definition):
+    """Whether a definition of a format, or the head of its file, names a section of its standard or an own rule."""
+    said = book.modules[name_of(definition.file)].head + " " + definition.comment
+    standards = [STANDARDS[name] for name, begin in FORMATS.items() if definition.crate.startswith(begin)]
+    return all(standard.search(said) or OWN.search(said) for standard in standards)
+
+
+def faults(book, pages):
+    """What is missing in the definitions of the pages, or comes too late."""
+    for page in pages:
+        definitions = [d for _, _, shown in page.order for d in shown]
+        after = {d.key for d in definitions}
+        for d in definitions:
+            after.remove(d.key)
+            place = f"{d.file.relative_to(ROOT)}:{d.line}: {d.name}"
+            if not d.comment and not character(d):
+                yield f"{place} has no comment"
+            for other in book.named_by(d):
+                if other.key in after:
+                    yield f"{place} comes before {other.name} on {page.name}.md"
+            if not d.is_code and not names_section(book, d):
+                yield f"{place} names no section of its standard"
 
 
 def main():
     book = Book()
-    text, known = page(book)
-    found = list(faults(book, known))
-    if "--check" not in sys.argv:
-        PAGE.write_text(text)
-    elif not PAGE.exists() or PAGE.read_text() != text:
-        found.append("docs/BELIEVE.md isn't what tools/believe.py writes")
+    pages = pages_of(book)
+    for page in pages:
+        arrange(book, page)
+    found = list(faults(book, pages))
+    places = places_of(pages)
+    for page in pages:
+        file = DOCS / f"{page.name}.md"
+        text = text_of(book, pages, places, page)
+        if "--check" not in sys.argv:
+            file.write_text(text)
+        elif not file.exists() or file.read_text() != text:
+            found.append(f"docs/{file.name} isn't what tools/believe.py writes")
     for fault in found:
         print(fault, file=sys.stderr)
     sys.exit(bool(found))

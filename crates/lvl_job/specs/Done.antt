@@ -84,6 +84,8 @@ IsListFault opens names top ignored large unpack old new from to said Output =
     IsStopped opens (file_of_name profile top) name_listed name_unlisted names old new from to said)
 IsListFault opens names top ignored large unpack old new from to said fault = ⊥
 
+-- what is done for a list of digests: an outcome if all files were listed, or why they weren't; what is said of the
+-- files and of the end was written to standard error
 pub record IsListDone {S : Type 0} (opens : S → List ℕ → Opened → S → Type 0)
     (names : List (String Global)) (top : Option (List ℕ)) (ignored : Option (String Global)) (large unpack : Bool)
     (old new : S) (out err : Change) (ended : Result Outcome JobFault) : Type 0 where
@@ -152,6 +154,8 @@ IsCheckFault opens list quiet top ignored large unpack old new from to said Outp
     IsStopped opens (file_of_entry profile top) (checked_text quiet) no_note entries between new from to said))
 IsCheckFault opens list quiet top ignored large unpack old new from to said (BadView fault) = ⊥
 
+-- what is done for a check: an outcome if all files of the list were checked, or why they weren't; what is said of the
+-- files and of the end was written to standard error
 pub record IsCheckDone {S : Type 0} (opens : S → List ℕ → Opened → S → Type 0)
     (list : List ℕ) (quiet : Bool) (top : Option (List ℕ)) (ignored : Option (String Global)) (large unpack : Bool)
     (old new : S) (out err : Change) (ended : Result Outcome JobFault) : Type 0 where

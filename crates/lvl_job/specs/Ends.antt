@@ -116,6 +116,7 @@ is_unexplained Refused None None = true
 is_unexplained Refused (Some Foreign) None = true
 is_unexplained status hint text = false
 
+-- whether files are looked at after the outcome of a job
 abbrev pub is_looked_at : Outcome → Bool
 is_looked_at o = is_unexplained o.status o.hint (option_map (λ text. text.items) o.line)
 

@@ -40,9 +40,11 @@ unlisted_text name (Ok (Err refusal)) =
     codes "lvl: " ++ name_text name ++ codes ": " ++ line (refusal_text refusal)
 unlisted_text name (Err why) = codes "lvl: cannot open " ++ name_text name ++ open_form why
 
+-- what is listed of the file of this name
 abbrev pub name_listed : String Global → Hash → List ℕ
 name_listed name hash = listed_text (string_bytes name) hash
 
+-- what is said of the file of this name: why it has no digest
 abbrev pub name_unlisted : String Global → Hash → List ℕ
 name_unlisted name hash = unlisted_text (string_bytes name) hash
 
@@ -64,6 +66,7 @@ checked_status e (Ok (Ok digested)) = if bytes_eq e.digits.items (digits_of dige
 checked_status e (Ok (Err refusal)) = Refused
 checked_status e (Err why) = Refused
 
+-- whether the status is that of a file whose digest is the one that the list has
 abbrev pub is_same : Status → Bool
 is_same Same = true
 is_same status = false
@@ -108,9 +111,11 @@ abbrev pub worst : {X : Type 0} → (X → Hash → Status) → Status → List 
 worst status first [] = first
 worst status first (p ∷ ps) = worst status (worse first (status p.0 p.1)) ps
 
+-- the status of files that were listed: Refused if one of them has no digest
 abbrev pub worst_listed : List (String Global × Hash) → Status
 worst_listed done = worst (λ name hash. listed_status hash) Shown done
 
+-- the status of files that were checked: the one with the greatest code
 abbrev pub worst_checked : List (Entry × Hash) → Status
 worst_checked done = worst checked_status Same done
 

@@ -5,16 +5,19 @@ use Rattle.std.specs.Prelude.{length, flat_map, if◌then◌else◌, string_byte
 use Rattle.std.specs.List.{list_all, list_any}
 use Rattle.lvl_list.specs.declared.entry.Entry.{Entry}
 
--- the bytes `\`, line feed, carriage return and space
+-- the byte `\`
 abbrev pub backslash : ℕ
 backslash = 92
 
+-- the byte of a line feed
 abbrev pub line_feed : ℕ
 line_feed = 10
 
+-- the byte of a carriage return
 abbrev pub carriage_return : ℕ
 carriage_return = 13
 
+-- the byte of a space
 abbrev pub space : ℕ
 space = 32
 
@@ -29,6 +32,7 @@ escaped_byte byte =
     (if byte == line_feed then backslash ∷ 110 ∷ [] else
     (if byte == carriage_return then backslash ∷ 114 ∷ [] else byte ∷ []))
 
+-- the bytes of a name as they are written
 abbrev pub escaped : List ℕ → List ℕ
 escaped name = flat_map escaped_byte name
 

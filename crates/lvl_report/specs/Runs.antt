@@ -35,6 +35,7 @@ pub record Input : Type 0 where
   pub after : ℕ
   pub top : Option (List ℕ)
 
+-- a reader in a run, from these values in this order
 abbrev pub input : Profile → Option (List ℕ) → Option (List ℕ) → ℕ → ℕ → Option (List ℕ) → Input
 input profile bytes left before after top =
     record { profile = profile; bytes = bytes; left = left; before = before; after = after; top = top }

@@ -43,6 +43,7 @@ abbrev pub head_text : Head → List ℕ
 head_text (Gds head) = gds_head_text head
 head_text (Oasis head) = oasis_head_text head
 
+-- the word for a side
 abbrev pub side_text : Side → List ℕ
 side_text First = codes "first"
 side_text Second = codes "second"
@@ -85,6 +86,7 @@ turn_text R90 = codes "90"
 turn_text R180 = codes "180"
 turn_text R270 = codes "270"
 
+-- whether a map reflects, as it is printed after its turn
 abbrev pub flip_text : Bool → List ℕ
 flip_text false = []
 flip_text true = codes " flipped"
@@ -192,6 +194,7 @@ text_of_list (Err refusal) = line (refusal_text refusal)
 abbrev pub mask_text : MaskDigest → List ℕ
 mask_text d = mask_lines d.layers.items ++ line (codes "mask sha256 " ++ hex d.sha256)
 
+-- the text of a digest: what the file says about itself, the name of its top, and the lines of its mask
 abbrev pub digested_text : Digested → List ℕ
 digested_text d = front_text d.head d.top.items ++ mask_text d.mask
 

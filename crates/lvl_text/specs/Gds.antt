@@ -20,6 +20,7 @@ use Rattle.lvl_text.specs.Faults.{spaced, path_fault}
 abbrev pub hex_byte : ℕ → List ℕ
 hex_byte byte = digit_glyph false (byte / 16) ∷ digit_glyph false (byte % 16) ∷ []
 
+-- bytes as hexadecimal digits in lower case, two for each
 abbrev pub hex : List ℕ → List ℕ
 hex bytes = flat_map hex_byte bytes
 

@@ -5,6 +5,7 @@ use Rattle.oasis_values.specs.declared.number.Real.{Real}
 use Rattle.oasis_values.specs.declared.number.Real.TheVariants.{Whole, Reciprocal, Ratio}
 use Rattle.oasis_values.specs.declared.number.Real.TheVariants.{Four, Eight}
 
+-- a fraction of two natural numbers
 pub record Fraction : Type 0 where
   pub numerator : ℕ
   pub denominator : ℕ
