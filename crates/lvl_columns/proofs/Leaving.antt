@@ -1,11 +1,11 @@
 -- What is left of lists without the rings that both have.
-use Rattle.std.proofs.Common.{◌⊎◌, inl, inr, ◌↔◌, List, [], ◌∷◌, ◌++◌, Option, None, Some, IfNone, IfSome}
+use Rattle.std.proofs.Common.{◌⊎◌, inl, inr, List, [], ◌∷◌, ◌++◌}
 use Rattle.lvl_grid.specs.declared.point.Point.{Point}
 use Rattle.lvl_grid.specs.declared.point.Square.{Square}
-use Rattle.lvl_grid.specs.declared.point.Window.{Window}
 use Rattle.lvl_grid.specs.Winding.{Covers, SomeCovers}
 use Rattle.lvl_grid.proofs.Anyone.{Any-push, Any-nil}
-use Rattle.lvl_columns.specs.Left.{AgreeOutside, AreLeft, AreWithin, IsLeft}
+use Rattle.lvl_columns.specs.Columns.{Agree, IsFirst, NotBefore, Outcome}
+use Rattle.lvl_columns.specs.Left.{AreLeft, IsLeft}
 
 -- of no rings, none are left
 pub left_none : (others : List (List Point)) → IsLeft [] others []
@@ -26,36 +26,19 @@ left_push rings others left more ring h within all = record {
   ];
 }
 
--- lists of which the same is left cover the same squares
+-- lists of which the same is left at a square agree there
 covers_too : (first second ours theirs : List (List Point)) (s : Square) → IsLeft first second ours
     → IsLeft second first theirs → (SomeCovers ours s → SomeCovers theirs s) → SomeCovers first s → SomeCovers second s
 covers_too first second ours theirs s a b to covers =
     elim (a.all s covers) [ inl left ↦ b.within s (to left) | inr other ↦ other ]
 
-pub same_by_left : (first second ours theirs : List (List Point)) → AreLeft first second ours theirs
-    → ((s : Square) → SomeCovers ours s ↔ SomeCovers theirs s)
-    → (s : Square) → SomeCovers first s ↔ SomeCovers second s
-same_by_left first second ours theirs h same s = (
-  covers_too first second ours theirs s h.our_left h.their_left (same s).0,
-  covers_too second first theirs ours s h.their_left h.our_left (same s).1,
-)
-
-pub none_by_left : {X : Type 0} (first second ours theirs : List (List Point)) (found : Option X)
-    → AreLeft first second ours theirs → IfNone found ((s : Square) → SomeCovers ours s ↔ SomeCovers theirs s)
-    → IfNone found ((s : Square) → SomeCovers first s ↔ SomeCovers second s)
-none_by_left first second ours theirs None h same = same_by_left first second ours theirs h same
-none_by_left first second ours theirs (Some at) h same = tt
-
--- outside of a window around what is left, lists cover the same squares
-agree_outside : (first second ours theirs : List (List Point)) (w : Window) → AreLeft first second ours theirs
-    → AreWithin ours theirs w → AgreeOutside first second w
-agree_outside first second ours theirs w h within = λ s away. (
-  covers_too first second ours theirs s h.our_left h.their_left (λ a. absurd (away (within.ours_in s a))),
-  covers_too second first theirs ours s h.their_left h.our_left (λ b. absurd (away (within.theirs_in s b))),
-)
-
-pub around_left : (first second ours theirs : List (List Point)) (around : Option Window)
-    → AreLeft first second ours theirs → IfSome around (AreWithin ours theirs)
-    → IfSome around (AgreeOutside first second)
-around_left first second ours theirs None h within = tt
-around_left first second ours theirs (Some w) h within = agree_outside first second ours theirs w h within
+-- before the least difference of what is left, lists agree
+pub least_left : (first second ours theirs : List (List Point)) (found : Outcome) → AreLeft first second ours theirs
+    → IsFirst (ours, theirs) found → (s : Square) → Agree (first, second) s ⊎ NotBefore s found
+least_left first second ours theirs found h left s = elim (left.least s) [
+  | inl same ↦ inl (
+    covers_too first second ours theirs s h.our_left h.their_left same.0,
+    covers_too second first theirs ours s h.their_left h.our_left same.1,
+  )
+  | inr n ↦ inr n
+]

@@ -10,8 +10,6 @@ use Rattle.lvl_grid.specs.Squares.{IsBefore}
 use Rattle.lvl_region.specs.declared.region.Side.{Side}
 use Rattle.lvl_region.specs.declared.region.Side.TheVariants.{First, Second}
 use Rattle.lvl_region.specs.Region.{IsAlone}
-use Rattle.lvl_columns.specs.Columns.{IsFirst, IsFoundIn, Outcome}
-use Rattle.lvl_columns.specs.Left.{AgreeOutside}
 
 -- the rings cover what the others cover in the part
 abbrev pub CoverIn : (Square → Type 0) → List (List Point) → List (List Point) → Type 0
@@ -61,38 +59,3 @@ least_there P f g shown_f shown_g (Some at) hf hg least =
 -- if the part has all squares, rings cover in it what they cover
 pub cover_all : (P : Square → Type 0) → ((s : Square) → P s) → (rings : List (List Point)) → CoverIn P rings rings
 cover_all P all rings s = (λ a. (all s, a), λ a. a.1)
-
--- a window has a square, or it doesn't
-pub in_or_not : (w : Window) (s : Square) → IsInWindow w s ⊎ (¬ IsInWindow w s)
-in_or_not w s =
-    by_lt_z s.x w.x0 (λ left. inr (λ h. let e = h.x_from in omega (arith, ints, e, left)))
-    (λ x_from.
-    by_lt_z s.x w.x1
-    (λ x_below.
-    by_lt_z s.y w.y0 (λ low. inr (λ h. let e = h.y_from in omega (arith, ints, e, low)))
-    (λ y_from.
-    by_lt_z s.y w.y1
-    (λ y_below. inl (record { x_from = x_from; x_below = x_below; y_from = y_from; y_below = y_below }))
-    (λ high. inr (λ h. let e = h.y_below in omega (arith, ints, e, high)))))
-    (λ right. inr (λ h. let e = h.x_below in omega (arith, ints, e, right))))
-
-found_around : (w : Window) (f g shown_f shown_g : List (List Point)) (found : Outcome) → CoverIn (IsInWindow w) shown_f f
-    → CoverIn (IsInWindow w) shown_g g → IsFoundIn (shown_f, shown_g) found → IsFoundIn (f, g) found
-found_around w f g shown_f shown_g None hf hg h = tt
-found_around w f g shown_f shown_g (Some at) hf hg h =
-    (alone_there (IsInWindow w) f g shown_f shown_g at.0 at.1 hf hg h).1
-
--- lists that cover the same squares outside of a window have the least difference of what they cover in it
-pub first_around : (w : Window) (f g shown_f shown_g : List (List Point)) (found : Outcome) → AgreeOutside f g w
-    → CoverIn (IsInWindow w) shown_f f → CoverIn (IsInWindow w) shown_g g → IsFirst (shown_f, shown_g) found
-    → IsFirst (f, g) found
-first_around w f g shown_f shown_g found out hf hg h = record {
-  alone = found_around w f g shown_f shown_g found hf hg h.alone;
-  least = λ s. elim (in_or_not w s) [
-    | inl there ↦ elim (h.least s) [
-      | inl same ↦ inl (agree_there (IsInWindow w) f g shown_f shown_g s hf hg there same)
-      | inr n ↦ inr n
-    ]
-    | inr away ↦ inl (out s away)
-  ];
-}

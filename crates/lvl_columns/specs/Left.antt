@@ -1,9 +1,7 @@
 -- What is left of lists of rings without those that both have. These definitions serve only the proofs.
-use Rattle.std.specs.Prelude.{◌⊎◌, ◌↔◌, List}
+use Rattle.std.specs.Prelude.{◌⊎◌, List}
 use Rattle.lvl_grid.specs.declared.point.Point.{Point}
 use Rattle.lvl_grid.specs.declared.point.Square.{Square}
-use Rattle.lvl_grid.specs.declared.point.Window.{Window}
-use Rattle.lvl_grid.specs.Clip.{IsInWindow}
 use Rattle.lvl_grid.specs.Winding.{SomeCovers}
 
 -- what is left covers nothing that the rings don't; what the rings cover, it covers, or others do
@@ -15,12 +13,3 @@ pub record IsLeft (rings others left : List (List Point)) : Type 0 where
 pub record AreLeft (first second ours theirs : List (List Point)) : Type 0 where
   pub our_left : IsLeft first second ours
   pub their_left : IsLeft second first theirs
-
--- the window has each square that one of both lists covers
-pub record AreWithin (ours theirs : List (List Point)) (window : Window) : Type 0 where
-  pub ours_in : (s : Square) → SomeCovers ours s → IsInWindow window s
-  pub theirs_in : (s : Square) → SomeCovers theirs s → IsInWindow window s
-
--- both lists cover the same squares outside of the window
-abbrev pub AgreeOutside : List (List Point) → List (List Point) → Window → Type 0
-AgreeOutside first second window = (s : Square) → (¬ IsInWindow window s) → SomeCovers first s ↔ SomeCovers second s

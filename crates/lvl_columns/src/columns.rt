@@ -1,20 +1,16 @@
-//! Columns, and the loop over those that are still to be compared.
-ghost use Rattle.std.specs.Prelude.{◌≡◌, ◌+◌, ◌*◌, ◌<◌, ◌≤◌, ◌⊎◌, ◌↔◌, ◌++◌, ◌∷◌, [], ℤ, Option, IfOk, IfNone};
-ghost use Rattle.std.specs.Prelude.{IfSome, IsTrue, OnOk, length};
+//! Columns, each swept or cut in two.
+ghost use Rattle.std.specs.Prelude.{◌≡◌, ◌*◌, ◌≤◌, ◌⊎◌, ◌↔◌, IfOk, IfNone, IfSome, IsTrue, length};
 ghost use Rattle.lvl_grid.specs.Clip.{IsIn};
 ghost use Rattle.lvl_grid.specs.declared.point.Square.{Square as GridSquare};
 ghost use Rattle.lvl_grid.specs.Winding.{SomeCovers};
 ghost use Rattle.lvl_grid.specs.Squares.{IsBefore};
 ghost use Rattle.lvl_region.specs.Region.{IsAlone};
-ghost use Rattle.lvl_columns.specs.Columns.{NotBefore, last_row, EndsWith, StaysOpen, IsComparedPart, IsFirst};
-ghost use Rattle.lvl_columns.specs.Columns.{work_left};
-ghost use Rattle.lvl_columns.specs.Columns.{KeepsLimit};
+ghost use Rattle.lvl_columns.specs.Columns.{IsFirst, IsFoundIn, IsLeastWith, IsPartOf, NotBefore, last_row, lists_of};
 ghost use Rattle.lvl_columns.specs.Corners.{corners_of};
 
-use crate::around::{difference_around, difference_left};
+use crate::cancel::difference_left;
 use crate::cut::{cut_at, is_narrow};
 use crate::halves::halves_at;
-use crate::reordered::are_reordered;
 use lvl_grid::{Part, Rings, Square};
 use lvl_region::Side;
 use lvl_simplify::simplified;
@@ -28,16 +24,6 @@ pub struct Column {
     pub first: Rings,
     pub second: Rings,
     pub depth: u32,
-}
-
-/// The state of a comparison: the columns still to be compared, the least difference in the others,
-/// the number of columns that were made, and the greatest number that may be.
-#[derive(Drop)]
-pub struct Progress {
-    pub pending: Vec<Column>,
-    pub best: Option<(Square, Side)>,
-    pub columns: u64,
-    pub most: u64,
 }
 
 /// What a comparison by columns found, and how many columns it made.
@@ -82,117 +68,69 @@ fn clipped(alloc: Global, rings: &Rings, part: &Part) -> Result<Rings, AllocErro
     simplified(alloc, Rings::clipped(alloc, rings, part)?)
 }
 
-/// Rings in another order are looked for after each third cut: to look after each would cost more
-/// than it saves.
-const LOOKED_AFTER: u32 = 3;
-
-/// Whether two lists that come from `depth` cuts, one within the other, are found to have the same
-/// rings. `false` says nothing.
-fn have_same_rings(
+/// The column of a part of two lists.
+fn column_of(
     alloc: Global,
     first: &Rings,
     second: &Rings,
-    depth: u32,
-) -> Result<bool, AllocError>
-    ensures { IfOk result
-        (λ same. IsTrue same → (s : GridSquare) → SomeCovers first.now s ↔ SomeCovers second.now s) }
+    part: &Part,
+) -> Result<Column, AllocError>
+    ensures { IfOk result (λ column. IsPartOf (IsIn part.now) (first.now, second.now) (lists_of column)) }
 {
-    if first.is_same(second) {
-        return Ok(true);
-    }
-    if depth % LOOKED_AFTER != 0 {
-        return Ok(false);
-    }
-    are_reordered(alloc, first, second)
+    Ok(Column {
+        first: clipped(alloc, first, part)?,
+        second: clipped(alloc, second, part)?,
+        depth: 1,
+    })
 }
 
-impl Progress {
-    /// Compares two lists by a sweep of each.
-    fn sweep(&mut self, alloc: Global, first: &Rings, second: &Rings) -> Result<(), AllocError>
-        ensures reported { OnOk result (StaysOpen first.now second.now self.old self.new) }
-        ensures limit { OnOk result ((self.new.columns ≡ self.old.columns) × (self.new.most ≡ self.old.most)) }
-        ensures pending { OnOk result (self.new.pending.items ≡ self.old.pending.items) }
-    {
-        let found = first_difference_up_to(alloc, first, second, row_of(self.best))?;
-        self.best = lesser(self.best, found);
-        Ok(())
-    }
+/// The lesser of the difference that is known and of the least one of two lists, found by a sweep of each.
+fn swept(
+    alloc: Global,
+    first: &Rings,
+    second: &Rings,
+    known: Option<(Square, Side)>,
+) -> Result<Option<(Square, Side)>, AllocError>
+    ensures { IfOk result (IsLeastWith (first.now, second.now) known) }
+{
+    let found = first_difference_up_to(alloc, first, second, row_of(known))?;
+    Ok(lesser(known, found))
+}
 
-    /// Whether a column may still be cut in two.
-    fn may_cut(&self) -> bool
-        ensures { IsTrue result → self.now.columns + 2 ≤ self.now.most }
-    {
-        self.columns < self.most && self.most - self.columns >= 2
+/// Where a column is cut, or None if that doesn't pay or fewer than two columns may be made.
+fn column_cut(alloc: Global, column: &Column, left: u64) -> Result<Option<i64>, AllocError>
+    ensures { IfOk result (λ cut. IfSome cut (λ _. 2 ≤ left)) }
+{
+    if left < 2 {
+        return Ok(None);
     }
+    cut_at(alloc, &column.first, &column.second, column.depth)
+}
 
-    /// Adds both halves of a column to the pending ones. The left half will be compared first.
-    fn cut(&mut self, left: Column, right: Column) -> Result<(), AllocError>
-        requires { self.old.columns + 2 ≤ self.old.most }
-        ensures pending { OnOk result (self.new.pending.items ≡ (self.old.pending.items ++ right ∷ []) ++ left ∷ []) }
-        ensures best { OnOk result (self.new.best ≡ self.old.best) }
-        ensures columns { OnOk result (self.new.columns ≡ self.old.columns + 2) }
-        ensures most { OnOk result (self.new.most ≡ self.old.most) }
-    {
-        self.pending.push(right)?;
-        self.pending.push(left)?;
-        self.columns += 2;
-        Ok(())
+/// The lesser of the difference that is known and of the least one of a column, which is swept or cut in two, with
+/// at most `most` columns in all.
+fn compared(
+    alloc: Global,
+    column: Column,
+    known: ColumnComparison,
+    most: u64,
+) -> Result<ColumnComparison, AllocError>
+    requires { known.columns ≤ most }
+    ensures found { IfOk result (λ it. IsLeastWith (lists_of column) known.found it.found) }
+    ensures columns { IfOk result (λ it. (known.columns ≤ it.columns) × (it.columns ≤ most)) }
+{
+    if column.first.is_same(&column.second) {
+        return Ok(known);
     }
-
-    /// Compares a column, or cuts it in two.
-    fn step(&mut self, alloc: Global, column: Column) -> Result<(), AllocError>
-        ensures reported { OnOk result (StaysOpen column.first column.second self.old self.new) }
-        ensures limit { OnOk result (self.old.columns ≤ self.old.most → KeepsLimit self.old self.new) }
-        ensures work { OnOk result (work_left self.new ≤ work_left self.old) }
-    {
-        if have_same_rings(alloc, &column.first, &column.second, column.depth)? {
-            return Ok(());
-        }
-        if self.may_cut() {
-            if let Some(at) = cut_at(alloc, &column.first, &column.second, column.depth)? {
-                let (left, right) = halves_at(alloc, column, at)?;
-                self.cut(left, right)?;
-                return Ok(());
-            }
-        }
-        self.sweep(alloc, &column.first, &column.second)
-    }
-
-    /// Compares the columns that are pending, the last one first.
-    fn finish(&mut self, alloc: Global) -> Result<(), AllocError>
-        requires { self.old.columns ≤ self.old.most }
-        ensures reported { OnOk result (EndsWith self.old self.new) }
-        ensures limit { OnOk result (KeepsLimit self.old self.new) }
-        ensures done { OnOk result (self.new.pending.items ≡ []) }
-    {
-        while let Some(column) = self.pending.pop() {
-            self.step(alloc, column)?;
-        }
-        Ok(())
-    }
-
-    /// Compares a part of two lists. The copy of the part is freed afterwards.
-    fn part(
-        &mut self,
-        alloc: Global,
-        first: &Rings,
-        second: &Rings,
-        part: &Part,
-    ) -> Result<(), AllocError>
-        requires none { self.old.pending.items ≡ [] }
-        requires limit { self.old.columns ≤ self.old.most }
-        ensures reported { OnOk result (IsComparedPart (IsIn part.now) (first.now, second.now) self.old self.new) }
-        ensures limit { OnOk result (KeepsLimit self.old self.new) }
-        ensures done { OnOk result (self.new.pending.items ≡ []) }
-    {
-        let column = Column {
-            first: clipped(alloc, first, part)?,
-            second: clipped(alloc, second, part)?,
-            depth: 1,
-        };
-        self.pending.push(column)?;
-        self.finish(alloc)
-    }
+    let Some(at) = column_cut(alloc, &column, most - known.columns)? else {
+        let found = swept(alloc, &column.first, &column.second, known.found)?;
+        return Ok(ColumnComparison { found, ..known });
+    };
+    let (left, right) = halves_at(alloc, column, at)?;
+    let columns = known.columns + 2;
+    let made = ColumnComparison { columns, ..known };
+    let half = compared(alloc, left, made, most)?;
+    compared(alloc, right, half, most)
 }
 
 /// A copy of a list of rings.
@@ -206,25 +144,17 @@ fn copied(alloc: Global, rings: &Rings) -> Result<Rings, AllocError>
     Ok(copy)
 }
 
-/// The least difference of two lists by one sweep of each.
-fn swept(alloc: Global, first: &Rings, second: &Rings) -> Result<Option<(Square, Side)>, AllocError>
-    ensures { IfOk result (IsFirst (first.now, second.now)) }
-{
-    let found = first_difference_up_to(alloc, first, second, None)?;
-    Ok(found)
-}
-
 /// The least difference of two lists that aren't cut. If all corners are at two abscissas, copies
 /// of both lists are simplified first, since then each ring can be joined with others.
 fn uncut(alloc: Global, first: &Rings, second: &Rings) -> Result<Option<(Square, Side)>, AllocError>
     ensures { IfOk result (IsFirst (first.now, second.now)) }
 {
     if !is_narrow(first, second) {
-        return swept(alloc, first, second);
+        return swept(alloc, first, second, None);
     }
     let ours = simplified(alloc, copied(alloc, first)?)?;
     let theirs = simplified(alloc, copied(alloc, second)?)?;
-    swept(alloc, &ours, &theirs)
+    swept(alloc, &ours, &theirs, None)
 }
 
 /// The least difference of two lists that are cut at the abscissa `at`: first the part left of it,
@@ -240,27 +170,15 @@ fn in_parts(
     ensures found { IfOk result (λ it. IsFirst (first.now, second.now) it.found) }
     ensures columns { IfOk result (λ it. it.columns ≤ most) }
 {
-    let mut progress = Progress {
-        pending: Vec::new(alloc),
-        best: None,
+    let none = ColumnComparison {
+        found: None,
         columns: 2,
-        most,
     };
-    progress.part(alloc, first, second, &Part::Left(at))?;
-    progress.part(alloc, first, second, &Part::Right(at))?;
-    Ok(ColumnComparison {
-        found: progress.best,
-        columns: progress.columns,
-    })
-}
-
-/// The greatest number of columns of two lists: two for each corner, since each cut is at another
-/// corner.
-fn most_columns(first: &Rings, second: &Rings) -> u64
-    ensures { result ≤ 2 * length (corners_of first.now second.now) }
-{
-    let corners = (first.points().len() as u64).saturating_add(second.points().len() as u64);
-    corners.saturating_mul(2)
+    let left = column_of(alloc, first, second, &Part::Left(at))?;
+    let half = compared(alloc, left, none, most)?;
+    let right = column_of(alloc, first, second, &Part::Right(at))?;
+    let whole = compared(alloc, right, half, most)?;
+    Ok(whole)
 }
 
 /// The least difference of two lists, by columns if a cut pays, of which at most `most` are made.
@@ -280,6 +198,57 @@ pub(crate) fn least_difference(
     }
     let found = uncut(alloc, first, second)?;
     Ok(ColumnComparison { found, columns: 0 })
+}
+
+/// The greatest number of columns of two lists: two for each corner, since each cut is at another
+/// corner.
+fn most_columns(first: &Rings, second: &Rings) -> u64
+    ensures { result ≤ 2 * length (corners_of first.now second.now) }
+{
+    let corners = (first.points().len() as u64).saturating_add(second.points().len() as u64);
+    corners.saturating_mul(2)
+}
+
+/// Whether only the list of that side covers the square.
+fn is_alone(first: &Rings, second: &Rings, square: Square, side: Side) -> bool
+    ensures { IsTrue result → IsAlone (SomeCovers first.now) (SomeCovers second.now) square side }
+{
+    match side {
+        Side::First => first.covers(square) && !second.covers(square),
+        Side::Second => second.covers(square) && !first.covers(square),
+    }
+}
+
+/// Whether what was found, if anything, is a square that only the list of its side covers.
+fn is_found_in(first: &Rings, second: &Rings, found: Option<(Square, Side)>) -> bool
+    ensures { IsTrue result → IsFoundIn (first.now, second.now) found }
+{
+    match found {
+        Some((square, side)) => is_alone(first, second, square, side),
+        None => true,
+    }
+}
+
+/// The least difference of two lists, by at most `most` columns: of what is left of them without the rings that
+/// both have, if that is little. Where a common ring covers the difference that is found so, all rings are compared.
+fn first_of(
+    alloc: Global,
+    first: &Rings,
+    second: &Rings,
+    most: u64,
+) -> Result<ColumnComparison, AllocError>
+    ensures found { IfOk result (λ it. IsFirst (first.now, second.now) it.found) }
+    ensures columns { IfOk result (λ it. it.columns ≤ most) }
+{
+    let Some(left) = difference_left(alloc, first, second, most)? else {
+        return least_difference(alloc, first, second, most);
+    };
+    if is_found_in(first, second, left.found) {
+        return Ok(left);
+    }
+    let whole = least_difference(alloc, first, second, most - left.columns)?;
+    let columns = left.columns + whole.columns;
+    Ok(ColumnComparison { columns, ..whole })
 }
 
 /// The least square, by `y` and then `x`, that the rings of only one list cover, with its side, or
@@ -308,20 +277,8 @@ pub fn compare_by_columns(
             columns: 0,
         });
     }
-    let most = most_columns(first, second);
-    let Some(left) = difference_left(alloc, first, second, most)? else {
-        return least_difference(alloc, first, second, most);
-    };
-    let compared = left.compared;
-    if compared.found.is_none() {
-        return Ok(compared);
-    }
-    let rest = most - compared.columns;
-    let whole = difference_around(alloc, first, second, left.around, rest)?;
-    Ok(ColumnComparison {
-        found: whole.found,
-        columns: compared.columns + whole.columns,
-    })
+    let found = first_of(alloc, first, second, most_columns(first, second))?;
+    Ok(found)
 }
 
 /// What [`compare_by_columns`] finds, without the number of columns.

@@ -1,8 +1,8 @@
 //! The two halves of a column that is cut.
-ghost use Rattle.std.specs.Prelude.{◌≡◌, ◌↔◌, ◌<ℤ◌, ◌≤ℤ◌, [], IfOk};
+ghost use Rattle.std.specs.Prelude.{◌↔◌, ◌<ℤ◌, ◌≤ℤ◌, IfOk};
 ghost use Rattle.lvl_grid.specs.declared.point.Square.{Square as GridSquare};
 ghost use Rattle.lvl_grid.specs.Winding.{SomeCovers};
-ghost use Rattle.lvl_columns.specs.Columns.{AreHalvesAt};
+ghost use Rattle.lvl_columns.specs.Columns.{IsPartOf, lists_of};
 
 use crate::columns::Column;
 use lvl_grid::Rings;
@@ -29,7 +29,8 @@ pub(crate) fn halves_at(
     column: Column,
     at: i64,
 ) -> Result<(Column, Column), AllocError>
-    ensures { IfOk result (λ halves. AreHalvesAt at column.first column.second halves.0 halves.1) }
+    ensures left { IfOk result (λ halves. IsPartOf (λ s. s.x <ℤ at) (lists_of column) (lists_of halves.0)) }
+    ensures right { IfOk result (λ halves. IsPartOf (λ s. at ≤ℤ s.x) (lists_of column) (lists_of halves.1)) }
 {
     let depth = column.depth.saturating_add(1);
     let (left_first, right_first) = split(alloc, column.first, at)?;

@@ -1,7 +1,9 @@
-//! Keys of rings: numbers that rings have in common for which [`crate::reordered::are_alike`] holds,
-//! and few others have. They only guide a search, so they have no contracts.
+//! Rings that are the same, and keys that they have in common and few others have.
+ghost use Rattle.std.specs.Prelude.{◌↔◌, IsTrue};
+ghost use Rattle.lvl_grid.specs.declared.point.Square.{Square as GridSquare};
+ghost use Rattle.lvl_grid.specs.Winding.{Covers};
 
-use lvl_grid::{Point, Rings};
+use lvl_grid::Point;
 use lvl_simplify::window_of;
 
 const START: u64 = 0x243f_6a88_85a3_08d3;
@@ -22,7 +24,7 @@ fn with_point(key: u64, x: i64, y: i64) -> u64 {
     )
 }
 
-/// The key of a ring: of a rectangle, that of its corners.
+/// The key of a ring: of a rectangle, that of its corners. It only guides a search.
 pub(crate) fn key_of(ring: &[Point]) -> u64 {
     if let Some(window) = window_of(ring) {
         let low = with_point(START, window.x0, window.y0);
@@ -35,11 +37,15 @@ pub(crate) fn key_of(ring: &[Point]) -> u64 {
     key
 }
 
-/// The sum of the keys of a list, which doesn't depend on the order of its rings.
-pub(crate) fn sum_of_keys(rings: &Rings) -> u128 {
-    let mut sum: u128 = 0;
-    for i in 0..rings.len() {
-        sum = sum.saturating_add(u128::from(key_of(rings.ring(i))));
+/// Whether two rings have the same points in the same order, or are the same rectangle.
+pub(crate) fn are_alike(first: &[Point], second: &[Point]) -> bool
+    ensures { IsTrue result → (s : GridSquare) → Covers first.now s ↔ Covers second.now s }
+{
+    if first == second {
+        return true;
     }
-    sum
+    match (window_of(first), window_of(second)) {
+        (Some(ours), Some(theirs)) => ours == theirs,
+        _ => false,
+    }
 }

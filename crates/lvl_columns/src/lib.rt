@@ -24,17 +24,14 @@ pub use columns::{ColumnComparison, compare_by_columns, difference_by_columns};
 pub use cut::cut_at;
 pub use window::{difference_in, first_difference_in};
 
-mod around;
+mod cancel;
 mod columns;
 mod cut;
 mod estimate;
 mod folded;
 mod halves;
-mod kept;
 mod keys;
-mod left;
 mod passes;
-mod reordered;
 mod sample;
 mod slices;
 mod table;

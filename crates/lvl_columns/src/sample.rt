@@ -1,10 +1,17 @@
 //! Some rings of a list, taken at random, from which the work of a sweep is estimated. They guide a
 //! choice of cost only, so they have no contracts.
 
-use crate::around::NOWHERE;
 use lvl_grid::{Point, Rings, Window};
 use lvl_simplify::Outline;
 use std::alloc::{AllocError, Global};
+
+/// A window that has no point.
+const NOWHERE: Window = Window {
+    x0: i64::MAX,
+    y0: i64::MAX,
+    x1: i64::MIN,
+    y1: i64::MIN,
+};
 
 /// A Lehmer generator of pseudo-random numbers. Its seed is fixed, so that a comparison takes the
 /// same steps each time.

@@ -3,7 +3,7 @@ use Rattle.std.proofs.lemmas.Result.{on_ok_weaker}
 use Rattle.lvl_grid.specs.declared.point.Point.{Point}
 use Rattle.lvl_grid.specs.Winding.{Covers, SomeCovers}
 use Rattle.lvl_grid.proofs.Anyone.{Any-push}
-use Rattle.lvl_columns.proofs.left.push_left.Goals as goal
+use Rattle.lvl_columns.proofs.cancel.push_left.Goals as goal
 
 pub returns-then-has_alike-clause-within : goal.returns-then-has_alike-clause-within
 returns-then-has_alike-clause-within c = λ s a. inl a

@@ -3,7 +3,7 @@ use Rattle.std.proofs.lemmas.List.{take_more, take_all}
 use Rattle.lvl_grid.specs.declared.point.Point.{Point}
 use Rattle.lvl_columns.specs.Left.{IsLeft}
 use Rattle.lvl_columns.proofs.Leaving.{left_none, left_push}
-use Rattle.lvl_columns.proofs.left.left_of.Goals as goal
+use Rattle.lvl_columns.proofs.cancel.left_of.Goals as goal
 
 pub loop-i-init : goal.loop-i-init
 loop-i-init c =

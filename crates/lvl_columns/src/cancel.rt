@@ -1,14 +1,15 @@
-//! What is left of two lists of rings without those that both have.
-ghost use Rattle.std.specs.Prelude.{◌⊎◌, IfOk, IfSome, OnOk};
+//! Two lists of rings without those that both have. The lists differ where what is left of them does, unless a ring
+//! that both have covers the square.
+ghost use Rattle.std.specs.Prelude.{◌⊎◌, ◌≤◌, IfOk, IfSome, OnOk};
 ghost use Rattle.lvl_grid.specs.declared.point.Square.{Square as GridSquare};
 ghost use Rattle.lvl_grid.specs.Winding.{Covers, IsRing, SomeCovers};
+ghost use Rattle.lvl_columns.specs.Columns.{Agree, NotBefore};
 ghost use Rattle.lvl_columns.specs.Left.{AreLeft, IsLeft};
 
-use crate::around::around;
-use crate::kept::Kept;
+use crate::columns::{ColumnComparison, least_difference};
 use crate::keys::key_of;
 use crate::sample::Random;
-use crate::table::{Table, has_alike};
+use crate::table::Table;
 use lvl_grid::{Point, Rings};
 use std::alloc::{AllocError, Global};
 
@@ -21,12 +22,11 @@ const SAMPLED: usize = 128;
 /// The number of bits that tell most keys from those of the sampled rings.
 const BITS: u64 = 4096;
 
-/// Appends a ring, unless it isn't kept and is found in another list.
+/// Appends a ring, unless it is found in another list.
 fn push_left(
     left: &mut Rings,
     table: &Table,
     others: &Rings,
-    kept: &Kept,
     ring: &[Point],
 ) -> Result<(), AllocError>
     requires { IsRing ring.now }
@@ -35,27 +35,25 @@ fn push_left(
     ensures all { OnOk result ((s : GridSquare) → (SomeCovers left.old s ⊎ Covers ring.now s)
         → SomeCovers left.new s ⊎ SomeCovers others.now s) }
 {
-    if has_alike(table, others, kept, ring) {
+    if table.has_alike(others, ring) {
         return Ok(());
     }
     left.push(ring)
 }
 
-/// The rings of a list that are kept or aren't found in another one, or None if they have more than `most`
-/// points. The table is that of the other list.
+/// The rings of a list that aren't found in another one, or None if they have more than `most` points.
 fn left_of(
     alloc: Global,
     rings: &Rings,
-    table: Table,
     others: &Rings,
-    kept: &Kept,
     most: usize,
 ) -> Result<Option<Rings>, AllocError>
     ensures { IfOk result (λ found. IfSome found (IsLeft rings.now others.now)) }
 {
+    let table = Table::of(alloc, others)?;
     let mut left = Rings::new(alloc);
     for i in 0..rings.len() {
-        push_left(&mut left, &table, others, kept, rings.ring(i))?;
+        push_left(&mut left, &table, others, rings.ring(i))?;
         if left.points().len() > most {
             return Ok(None);
         }
@@ -103,9 +101,9 @@ fn have_many(alloc: Global, first: &Rings, second: &Rings) -> Result<bool, Alloc
     Ok(found_keys(alloc, second, &keys)? >= SAMPLED / 2)
 }
 
-/// The rings of each of two lists that aren't found in the other, or None if they are more than three
-/// sevenths of all: then they, and the columns of them, would take more memory than the columns of all.
-pub(crate) fn left_over(
+/// The rings of each of two lists that aren't found in the other, or None if they are more than three sevenths of
+/// all: then they, and the columns of them, would take more memory than the columns of all.
+fn left_over(
     alloc: Global,
     first: &Rings,
     second: &Rings,
@@ -115,18 +113,33 @@ pub(crate) fn left_over(
     if !have_many(alloc, first, second)? {
         return Ok(None);
     }
-    let our_table = Table::of(alloc, first)?;
-    let their_table = Table::of(alloc, second)?;
-    let window = around(first, second);
-    let kept = Kept::of(alloc, window, first, second, &our_table, &their_table)?;
     let points = first.points().len().saturating_add(second.points().len());
     let most = points / 7 * 3;
-    let Some(ours) = left_of(alloc, first, their_table, second, &kept, most)? else {
+    let Some(ours) = left_of(alloc, first, second, most)? else {
         return Ok(None);
     };
     let rest = most.saturating_sub(ours.points().len());
-    let Some(theirs) = left_of(alloc, second, our_table, first, &kept, rest)? else {
+    let Some(theirs) = left_of(alloc, second, first, rest)? else {
         return Ok(None);
     };
     Ok(Some((ours, theirs)))
+}
+
+/// The least difference of what is left of two lists without the rings that both have, by at most `most` columns.
+/// Before it the lists agree; at it they differ unless a ring that both have covers it. None if too few are common.
+pub(crate) fn difference_left(
+    alloc: Global,
+    first: &Rings,
+    second: &Rings,
+    most: u64,
+) -> Result<Option<ColumnComparison>, AllocError>
+    ensures least { IfOk result (λ left. IfSome left (λ it. (s : GridSquare)
+        → Agree (first.now, second.now) s ⊎ NotBefore s it.found)) }
+    ensures columns { IfOk result (λ left. IfSome left (λ it. it.columns ≤ most)) }
+{
+    let Some((ours, theirs)) = left_over(alloc, first, second)? else {
+        return Ok(None);
+    };
+    let found = least_difference(alloc, &ours, &theirs, most)?;
+    Ok(Some(found))
 }

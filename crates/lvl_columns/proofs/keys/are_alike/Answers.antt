@@ -7,7 +7,7 @@ use Rattle.lvl_grid.specs.declared.point.Window.{Window}
 use Rattle.lvl_grid.specs.Clip.{IsInWindow}
 use Rattle.lvl_grid.specs.Winding.{Covers}
 use Rattle.lvl_grid.proofs.Composing.{same_point}
-use Rattle.lvl_columns.proofs.reordered.are_alike.Goals as goal
+use Rattle.lvl_columns.proofs.keys.are_alike.Goals as goal
 
 itself : (p : Point) → (int_eq p.x p.x && int_eq p.y p.y) ≡ true
 itself p = grind (arith, ints)

@@ -1,6 +1,6 @@
 use Rattle.std.proofs.Common.{take}
 use Rattle.lvl_columns.specs.Left.{IsLeft}
-use Rattle.lvl_columns.proofs.left.left_of.Given as goal
+use Rattle.lvl_columns.proofs.cancel.left_of.Given as goal
 
 -- those of the rings so far are left
 abbrev pub invariant-loop-i : goal.invariant-loop-i
