@@ -53,6 +53,12 @@ abbrev pub IsPartOf : (Square → Type 0) → Lists → Lists → Type 0
 IsPartOf P l part =
     (s : Square) → (SomeCovers part.0 s ↔ (P s × SomeCovers l.0 s)) × (SomeCovers part.1 s ↔ (P s × SomeCovers l.1 s))
 
+-- what was found is the least difference of lists that cover what these do at the squares for which P holds
+pub record IsFirstIn (P : Square → Type 0) (l : Lists) (found : Outcome) : Type 0 where
+  pub part : Lists
+  pub is_part : IsPartOf P l part
+  pub first : IsFirst part found
+
 -- the row of the square that was found, if one was: no lesser square is above it
 abbrev pub last_row : Outcome → Option ℤ
 last_row None = None

@@ -7,7 +7,6 @@ ghost use Rattle.lvl_columns.specs.Columns.{Agree, NotBefore};
 ghost use Rattle.lvl_columns.specs.Left.{AreLeft, IsLeft};
 
 use crate::columns::{ColumnComparison, least_difference};
-use crate::keys::key_of;
 use crate::sample::Random;
 use crate::table::Table;
 use lvl_grid::{Point, Rings};
@@ -16,11 +15,8 @@ use std::alloc::{AllocError, Global};
 /// Shorter lists are swept as fast as common rings are found.
 const FEWEST: usize = 256;
 
-/// The number of rings of the first list that are looked for in the second.
+/// The number of rings that say whether lists have many in common.
 const SAMPLED: usize = 128;
-
-/// The number of bits that tell most keys from those of the sampled rings.
-const BITS: u64 = 4096;
 
 /// Appends a ring, unless it is found in another list.
 fn push_left(
@@ -41,16 +37,17 @@ fn push_left(
     left.push(ring)
 }
 
-/// The rings of a list that aren't found in another one, or None if they have more than `most` points.
+/// The rings of a list that aren't found in another one, whose table is given, or None if they have more than
+/// `most` points.
 fn left_of(
     alloc: Global,
     rings: &Rings,
+    table: Table,
     others: &Rings,
     most: usize,
 ) -> Result<Option<Rings>, AllocError>
     ensures { IfOk result (λ found. IfSome found (IsLeft rings.now others.now)) }
 {
-    let table = Table::of(alloc, others)?;
     let mut left = Rings::new(alloc);
     for i in 0..rings.len() {
         push_left(&mut left, &table, others, rings.ring(i))?;
@@ -61,44 +58,19 @@ fn left_of(
     Ok(Some(left))
 }
 
-/// The keys of some rings of a list, sorted.
-fn sampled_keys(alloc: Global, rings: &Rings) -> Result<Vec<u64>, AllocError> {
+/// Whether at least half of some rings of a list, taken at random, are found in another one. If fewer are, it doesn't
+/// pay to find all.
+fn have_many(rings: &Rings, table: &Table, others: &Rings) -> bool {
     let mut random = Random::new();
-    let mut keys = Vec::with_capacity(alloc, SAMPLED)?;
+    let mut found: usize = 0;
     for _ in 0..SAMPLED {
         if let Some(ring) = rings.get(random.below(rings.len())) {
-            keys.push(key_of(ring))?;
+            if table.has_alike(others, ring) {
+                found = found.saturating_add(1);
+            }
         }
     }
-    keys.sort_unstable();
-    Ok(keys)
-}
-
-/// How many rings of a list have one of these keys, which are sorted.
-fn found_keys(alloc: Global, rings: &Rings, keys: &[u64]) -> Result<usize, AllocError> {
-    let mut bits: Vec<bool> = vec![in alloc; false; BITS as usize]?;
-    for key in keys {
-        if let Some(bit) = bits.get_mut((*key % BITS) as usize) {
-            *bit = true;
-        }
-    }
-    let mut found: usize = 0;
-    for i in 0..rings.len() {
-        let key = key_of(rings.ring(i));
-        if bits.get((key % BITS) as usize) == Some(&true) && keys.binary_search(&key).is_ok() {
-            found = found.saturating_add(1);
-        }
-    }
-    Ok(found)
-}
-
-/// Whether a sample says that lists have so many rings in common that it pays to find them.
-fn have_many(alloc: Global, first: &Rings, second: &Rings) -> Result<bool, AllocError> {
-    if first.len() < FEWEST || second.len() < FEWEST {
-        return Ok(false);
-    }
-    let keys = sampled_keys(alloc, first)?;
-    Ok(found_keys(alloc, second, &keys)? >= SAMPLED / 2)
+    found >= SAMPLED / 2
 }
 
 /// The rings of each of two lists that aren't found in the other, or None if they are more than three sevenths of
@@ -110,16 +82,20 @@ fn left_over(
 ) -> Result<Option<(Rings, Rings)>, AllocError>
     ensures { IfOk result (λ found. IfSome found (λ left. AreLeft first.now second.now left.0 left.1)) }
 {
-    if !have_many(alloc, first, second)? {
+    if first.len() < FEWEST || second.len() < FEWEST {
+        return Ok(None);
+    }
+    let table = Table::of(alloc, second)?;
+    if !have_many(first, &table, second) {
         return Ok(None);
     }
     let points = first.points().len().saturating_add(second.points().len());
     let most = points / 7 * 3;
-    let Some(ours) = left_of(alloc, first, second, most)? else {
+    let Some(ours) = left_of(alloc, first, table, second, most)? else {
         return Ok(None);
     };
     let rest = most.saturating_sub(ours.points().len());
-    let Some(theirs) = left_of(alloc, second, first, rest)? else {
+    let Some(theirs) = left_of(alloc, second, Table::of(alloc, first)?, first, rest)? else {
         return Ok(None);
     };
     Ok(Some((ours, theirs)))

@@ -229,17 +229,21 @@ fn is_found_in(first: &Rings, second: &Rings, found: Option<(Square, Side)>) -> 
     }
 }
 
-/// The least difference of two lists, by at most `most` columns: of what is left of them without the rings that
-/// both have, if that is little. Where a common ring covers the difference that is found so, all rings are compared.
-fn first_of(
+/// The least difference of two lists: of what is left of them without the rings that both have, if that is little.
+/// Where a common ring covers the difference that is found so, all rings are compared.
+pub(crate) fn first_of(
     alloc: Global,
     first: &Rings,
     second: &Rings,
-    most: u64,
 ) -> Result<ColumnComparison, AllocError>
     ensures found { IfOk result (λ it. IsFirst (first.now, second.now) it.found) }
-    ensures columns { IfOk result (λ it. it.columns ≤ most) }
+    ensures columns { IfOk result (λ it. it.columns ≤ 2 * length (corners_of first.now second.now)) }
 {
+    let found = None;
+    if first.is_same(second) {
+        return Ok(ColumnComparison { found, columns: 0 });
+    }
+    let most = most_columns(first, second);
     let Some(left) = difference_left(alloc, first, second, most)? else {
         return least_difference(alloc, first, second, most);
     };
@@ -271,13 +275,7 @@ pub fn compare_by_columns(
         (λ at. (s : GridSquare) → IsBefore s at.0 → SomeCovers first.now s ↔ SomeCovers second.now s)) }
     ensures columns { IfOk result (λ it. it.columns ≤ 2 * length (corners_of first.now second.now)) }
 {
-    if first.is_same(second) {
-        return Ok(ColumnComparison {
-            found: None,
-            columns: 0,
-        });
-    }
-    let found = first_of(alloc, first, second, most_columns(first, second))?;
+    let found = first_of(alloc, first, second)?;
     Ok(found)
 }
 

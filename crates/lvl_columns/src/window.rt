@@ -4,12 +4,31 @@ ghost use Rattle.lvl_grid.specs.declared.point.Square.{Square as GridSquare};
 ghost use Rattle.lvl_grid.specs.Winding.{SomeCovers};
 ghost use Rattle.lvl_grid.specs.Squares.{IsBefore};
 ghost use Rattle.lvl_region.specs.Region.{IsAlone};
+ghost use Rattle.lvl_columns.specs.Columns.{IsFirstIn};
 ghost use Rattle.lvl_columns.specs.Windows.{IsShown, window_of};
 
-use crate::columns::difference_by_columns;
+use crate::columns::first_of;
 use lvl_grid::{Part, Ring, Rings, Square, Window};
 use lvl_region::Side;
 use std::alloc::{AllocError, Global};
+
+/// The least difference of two lists in a window, if one is given.
+fn first_in(
+    alloc: Global,
+    first: &Rings,
+    second: &Rings,
+    window: Option<&Window>,
+) -> Result<Option<(Square, Side)>, AllocError>
+    ensures { IfOk result (IsFirstIn (IsShown (window_of window.entry)) (first.now, second.now)) }
+{
+    let Some(window) = window else {
+        return Ok(first_of(alloc, first, second)?.found);
+    };
+    let part = Part::Within(*window);
+    let ours = Rings::clipped(alloc, first, &part)?;
+    let theirs = Rings::clipped(alloc, second, &part)?;
+    Ok(first_of(alloc, &ours, &theirs)?.found)
+}
 
 /// The least square of the window, by `y` and then `x`, that the rings of only one list cover, with
 /// its side, or None if both lists cover the same squares of the window. Without a window, all
@@ -33,15 +52,8 @@ pub fn difference_in(
         → IsBefore s at.0
         → SomeCovers first.now s ↔ SomeCovers second.now s)) }
 {
-    match window {
-        None => difference_by_columns(alloc, first, second),
-        Some(window) => {
-            let part = Part::Within(*window);
-            let ours = Rings::clipped(alloc, first, &part)?;
-            let theirs = Rings::clipped(alloc, second, &part)?;
-            difference_by_columns(alloc, &ours, &theirs)
-        }
-    }
+    let found = first_in(alloc, first, second, window)?;
+    Ok(found)
 }
 
 /// [`difference_in`] for two slices of rings.

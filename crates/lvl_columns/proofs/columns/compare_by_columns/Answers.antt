@@ -1,4 +1,3 @@
-use Rattle.lvl_columns.specs.Columns.{Lists}
 use Rattle.lvl_columns.proofs.Halving.{first_same, first_differ, first_least}
 use Rattle.lvl_columns.proofs.columns.compare_by_columns.Goals as goal
 
