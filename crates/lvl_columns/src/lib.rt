@@ -22,7 +22,7 @@
 
 pub use columns::{ColumnComparison, compare_by_columns, difference_by_columns};
 pub use cut::cut_at;
-pub use window::{difference_in, first_difference_in};
+pub use window::difference_in;
 
 mod cancel;
 mod columns;

@@ -8,7 +8,7 @@ ghost use Rattle.lvl_columns.specs.Columns.{IsFirstIn};
 ghost use Rattle.lvl_columns.specs.Windows.{IsShown, window_of};
 
 use crate::columns::first_of;
-use lvl_grid::{Part, Ring, Rings, Square, Window};
+use lvl_grid::{Part, Rings, Square, Window};
 use lvl_region::Side;
 use std::alloc::{AllocError, Global};
 
@@ -54,29 +54,4 @@ pub fn difference_in(
 {
     let found = first_in(alloc, first, second, window)?;
     Ok(found)
-}
-
-/// [`difference_in`] for two slices of rings.
-pub fn first_difference_in(
-    alloc: Global,
-    first: &[Ring],
-    second: &[Ring],
-    window: Option<&Window>,
-) -> Result<Option<(Square, Side)>, AllocError>
-    ensures same { IfOk result
-        (λ found. IfNone found
-        ((s : GridSquare) → IsShown (window_of window.entry) s → SomeCovers first.now s ↔ SomeCovers second.now s)) }
-    ensures differ { IfOk result
-        (λ found. IfSome found (λ at. IsAlone (SomeCovers first.now) (SomeCovers second.now) at.0 at.1)) }
-    ensures shown { IfOk result (λ found. IfSome found (λ at. IsShown (window_of window.entry) at.0)) }
-    ensures least { IfOk result
-        (λ found. IfSome found
-        (λ at. (s : GridSquare)
-        → IsShown (window_of window.entry) s
-        → IsBefore s at.0
-        → SomeCovers first.now s ↔ SomeCovers second.now s)) }
-{
-    let ours = Rings::from_slice(alloc, first)?;
-    let theirs = Rings::from_slice(alloc, second)?;
-    difference_in(alloc, &ours, &theirs, window)
 }
