@@ -1,14 +1,14 @@
 -- What arrays cover, in terms of placements.
 use Rattle.std.proofs.Common.{◌≡◌, ◌↔◌, ◌⊎◌, ◌<◌, ◌+◌, ◌++◌, ◌∷◌, [], ℕ, List, Any, Contains, take, length, get_or}
-use Rattle.std.proofs.Common.{flat_map, inl, inr, sym, ap, ◌∙◌, subst, map}
+use Rattle.std.proofs.Common.{flat_map, inl, inr, sym, ap, ◌∙◌, subst, map, append_assoc}
 use Rattle.std.proofs.Common.{pos, ◌+ℤ◌, arith}
 use Rattle.std.proofs.lemmas.Int.{ints, clamps}
-use Rattle.std.proofs.lemmas.List.{take_more}
-use Rattle.std.proofs.lemmas.List.Concat.{flat_map-cons}
+use Rattle.std.proofs.lemmas.List.{append-nil, take_more}
+use Rattle.std.proofs.lemmas.List.Concat.{flat_map-append, flat_map-cons}
 use Rattle.lvl_grid.specs.declared.point.Point.{Point}
 use Rattle.lvl_grid.specs.declared.point.Square.{Square}
 use Rattle.lvl_grid.specs.declared.map.Map.{Map}
-use Rattle.lvl_grid.proofs.Anyone.{some_contained, Any-left, Any-right, Any-sides, Any-nil, Any-push, Any-head, Any-tail}
+use Rattle.lvl_grid.proofs.Anyone.{some_contained, Any-left, Any-right, Any-sides, Any-nil, Any-head, Any-tail}
 use Rattle.lvl_grid.proofs.Anyone.{Any-uncons, Any-map}
 use Rattle.lvl_grid.proofs.Squares.{same_square}
 use Rattle.lvl_grid.specs.declared.point.Window.{Window}
@@ -24,8 +24,7 @@ use Rattle.lvl_cells.specs.Cells.{PlainCell, Rings, map_at}
 use Rattle.lvl_changed.specs.declared.arrays.Array.{Array}
 use Rattle.lvl_changed.specs.declared.placements.Placement.{Placement}
 use Rattle.lvl_changed.specs.inside.Arrays.{as_reference, each_place, every_place, HasEach, IsListed}
-use Rattle.lvl_changed.specs.inside.Placements.{HaveSame, PlacedCover, PlacementCovers}
-use Rattle.lvl_changed.proofs.Placing.{same_cover}
+use Rattle.lvl_changed.specs.inside.Placements.{PlacedCover, PlacementCovers}
 
 any_flat : {X Y : Type 0} (P : Y → Type 0) (f : X → List Y) (xs : List X)
     → Any P (flat_map f xs) ↔ Any (λ x. Any P (f x)) xs
@@ -58,26 +57,67 @@ arrays_cover cells xs ys l s same covers =
     let one = (any_flat P each_place xs).0 covers in
     array_held cells ys one.1 l s (same one.1 (one.0, one.2, one.3)) one.4
 
+pub any_either : {X : Type 0} (P : X → Type 0) (xs ys : List X) → Any P (xs ++ ys) ↔ (Any P xs ⊎ Any P ys)
+any_either P xs ys =
+    (λ a. Any-sides P xs ys a, λ e. elim e [ inl a ↦ Any-left P xs ys a | inr a ↦ Any-right P xs ys a ])
+
+-- placements are added before arrays
+pub places_added : (cells : List (PlainCell Rings)) (ps qs new : List Placement) (xs : List Array) (l : Layer)
+    (s : Square) → new ≡ ps ++ qs
+    → PlacedCover cells (new ++ every_place xs) l s
+    ↔ (PlacedCover cells (ps ++ every_place xs) l s ⊎ PlacedCover cells qs l s)
+places_added cells ps qs new xs l s is =
+    let P : Placement → Type 0 = PlacementCovers cells l s in
+    let more : Any P new ↔ (Any P ps ⊎ Any P qs) =
+    subst (λ us. Any P us ↔ (Any P ps ⊎ Any P qs)) (sym is) (any_either P ps qs) in (
+      λ c. elim ((any_either P new (every_place xs)).0 c) [
+        | inl b ↦
+            elim (more.0 b) [
+              | inl d ↦ inl ((any_either P ps (every_place xs)).1 (inl d))
+              | inr d ↦ inr d
+            ]
+        | inr b ↦ inl ((any_either P ps (every_place xs)).1 (inr b))
+      ],
+      λ e. (any_either P new (every_place xs)).1
+          (elim e [
+            | inl c ↦
+                elim ((any_either P ps (every_place xs)).0 c) [ inl b ↦ inl (more.1 (inl b)) | inr b ↦ inr b ]
+            | inr c ↦ inl (more.1 (inr c))
+          ]),
+    )
+
+-- arrays are added
+pub arrays_added : (cells : List (PlainCell Rings)) (ps : List Placement) (old more new : List Array) (l : Layer)
+    (s : Square) → new ≡ old ++ more
+    → PlacedCover cells (ps ++ every_place new) l s
+    ↔ (PlacedCover cells (ps ++ every_place old) l s ⊎ PlacedCover cells (every_place more) l s)
+arrays_added cells ps old more new l s is =
+    let P : Placement → Type 0 = PlacementCovers cells l s in
+    let whole : ps ++ every_place new ≡ (ps ++ every_place old) ++ every_place more =
+    ap (λ us. ps ++ us) (ap every_place is ∙ flat_map-append each_place old more)
+    ∙ sym (append_assoc ps (every_place old) (every_place more)) in
+    subst (λ us. Any P us ↔ (Any P (ps ++ every_place old) ⊎ Any P (every_place more))) (sym whole)
+    (any_either P (ps ++ every_place old) (every_place more))
+
+-- an array is added to the arrays
+pub array_added : (cells : List (PlainCell Rings)) (ps : List Placement) (old new : List Array) (a : Array) (l : Layer)
+    (s : Square) → new ≡ old ++ a ∷ []
+    → PlacedCover cells (ps ++ every_place new) l s
+    ↔ (PlacedCover cells (ps ++ every_place old) l s ⊎ PlacedCover cells (each_place a) l s)
+array_added cells ps old new a l s is =
+    subst
+    (λ us. PlacedCover cells (ps ++ every_place new) l s
+    ↔ (PlacedCover cells (ps ++ every_place old) l s ⊎ PlacedCover cells us l s)) (append-nil (each_place a))
+    (arrays_added cells ps old (a ∷ []) new l s is)
+
 -- with one more array
 pub arrays_more : (cells : List (PlainCell Rings)) (as' : List Array) (i : ℕ) (a : Array) (l : Layer) (s : Square)
     → i < length as' → a ≡ get_or as' i a
     → PlacedCover cells (every_place (take (i + 1) as')) l s
     ↔ (PlacedCover cells (every_place (take i as')) l s ⊎ PlacedCover cells (each_place a) l s)
 arrays_more cells as' i a l s low is =
-    let P : Placement → Type 0 = PlacementCovers cells l s in
-    let Q : Array → Type 0 = λ b. Any P (each_place b) in
-    let more : take (i + 1) as' ≡ take i as' ++ a ∷ [] =
-    take_more as' i a low ∙ ap (λ (b : Array). take i as' ++ b ∷ []) (sym is) in
-    subst
-    (λ bs. PlacedCover cells (every_place bs) l s
-    ↔ (PlacedCover cells (every_place (take i as')) l s ⊎ PlacedCover cells (each_place a) l s)) (sym more) (
-      λ c. elim ((Any-push Q (take i as') a).0 ((any_flat P each_place (take i as' ++ a ∷ [])).0 c)) [
-        | inl b ↦ inl ((any_flat P each_place (take i as')).1 b)
-        | inr b ↦ inr b
-      ],
-      λ e. (any_flat P each_place (take i as' ++ a ∷ [])).1 ((Any-push Q (take i as') a).1
-          (elim e [ inl b ↦ inl ((any_flat P each_place (take i as')).0 b) | inr b ↦ inr b ])),
-    )
+    array_added cells [] (take i as') (take (i + 1) as') a l s
+    (take_more as' i a low ∙ ap (λ (b : Array). take i as' ++ b ∷ []) (sym is))
 
 -- with one more array, whose places are listed
 pub listed_more : (cells : List (PlainCell Rings)) (first old new : List Placement) (as' others : List Array) (i : ℕ)
@@ -142,7 +182,7 @@ array_outside cells a v w within has l s out covers =
     let u = at.4 in
     out (subst (λ q. Has w q) u.1 (has at.1 (at.0, at.2, at.3) u.0 (within l u.0 u.2)))
 
-moved_image : (by : Map) (e : Point) (s : Square)
+pub moved_image : (by : Map) (e : Point) (s : Square)
     → image_square (record { flip = by.flip; turn = by.turn; at = shifted by.at e }) s
     ≡ record { x = (image_square by s).x +ℤ e.x; y = (image_square by s).y +ℤ e.y }
 moved_image by e s = same_square _ _ (omega (arith, ints, clamps)) (omega (arith, ints, clamps))
@@ -174,38 +214,6 @@ everywhere_has a first all low high e s h b is =
       y_below = omega (arith, ints, h.y_below, b.above);
     }))
 
-pub any_either : {X : Type 0} (P : X → Type 0) (xs ys : List X) → Any P (xs ++ ys) ↔ (Any P xs ⊎ Any P ys)
-any_either P xs ys =
-    (λ a. Any-sides P xs ys a, λ e. elim e [ inl a ↦ Any-left P xs ys a | inr a ↦ Any-right P xs ys a ])
-
--- an array is added to the arrays
-pub array_added : (cells : List (PlainCell Rings)) (ps : List Placement) (old new : List Array) (a : Array) (l : Layer)
-    (s : Square) → new ≡ old ++ a ∷ []
-    → PlacedCover cells (ps ++ every_place new) l s
-    ↔ (PlacedCover cells (ps ++ every_place old) l s ⊎ PlacedCover cells (each_place a) l s)
-array_added cells ps old new a l s is =
-    let P : Placement → Type 0 = PlacementCovers cells l s in
-    let Q : Array → Type 0 = λ b. Any P (each_place b) in
-    let more : Any P (every_place new) ↔ (Any P (every_place old) ⊎ Any P (each_place a)) =
-    subst (λ bs. Any P (every_place bs) ↔ (Any P (every_place old) ⊎ Any P (each_place a))) (sym is) (
-      λ c. elim ((Any-push Q old a).0 ((any_flat P each_place (old ++ a ∷ [])).0 c))
-          [ inl b ↦ inl ((any_flat P each_place old).1 b) | inr b ↦ inr b ],
-      λ e. (any_flat P each_place (old ++ a ∷ [])).1 ((Any-push Q old a).1
-          (elim e [ inl b ↦ inl ((any_flat P each_place old).0 b) | inr b ↦ inr b ])),
-    ) in (
-      λ c. elim ((any_either P ps (every_place new)).0 c) [
-        | inl b ↦ inl ((any_either P ps (every_place old)).1 (inl b))
-        | inr b ↦
-            elim (more.0 b) [ inl d ↦ inl ((any_either P ps (every_place old)).1 (inr d)) | inr d ↦ inr d ]
-      ],
-      λ e. (any_either P ps (every_place new)).1
-          (elim e [
-            | inl c ↦
-                elim ((any_either P ps (every_place old)).0 c) [ inl b ↦ inl b | inr b ↦ inr (more.1 (inl b)) ]
-            | inr c ↦ inr (more.1 (inr c))
-          ]),
-    )
-
 -- an array of a single place is added as a placement
 pub single_added : (cells : List (PlainCell Rings)) (ps : List Placement) (as' : List Array) (new : List Placement)
     (a : Array) (l : Layer) (s : Square) → a.shifts ≡ one_place
@@ -213,66 +221,4 @@ pub single_added : (cells : List (PlainCell Rings)) (ps : List Placement) (as' :
     → PlacedCover cells (new ++ every_place as') l s
     ↔ (PlacedCover cells (ps ++ every_place as') l s ⊎ PlacedCover cells (each_place a) l s)
 single_added cells ps as' new a l s one is =
-    let P : Placement → Type 0 = PlacementCovers cells l s in
-    let p : Placement = record { cell = a.cell; map = a.by } in
-    let last : Any P (each_place a) ↔ Any P (p ∷ []) =
-    (λ c. subst (λ qs. Any P qs) (single_place a one) c, λ c. subst (λ qs. Any P qs) (sym (single_place a one)) c) in
-    let more : Any P new ↔ (Any P ps ⊎ Any P (p ∷ [])) =
-    subst (λ qs. Any P qs ↔ (Any P ps ⊎ Any P (p ∷ []))) (sym is) (any_either P ps (p ∷ [])) in (
-      λ c. elim ((any_either P new (every_place as')).0 c) [
-        | inl b ↦
-            elim (more.0 b) [
-              | inl d ↦ inl ((any_either P ps (every_place as')).1 (inl d))
-              | inr d ↦ inr (last.1 d)
-            ]
-        | inr b ↦ inl ((any_either P ps (every_place as')).1 (inr b))
-      ],
-      λ e. (any_either P new (every_place as')).1
-          (elim e [
-            | inl c ↦
-                elim ((any_either P ps (every_place as')).0 c) [ inl b ↦ inl (more.1 (inl b)) | inr b ↦ inr b ]
-            | inr c ↦ inl (more.1 (inr (last.0 c)))
-          ]),
-    )
-
--- what is placed once goes into what is placed the second time
-goes : (cells : List (PlainCell Rings)) (p q : List Placement) (xs ys xs2 ys2 : List Array)
-    (ps qs ps2 qs2 : List Placement) (l : Layer) (s : Square) → ((a : Array) → Contains xs a ↔ Contains xs2 a)
-    → ((a : Array) → Contains ys a ↔ Contains ys2 a) → IsListed cells p ps xs2 ys2 l s
-    → IsListed cells q qs ys2 xs2 l s → HaveSame ps ps2 → HaveSame qs qs2
-    → (PlacedCover cells ps2 l s → PlacedCover cells qs2 l s) → PlacedCover cells (p ++ every_place xs) l s
-    → PlacedCover cells (q ++ every_place ys) l s
-goes cells p q xs ys xs2 ys2 ps qs ps2 qs2 l s same_xs same_ys one two same_ps same_qs to x =
-    let P : Placement → Type 0 = PlacementCovers cells l s in
-    let other : PlacedCover cells (every_place ys2) l s → PlacedCover cells (q ++ every_place ys) l s =
-    λ b. (any_either P q (every_place ys)).1 (inr (arrays_cover cells ys2 ys l s (λ a. (same_ys a).1) b)) in
-    let listed : PlacedCover cells ps l s → PlacedCover cells (q ++ every_place ys) l s =
-    λ b. elim (two.inside (same_cover cells qs2 qs (λ d. ((same_qs d).1, (same_qs d).0)) l s
-    (to (same_cover cells ps ps2 same_ps l s b)))) [
-      | inl d ↦ (any_either P q (every_place ys)).1 (inl d)
-      | inr d ↦ other d
-    ] in
-    elim ((any_either P p (every_place xs)).0 x) [
-      | inl b ↦ listed (one.grown b)
-      | inr b ↦
-          elim (one.held (arrays_cover cells xs xs2 l s (λ a. (same_xs a).0) b)) [ inl d ↦ listed d | inr d ↦ other d ]
-    ]
-
--- and the other way round
-pub goes_both : (cells : List (PlainCell Rings)) (p q : List Placement) (xs ys xs2 ys2 : List Array)
-    (ps qs ps2 qs2 : List Placement) (l : Layer) (s : Square) → ((a : Array) → Contains xs a ↔ Contains xs2 a)
-    → ((a : Array) → Contains ys a ↔ Contains ys2 a) → IsListed cells p ps xs2 ys2 l s
-    → IsListed cells q qs ys2 xs2 l s → HaveSame ps ps2 → HaveSame qs qs2
-    → (PlacedCover cells ps2 l s → PlacedCover cells qs2 l s)
-    → (PlacedCover cells qs2 l s → PlacedCover cells ps2 l s)
-    → PlacedCover cells (p ++ every_place xs) l s ↔ PlacedCover cells (q ++ every_place ys) l s
-goes_both cells p q xs ys xs2 ys2 ps qs ps2 qs2 l s same_xs same_ys one two same_ps same_qs to back = (
-  goes cells p q xs ys xs2 ys2 ps qs ps2 qs2 l s same_xs same_ys one two same_ps same_qs to,
-  goes cells q p ys xs ys2 xs2 qs ps qs2 ps2 l s same_ys same_xs two one same_qs same_ps back,
-)
-
--- nothing is added
-pub none_added : (cells : List (PlainCell Rings)) (ps : List Placement) (l : Layer) (s : Square)
-    → PlacedCover cells ps l s ↔ (PlacedCover cells ps l s ⊎ PlacedCover cells [] l s)
-none_added cells ps l s =
-    (λ a. inl a, λ e. elim e [ inl a ↦ a | inr a ↦ absurd (Any-nil (PlacementCovers cells l s) a) ])
+    places_added cells ps (each_place a) new as' l s (is ∙ ap (λ qs. ps ++ qs) (sym (single_place a one)))

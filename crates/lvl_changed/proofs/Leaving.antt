@@ -20,8 +20,9 @@ use Rattle.lvl_view.specs.Moved.{IsMoved}
 use Rattle.lvl_view.specs.Views.{target_of}
 use Rattle.lvl_changed.specs.declared.area.Area.{Area}
 use Rattle.lvl_changed.specs.inside.Figures.{AreAlike, AreLeft, HasAlike}
-use Rattle.lvl_changed.specs.inside.Shapes.{corners, HasMoved, ShapesCover}
+use Rattle.lvl_changed.specs.inside.Shapes.{corners, HasMoved, put_on, ShapesCover}
 use Rattle.lvl_changed.specs.inside.Areas.{AlikeOutside, Grows, IsIn}
+use Rattle.lvl_changed.proofs.Moving.{moved_more}
 use Rattle.lvl_changed.proofs.Unchanged.{moved_none}
 
 -- the shape with these rings covers the square
@@ -150,8 +151,8 @@ figures_more xs ys k here there before one s =
 -- no shapes are left of none
 pub left_none : (pairs others : List LayerPair) (ys : List (PlainShape Rings)) → AreLeft pairs [] others ys []
 left_none pairs others ys = record {
-  inside = λ l s c. c;
-  held = λ l s m. inl m;
+  inside = λ l s c. absurd (Any-nil (ShapeCovers SomeCovers l s) c);
+  held = λ l s m. absurd (Any-nil (ShapeCovers SomeCovers m.source s) m.covers);
 }
 
 -- one more shape that others have
@@ -159,7 +160,9 @@ pub left_among : (pairs others : List LayerPair) (xs ys left : List (PlainShape 
     → HasAlike pairs xs i others ys → AreLeft pairs (take i xs) others ys left
     → AreLeft pairs (take (i + 1) xs) others ys left
 left_among pairs others xs ys left i low has before = record {
-  inside = λ l s c. (shapes_more xs i l s low).1 (inl (before.inside l s c));
+  inside = λ l s c.
+      moved_more pairs (ShapesCover (take i xs)) (ShapesCover (take (i + 1) xs)) s s
+      (λ k d. (shapes_more xs i k s low).1 (inl d)) l (before.inside l s c);
   held = λ l s m. elim ((shapes_more xs i m.source s low).0 m.covers) [
     | inl c ↦ before.held l s (record { source = m.source; is_target = m.is_target; covers = c })
     | inr c ↦
@@ -168,65 +171,45 @@ left_among pairs others xs ys left i low has before = record {
   ];
 }
 
--- one more shape that is left
-pub left_more : (pairs others : List LayerPair) (xs ys old new : List (PlainShape Rings)) (i : ℕ) → i < length xs
+-- one more shape that is left, on the Layer to which its own is mapped
+pub left_more : (pairs others : List LayerPair) (xs ys old new : List (PlainShape Rings)) (i : ℕ) (on : Layer)
+    → i < length xs → on ≡ target_of pairs (shape_at xs i).layer
     → ((l : Layer) (s : Square) → ShapesCover new l s
-    ↔ (ShapesCover old l s ⊎ ShapeCovers SomeCovers l s (shape_at xs i)))
+    ↔ (ShapesCover old l s ⊎ ShapeCovers SomeCovers l s (put_on on (shape_at xs i))))
     → AreLeft pairs (take i xs) others ys old → AreLeft pairs (take (i + 1) xs) others ys new
-left_more pairs others xs ys old new i low adds before = record {
-  inside = λ l s c.
-      (shapes_more xs i l s low).1
-      (elim ((adds l s).0 c) [ inl b ↦ inl (before.inside l s b) | inr b ↦ inr b ]);
-  held = λ l s m. elim ((shapes_more xs i m.source s low).0 m.covers) [
-    | inl c ↦
-        elim (before.held l s (record { source = m.source; is_target = m.is_target; covers = c })) [
-          | inl n ↦
-              inl
-              (record { source = n.source; is_target = n.is_target; covers = (adds n.source s).1 (inl n.covers) })
-          | inr n ↦ inr n
-        ]
-    | inr c ↦
-        inl (record { source = m.source; is_target = m.is_target; covers = (adds m.source s).1 (inr c) })
-  ];
-}
+left_more pairs others xs ys old new i on low target adds before =
+    let h : PlainShape Rings = shape_at xs i in
+    record {
+      inside = λ l s c. elim ((adds l s).0 c) [
+        | inl b ↦
+            moved_more pairs (ShapesCover (take i xs)) (ShapesCover (take (i + 1) xs)) s s
+            (λ k d. (shapes_more xs i k s low).1 (inl d)) l (before.inside l s b)
+        | inr b ↦
+            record {
+              source = h.layer;
+              is_target = sym target ∙ b.0;
+              covers = (shapes_more xs i h.layer s low).1 (inr (refl, b.1));
+            }
+      ];
+      held = λ l s m. elim ((shapes_more xs i m.source s low).0 m.covers) [
+        | inl c ↦
+            elim (before.held l s (record { source = m.source; is_target = m.is_target; covers = c })) [
+              | inl n ↦ inl ((adds l s).1 (inl n))
+              | inr n ↦ inr n
+            ]
+        | inr c ↦ inl ((adds l s).1 (inr (target ∙ (ap (target_of pairs) c.0 ∙ m.is_target), c.1)))
+      ];
+    }
 
--- where what is left covers the same, the shapes do
-pub left_alike_at : (none pairs : List LayerPair) (xs ys left other : List (PlainShape Rings)) → none ≡ []
-    → AreLeft none xs pairs ys left → AreLeft pairs ys none xs other → (l : Layer) (s : Square)
-    → ShapesCover left l s ↔ IsMoved pairs (ShapesCover other) l s
-    → ShapesCover xs l s ↔ IsMoved pairs (ShapesCover ys) l s
-left_alike_at none pairs xs ys left other is first second l s same = (
-  λ c.
-      elim (first.held l s ((moved_none none is (ShapesCover xs) l s).1 c)) [
-        | inl m ↦
-            let n = same.0 ((moved_none none is (ShapesCover left) l s).0 m) in
-            record { source = n.source; is_target = n.is_target; covers = second.inside n.source s n.covers }
-        | inr m ↦ m
-      ],
-  λ m.
-      elim (second.held l s m) [
-        | inl n ↦ first.inside l s (same.1 n)
-        | inr n ↦ (moved_none none is (ShapesCover xs) l s).0 n
-      ],
-)
-
--- if what is left covers the same outside of an area, the shapes do
-pub left_alike : (none pairs : List LayerPair) (xs ys left other : List (PlainShape Rings)) (w : Area) → none ≡ []
-    → AreLeft none xs pairs ys left → AreLeft pairs ys none xs other
-    → AlikeOutside w (ShapesCover left) (IsMoved pairs (ShapesCover other))
-    → AlikeOutside w (ShapesCover xs) (IsMoved pairs (ShapesCover ys))
-left_alike none pairs xs ys left other w is first second same l s out =
-    left_alike_at none pairs xs ys left other is first second l s (same l s out)
-
--- if neither covers anything outside of an area
-pub none_alike : (none pairs : List LayerPair) (xs ys : List (PlainShape Rings)) (old w : Area) → none ≡ []
+-- if neither covers anything outside of an area, both cover the same there
+pub none_alike : (none : List LayerPair) (xs ys : List (PlainShape Rings)) (old w : Area) → none ≡ []
     → Grows old w → ((l : Layer) (s : Square) → (¬ IsIn old (target_of none l) s) → ¬ ShapesCover xs l s)
-    → ((l : Layer) (s : Square) → (¬ IsIn w (target_of pairs l) s) → ¬ ShapesCover ys l s)
-    → AlikeOutside w (ShapesCover xs) (IsMoved pairs (ShapesCover ys))
-none_alike none pairs xs ys old w is wide first second l s out =
+    → ((l : Layer) (s : Square) → (¬ IsIn w (target_of none l) s) → ¬ ShapesCover ys l s)
+    → AlikeOutside w (ShapesCover xs) (ShapesCover ys)
+none_alike none xs ys old w is wide first second l s out =
     let unmapped : target_of none l ≡ l = rw is refl in (
       λ c. absurd (first l s (λ h. out (wide.has l s (subst (λ k. IsIn old k s) unmapped h))) c),
-      λ m. absurd (second m.source s (λ h. out (subst (λ k. IsIn w k s) m.is_target h)) m.covers),
+      λ c. absurd (second l s (λ h. out (subst (λ k. IsIn w k s) unmapped h)) c),
     )
 
 -- a ring between two corners is in their window, and moved in the window moved by the shifts' reach

@@ -9,7 +9,7 @@ pub mod Grid
 pub mod Sums
 pub mod Joining
 pub mod Rebasing
-pub mod SeenThrough
+pub mod Rebased
 pub mod Arraying
 pub mod Same
 pub mod Walked
@@ -22,5 +22,11 @@ pub mod Unchanged
 pub mod Turned
 pub mod Leaving
 pub mod Resting
+pub mod Remaining
+pub mod Under
 pub mod Tops
 pub mod Rowing
+pub mod LeftPlaces
+pub mod Adding
+pub mod Yielded
+pub mod Missed

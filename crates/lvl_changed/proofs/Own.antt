@@ -31,11 +31,6 @@ shapes_alike a b mapped xs ys pairs w ours theirs map same l s out = (
       ((map l s).1 (moved_more pairs (ShapesCover ys) (FlatCovers b) s s (λ k y. (theirs k s).1 y) l m))),
 )
 
--- what holds of all values holds of the value of an option
-pub any_some : {X : Type 0} (P : X → Type 0) (o : Option X) → ((x : X) → P x) → IfSome o P
-any_some P None all = tt
-any_some P (Some x) all = all x
-
 -- what holds of each value of an option holds of its value
 pub some_then : {X : Type 0} (o : Option X) (P : X → Type 0) → ((x : X) → o ≡ Some x → P x) → IfSome o P
 some_then None P each = tt

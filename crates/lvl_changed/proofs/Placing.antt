@@ -1,6 +1,6 @@
 -- What references and placements cover, outside of areas.
-use Rattle.std.proofs.Common.{◌≡◌, ◌↔◌, ◌<◌, ◌+◌, ◌++◌, ◌∷◌, [], ℕ, List, Any, Contains, IsSomeAnd, Option, Some, None}
-use Rattle.std.proofs.Common.{◌⊎◌, map, take, length, get_or, slice_get, inl, inr, refl, sym, ap, ◌∙◌, subst}
+use Rattle.std.proofs.Common.{◌≡◌, ◌↔◌, ◌<◌, ◌+◌, ◌++◌, ◌∷◌, [], ℕ, List, Any, Contains, IsSomeAnd, Option, Some}
+use Rattle.std.proofs.Common.{◌⊎◌, map, take, length, get_or, slice_get, inl, inr, sym, ap, ◌∙◌, subst}
 use Rattle.std.proofs.Common.{false, pos}
 use Rattle.std.proofs.lemmas.List.{append-nil, take_more, get_or_default}
 use Rattle.std.proofs.lemmas.Option.{slice_get-get_or}
@@ -25,13 +25,13 @@ use Rattle.lvl_changed.specs.declared.arrays.Array.{Array}
 use Rattle.lvl_changed.specs.declared.found.Found.{Found}
 use Rattle.lvl_changed.specs.declared.placements.Placement.{Placement}
 use Rattle.lvl_changed.specs.declared.area.Area.{Area}
-use Rattle.lvl_changed.specs.inside.Arrays.{as_reference, each_place, AddsArray, AddsPartner, IsArrayOf}
+use Rattle.lvl_changed.specs.inside.Arrays.{as_reference, each_place, AddsArray, IsArrayOf}
 use Rattle.lvl_changed.specs.inside.Finding.{IsFound, PartnerCovers}
-use Rattle.lvl_changed.specs.inside.Placements.{placed, partner_placed, HaveSame, PlacedCover, PlacementCovers}
+use Rattle.lvl_changed.specs.inside.Placements.{placed, HaveSame, PlacedCover, PlacementCovers}
 use Rattle.lvl_changed.specs.inside.Placements.{ReferencesCover}
 use Rattle.lvl_view.specs.Views.{target_of}
-use Rattle.lvl_changed.specs.inside.Areas.{AlikeOutside, Grows, HasImages, IsIn}
-use Rattle.lvl_changed.proofs.Moving.{moved_more, moved_on}
+use Rattle.lvl_changed.specs.inside.Areas.{AlikeOutside, HasImages, IsIn}
+use Rattle.lvl_changed.proofs.Moving.{moved_more}
 
 at_some : {X : Type 0} (P : X → Type 0) (o : Option X) (x : X) → o ≡ Some x → IsSomeAnd o P ↔ P x
 at_some P o x e = (λ h. subst (λ q. IsSomeAnd q P) e h, λ p. subst (λ q. IsSomeAnd q P) (sym e) p)
@@ -93,16 +93,8 @@ placement_alike pairs ours theirs k n f m all partner found has l s out =
       ),
     )
 
--- without a partner it covers nothing there
-placement_none : (pairs : List LayerPair) (ours theirs : List (PlainCell Rings)) (k : ℕ) (f : Found) (m : Map)
-    (all : Area) → f.partner ≡ None → IsFound pairs ours theirs k f → HasImages m f.area all → (l : Layer)
-    (s : Square) → (¬ IsIn all l s) → PlacementCovers ours l s (record { cell = k; map = m }) → ⊥
-placement_none pairs ours theirs k f m all none found has l s out u =
-    subst (λ o. PartnerCovers pairs theirs o l u.0) none
-    ((found l u.0 (inner_out m f.area all l s u.0 has u.1 out)).0 u.2)
-
 -- partners cover the same outside of the area at all places of a reference
-places_alike : (pairs : List LayerPair) (ours theirs : List (PlainCell Rings)) (k n : ℕ) (f : Found)
+pub places_alike : (pairs : List LayerPair) (ours theirs : List (PlainCell Rings)) (k n : ℕ) (f : Found)
     (r : PlainReference) (all : Area) → f.partner ≡ Some n → IsFound pairs ours theirs k f
     → ((e : Point) → Contains r.shifts e → HasImages (map_at r e) f.area all)
     → AlikeOutside all (PlacedCover ours (placed k r)) (IsMoved pairs (PlacedCover theirs (placed n r)))
@@ -127,29 +119,6 @@ places_alike pairs ours theirs k n f r all partner found has l s out =
           ((each at.1 there).1
           (record { source = moved.source; is_target = moved.is_target; covers = at.4 }))),
     )
-
-places_none : (pairs : List LayerPair) (ours theirs : List (PlainCell Rings)) (k : ℕ) (f : Found)
-    (r : PlainReference) (all : Area) → f.partner ≡ None → IsFound pairs ours theirs k f
-    → ((e : Point) → Contains r.shifts e → HasImages (map_at r e) f.area all)
-    → AlikeOutside all (PlacedCover ours (placed k r)) (IsMoved pairs (PlacedCover theirs []))
-places_none pairs ours theirs k f r all none found has l s out =
-    let mine : Point → Placement = λ e. record { cell = k; map = map_at r e } in (
-      λ a.
-          let at = (Any-map (PlacementCovers ours l s) mine r.shifts).0 a in
-          absurd (placement_none pairs ours theirs k f (map_at r at.1) all none found
-          (has at.1 (at.0, at.2, at.3)) l s out at.4),
-      λ moved. absurd (Any-nil (PlacementCovers theirs moved.source s) moved.covers),
-    )
-
--- whether there is a partner or not
-pub partner_alike : (pairs : List LayerPair) (ours theirs : List (PlainCell Rings)) (k : ℕ) (f : Found)
-    (r : PlainReference) (all : Area) (o : Option ℕ) → f.partner ≡ o → IsFound pairs ours theirs k f
-    → ((e : Point) → Contains r.shifts e → HasImages (map_at r e) f.area all)
-    → AlikeOutside all (PlacedCover ours (placed k r)) (IsMoved pairs (PlacedCover theirs (partner_placed o r)))
-partner_alike pairs ours theirs k f r all None is found has =
-    places_none pairs ours theirs k f r all is found has
-partner_alike pairs ours theirs k f r all (Some n) is found has =
-    places_alike pairs ours theirs k n f r all is found has
 
 picks_more : (rs : List PlainReference) (j : ℕ) (r : PlainReference) → j < length rs → r ≡ get_or rs j r
     → picks (take (j + 1) rs) ≡ picks (take j rs) ++ map (λ e. (r, e)) r.shifts
@@ -194,34 +163,6 @@ reference_of cells i j c has at =
     let one : has.0 ≡ c = cc in
     subst (λ (d : PlainCell Rings). j < length d.references) one has.2
 
--- with one more reference
-pub partners_more : (pairs : List LayerPair) (ours theirs : List (PlainCell Rings)) (i j : ℕ) (c : PlainCell Rings)
-    (ps new : List Placement) (a : Array) (f : Found) (all : Area) → slice_get ours i ≡ Some c
-    → j < length c.references → IsArrayOf ours i j a → IsFound pairs ours theirs a.cell f
-    → ((e : Point) → Contains a.shifts e → HasImages (map_at (as_reference a) e) f.area all)
-    → AddsPartner ps new f.partner a
-    → AlikeOutside all (ReferencesCover ours (take j c.references)) (IsMoved pairs (PlacedCover theirs ps))
-    → AlikeOutside all (ReferencesCover ours (take (j + 1) c.references)) (IsMoved pairs (PlacedCover theirs new))
-partners_more pairs ours theirs i j c ps new a f all at low is found has adds before l s out =
-    let qs : List Placement = partner_placed f.partner (as_reference a) in
-    let whole : Draws = PlacedCover theirs new in
-    let mine = references_more ours i j c a at low is l s in
-    let earlier = before l s out in
-    let last = partner_alike pairs ours theirs a.cell f (as_reference a) all f.partner refl found has l s out in (
-      λ x. elim (mine.0 x) [
-        | inl y ↦
-            moved_more pairs (PlacedCover theirs ps) whole s s (λ k b. (adds theirs k s).1 (inl b)) l (earlier.0 y)
-        | inr y ↦
-            moved_more pairs (PlacedCover theirs qs) whole s s (λ k b. (adds theirs k s).1 (inr b)) l (last.0 y)
-      ],
-      λ m. elim ((adds theirs m.source s).0 m.covers) [
-        | inl b ↦
-            mine.1 (inl (earlier.1 (record { source = m.source; is_target = m.is_target; covers = b })))
-        | inr b ↦
-            mine.1 (inr (last.1 (record { source = m.source; is_target = m.is_target; covers = b })))
-      ],
-    )
-
 -- what is placed has another array's places and the partner of its cell
 pub same_more : (pairs : List LayerPair) (ours theirs : List (PlainCell Rings)) (i k j : ℕ) (c d : PlainCell Rings)
     (a b : Array) (f : Found) (all : Area) → slice_get ours i ≡ Some c → j < length c.references
@@ -242,7 +183,7 @@ same_more pairs ours theirs i k j c d a b f all at low there other_low is other_
     let last : PlacedCover ours (each_place a) l s ↔ IsMoved pairs (PlacedCover theirs (each_place b)) l s =
     subst
     (λ (r : PlainReference). PlacedCover ours (each_place a) l s ↔ IsMoved pairs (PlacedCover theirs (placed b.cell r)) l s)
-    (sym places) (partner_alike pairs ours theirs a.cell f (as_reference a) all (Some b.cell) partner found has l s out)
+    (sym places) (places_alike pairs ours theirs a.cell b.cell f (as_reference a) all partner found has l s out)
     in (
       λ x. elim (mine.0 x) [
         | inl y ↦
@@ -263,14 +204,6 @@ pub same_none : (pairs : List LayerPair) (ours theirs : List (PlainCell Rings)) 
 same_none pairs ours theirs all l s out = (
   λ a. absurd (Any-nil (PickCovers ours l s) a),
   λ m. absurd (Any-nil (PickCovers theirs m.source s) m.covers),
-)
-
--- without references
-pub partners_none : (pairs : List LayerPair) (ours theirs : List (PlainCell Rings)) (all : Area)
-    → AlikeOutside all (ReferencesCover ours []) (IsMoved pairs (PlacedCover theirs []))
-partners_none pairs ours theirs all l s out = (
-  λ a. absurd (Any-nil (PickCovers ours l s) a),
-  λ m. absurd (Any-nil (PlacementCovers theirs m.source s) m.covers),
 )
 
 -- what a cell's references place, with one more reference
@@ -302,26 +235,6 @@ pub placement_held : (pairs : List LayerPair) (cells : List (PlainCell Rings)) (
     → (l : Layer) (s : Square) → PlacementCovers cells l s p → IsIn w (target_of pairs l) s
 placement_held pairs cells w p held l s covers =
     subst (λ q. IsIn w (target_of pairs l) q) covers.1 (held l covers.0 covers.2)
-
--- cells whose placements cover the same outside of an area have references that do
-pub refer_alike : (pairs : List LayerPair) (ours theirs : List (PlainCell Rings)) (xs ys : List PlainReference)
-    (ps qs : List Placement) (old new : Area)
-    → AlikeOutside old (ReferencesCover ours xs) (IsMoved pairs (PlacedCover theirs ps))
-    → ((l : Layer) (s : Square) → PlacedCover theirs qs l s ↔ ReferencesCover theirs ys l s) → Grows old new
-    → ((l : Layer) (s : Square) → (¬ IsIn new (target_of pairs l) s)
-    → PlacedCover theirs ps l s ↔ PlacedCover theirs qs l s)
-    → AlikeOutside new (ReferencesCover ours xs) (IsMoved pairs (ReferencesCover theirs ys))
-refer_alike pairs ours theirs xs ys ps qs old new mine other wide same l s out =
-    let both = mine l s (λ h. out (wide.has l s h)) in
-    let outside : (k : Layer) → target_of pairs k ≡ l → ¬ IsIn new (target_of pairs k) s =
-    λ k is h. out (subst (λ j. IsIn new j s) is h) in
-    let here : Draws = PlacedCover theirs ps in
-    let there : Draws = ReferencesCover theirs ys in (
-      λ x. moved_on pairs here there s s l
-          (λ k is a. (other k s).0 ((same k s (outside k is)).0 a)) (both.0 x),
-      λ m. both.1 (moved_on pairs there here s s l
-          (λ k is a. (same k s (outside k is)).1 ((other k s).1 a)) m),
-    )
 
 -- the reference to a cell covers what the array of that cell does
 pub array_of_reference : (cells : List (PlainCell Rings)) (i j k : ℕ) (q : PlainReference) (a : Array)

@@ -62,27 +62,31 @@ pub tops_where : (none pairs : List LayerPair) (first second x y : Settled) (c d
     → AreLeft none c.shapes pairs d.shapes u → AreLeft pairs d.shapes none c.shapes v
     → ((l : Layer) (s : Square) → TopCovers x l s ↔ ShapesCover u l s)
     → ((l : Layer) (s : Square) → TopCovers y l s ↔ ShapesCover v l s)
-    → AreSameWhere (TopCovers first) (IsMoved pairs (TopCovers second)) (TopCovers x) (IsMoved pairs (TopCovers y))
+    → AreSameWhere (TopCovers first) (IsMoved pairs (TopCovers second)) (TopCovers x) (TopCovers y)
 tops_where none pairs first second x y c d u v is here there ours theirs mine their x_is y_is l s same =
     let top = flat_covers first c here ours l s in
     let other = flat_covers second d there theirs in
+    let own = moved_none none is (ShapesCover c.shapes) l s in
     let to_second : IsMoved pairs (ShapesCover d.shapes) l s → IsMoved pairs (TopCovers second) l s =
-    moved_more pairs (ShapesCover d.shapes) (TopCovers second) s s (λ k. (other k s).1) l in (
-      λ h. elim (mine.held l s ((moved_none none is (ShapesCover c.shapes) l s).1 (top.0 h))) [
-        | inl m ↦
-            to_second
-            (moved_more pairs (TopCovers y) (ShapesCover d.shapes) s s (λ k q. their.inside k s ((y_is k s).0 q)) l
-            (same.0 ((x_is l s).1 ((moved_none none is (ShapesCover u) l s).0 m))))
-        | inr m ↦ to_second m
-      ],
-      λ m. top.1 (elim (their.held l s
-          (moved_more pairs (TopCovers second) (ShapesCover d.shapes) s s (λ k. (other k s).0) l m)) [
-            | inl n ↦
-                mine.inside l s
-                ((x_is l s).0 (same.1 (moved_more pairs (ShapesCover v) (TopCovers y) s s (λ k. (y_is k s).1) l n)))
-            | inr n ↦ (moved_none none is (ShapesCover c.shapes) l s).0 n
-          ]),
+    moved_more pairs (ShapesCover d.shapes) (TopCovers second) s s (λ k. (other k s).1) l in
+    let to_shapes : IsMoved pairs (TopCovers second) l s → IsMoved pairs (ShapesCover d.shapes) l s =
+    moved_more pairs (TopCovers second) (ShapesCover d.shapes) s s (λ k. (other k s).0) l in (
+      λ h. to_second (elim (mine.held l s (own.1 (top.0 h))) [
+        | inl m ↦ their.inside l s ((y_is l s).0 (same.0 ((x_is l s).1 m)))
+        | inr m ↦ m
+      ]),
+      λ m. top.1 (own.0 (elim (their.held l s (to_shapes m)) [
+        | inl n ↦ mine.inside l s ((x_is l s).0 (same.1 ((y_is l s).1 n)))
+        | inr n ↦ n
+      ])),
     )
+
+-- and so under a view that maps no Layer
+pub where_unmapped : (none : List LayerPair) (a b x y : Draws) → none ≡ [] → AreSameWhere a b x y
+    → AreSameWhere a b x (IsMoved none y)
+where_unmapped none a b x y is whole l s same =
+    let unmapped = moved_none none is y l s in
+    whole l s (λ h. unmapped.0 (same.0 h), λ h. same.1 (unmapped.1 h))
 
 -- what holds of some values holds of the same ones
 pub seen_alike : {X Y : Type 0} {x u : X} {y v : Y} (P : X → Y → Type 0) → x ≡ u → y ≡ v → P x y → P u v
@@ -112,20 +116,14 @@ differ_where Seen a b x y l s left side same first alone = record {
 }
 
 -- the changes that an area becomes have all that a top without references draws, if the area has
-pub changes_have : (pairs : List LayerPair) (x : Settled) (c : PlainCell Rings) (area : Area) (found : Option Changes)
-    → slice_get x.cells x.top ≡ Some c → c.references ≡ []
-    → ((l : Layer) (s : Square) → (¬ IsIn area (target_of pairs l) s) → ¬ ShapesCover c.shapes l s)
+pub changes_have : (none : List LayerPair) (x : Settled) (c : PlainCell Rings) (area : Area) (found : Option Changes)
+    → none ≡ [] → slice_get x.cells x.top ≡ Some c → c.references ≡ []
+    → ((l : Layer) (s : Square) → (¬ IsIn area (target_of none l) s) → ¬ ShapesCover c.shapes l s)
     → IfSome found (λ changes. (l : Layer) (s : Square) → IsIn area l s → IsChange changes l s)
-    → IfSome found (λ changes. (l : Layer) (s : Square) → (¬ IsChange changes l s) → ¬ IsMoved pairs (TopCovers x) l s)
-changes_have pairs x c area found at none held has =
-    IfSome_then found has
-    (λ changes in_changes l s out m.
-    held m.source s (λ inside. out (in_changes l s (subst (λ (k : Layer). IsIn area k s) m.is_target inside)))
-    ((flat_covers x c at none m.source s).0 m.covers))
-
--- and so if no Layer is mapped
-pub changes_have_own : (pairs : List LayerPair) (x : Settled) (found : Option Changes) → pairs ≡ []
-    → IfSome found (λ changes. (l : Layer) (s : Square) → (¬ IsChange changes l s) → ¬ IsMoved pairs (TopCovers x) l s)
     → IfSome found (λ changes. (l : Layer) (s : Square) → (¬ IsChange changes l s) → ¬ TopCovers x l s)
-changes_have_own pairs x found is has =
-    IfSome_then found has (λ changes none l s out h. none l s out ((moved_none pairs is (TopCovers x) l s).1 h))
+changes_have none x c area found is at alone held has =
+    IfSome_then found has
+    (λ changes in_changes l s out h.
+    let unmapped : target_of none l ≡ l = rw is refl in
+    held l s (λ inside. out (in_changes l s (subst (λ (k : Layer). IsIn area k s) unmapped inside)))
+    ((flat_covers x c at alone l s).0 h))

@@ -1,9 +1,8 @@
 -- What rows of arrays cover.
-use Rattle.std.proofs.Common.{◌≡◌, ◌↔◌, ◌⊎◌, ◌<◌, ◌+◌, ◌++◌, ◌∷◌, [], ℕ, List, Any, Contains, take, length, get_or, pos}
+use Rattle.std.proofs.Common.{◌≡◌, ◌↔◌, ◌<◌, ◌+◌, ◌++◌, ◌∷◌, [], ℕ, List, Any, Contains, take, length, get_or, pos}
 use Rattle.std.proofs.Common.{inl, inr, refl, sym, ap, ◌∙◌, subst, arith}
 use Rattle.std.proofs.lemmas.Bool.{cases_lt}
 use Rattle.std.proofs.lemmas.Int.{ints}
-use Rattle.std.proofs.lemmas.List.Concat.{flat_map-append}
 use Rattle.lvl_grid.specs.declared.point.Point.{Point}
 use Rattle.lvl_grid.specs.declared.point.Square.{Square}
 use Rattle.lvl_grid.specs.declared.map.Map.{Map}
@@ -20,7 +19,7 @@ use Rattle.lvl_changed.specs.inside.Arrays.{all_places, as_reference, each_place
 use Rattle.lvl_changed.specs.inside.Placements.{PlacedCover, PlacementCovers}
 use Rattle.lvl_changed.specs.inside.Rows.{AddsRows, AreRowsOf, AreSplit, RowsCover, row_at, scaled}
 use Rattle.lvl_changed.specs.declared.placed.Placed.{Placed}
-use Rattle.lvl_changed.proofs.Arraying.{any_either, array_added, array_held, arrays_cover, arrays_more}
+use Rattle.lvl_changed.proofs.Arraying.{any_either, array_added, array_held, arrays_added, arrays_cover, arrays_more}
 use Rattle.lvl_changed.proofs.Grid.{lattice_has, zero_times}
 use Rattle.lvl_changed.proofs.Sums.{zero_point}
 
@@ -117,14 +116,9 @@ pub rows_added : (old more new : List Array) (a : Array) → new ≡ old ++ more
     → PlacedCover cells (every_place more) l s ↔ PlacedCover cells (each_place a) l s)
     → AddsRows old new a
 rows_added old more new a is both cells l s =
-    let P : Placement → Type 0 = PlacementCovers cells l s in
-    let whole : every_place new ≡ every_place old ++ every_place more =
-    ap every_place is ∙ flat_map-append each_place old more in
-    subst (λ ps. Any P ps ↔ (Any P (every_place old) ⊎ Any P (each_place a))) (sym whole) (
-      λ x. elim ((any_either P (every_place old) (every_place more)).0 x)
-          [ inl y ↦ inl y | inr y ↦ inr ((both cells l s).0 y) ],
-      λ e. (any_either P (every_place old) (every_place more)).1
-          (elim e [ inl y ↦ inl y | inr y ↦ inr ((both cells l s).1 y) ]),
+    let adds = arrays_added cells [] old more new l s is in (
+      λ x. elim (adds.0 x) [ inl y ↦ inl y | inr y ↦ inr ((both cells l s).0 y) ],
+      λ e. adds.1 (elim e [ inl y ↦ inl y | inr y ↦ inr ((both cells l s).1 y) ]),
     )
 
 -- no arrays are split
@@ -158,36 +152,6 @@ split_among as' others old i a low is has before = record {
   ];
   inside = λ cells l s x. (arrays_more cells as' i a l s low is).1 (inl (before.inside cells l s x));
 }
-
-split_goes : (cells : List (PlainCell Rings)) (p q : List Placement) (xs ys us vs : List Array) (l : Layer) (s : Square)
-    → AreSplit xs ys us → AreSplit ys xs vs
-    → (PlacedCover cells (p ++ every_place us) l s → PlacedCover cells (q ++ every_place vs) l s)
-    → PlacedCover cells (p ++ every_place xs) l s → PlacedCover cells (q ++ every_place ys) l s
-split_goes cells p q xs ys us vs l s one two to x =
-    let P : Placement → Type 0 = PlacementCovers cells l s in
-    let back : PlacedCover cells (q ++ every_place vs) l s → PlacedCover cells (q ++ every_place ys) l s =
-    λ y. elim ((any_either P q (every_place vs)).0 y) [
-      | inl b ↦ (any_either P q (every_place ys)).1 (inl b)
-      | inr b ↦ (any_either P q (every_place ys)).1 (inr (two.inside cells l s b))
-    ] in
-    elim ((any_either P p (every_place xs)).0 x) [
-      | inl b ↦ back (to ((any_either P p (every_place us)).1 (inl b)))
-      | inr b ↦
-          elim (one.held cells l s b) [
-            | inl c ↦ back (to ((any_either P p (every_place us)).1 (inr c)))
-            | inr c ↦ (any_either P q (every_place ys)).1 (inr c)
-          ]
-    ]
-
--- arrays cover the same if they do so when they are split
-pub split_both : (cells : List (PlainCell Rings)) (p q : List Placement) (xs ys us vs : List Array) (l : Layer)
-    (s : Square) → AreSplit xs ys us → AreSplit ys xs vs
-    → PlacedCover cells (p ++ every_place us) l s ↔ PlacedCover cells (q ++ every_place vs) l s
-    → PlacedCover cells (p ++ every_place xs) l s ↔ PlacedCover cells (q ++ every_place ys) l s
-split_both cells p q xs ys us vs l s one two both = (
-  split_goes cells p q xs ys us vs l s one two both.0,
-  split_goes cells q p ys xs vs us l s two one both.1,
-)
 
 -- what is placed covers the same with its arrays in another order
 pub ordered_cover : (cells : List (PlainCell Rings)) (x y : Placed) (l : Layer) (s : Square)

@@ -12,3 +12,5 @@ pub mod Drawing
 pub mod Rows
 pub mod InStep
 pub mod Rests
+pub mod Opening
+pub mod Remains

@@ -3,7 +3,7 @@ ghost use Rattle.std.specs.Prelude.{◌≡◌, ◌<◌, ◌↔◌, length, Conta
 ghost use Rattle.lvl_cells.specs.Checks.{HasReference};
 ghost use Rattle.lvl_flat.specs.Placing.{IsPlacing};
 ghost use Rattle.lvl_changed.specs.declared.arrays.Array.{Array as PlainArray};
-ghost use Rattle.lvl_changed.specs.inside.Arrays.{as_reference, CoversSame, IsArrayOf, IsRebased, IsThrough, IsWrapper};
+ghost use Rattle.lvl_changed.specs.inside.Arrays.{as_reference, IsArrayOf, IsRebased, IsThrough};
 
 use crate::lattices::{rebased, sums};
 use crate::shifts::{are_same, moved};
@@ -12,18 +12,6 @@ use lvl_cells::{Checked, KeptReference};
 use lvl_grid::Map;
 use lvl_names::Offsets;
 use std::alloc::AllocError;
-
-/// The greatest number of wrappers within one another that are seen through.
-const MOST_WRAPPERS: u64 = 64;
-
-/// How a reference to a cell that has no shapes and one reference, as a row of cells, is taken.
-#[derive(Clone, Copy, PartialEq, Eq)]
-pub(crate) enum Form {
-    /// As it is written.
-    Written,
-    /// As a reference to the cell within.
-    SeenThrough,
-}
 
 /// A cell, by its index, and a map that places it, moved by each of the shifts.
 #[derive(Drop)]
@@ -50,8 +38,8 @@ fn placing(reference: &KeptReference<'_>, cell: usize) -> Result<Array, AllocErr
     Ok(Array { cell, by, shifts })
 }
 
-/// What reference `j` of a cell places, without looking into the cell that it places.
-fn reference_at(checked: &Checked, cell: usize, j: usize) -> Result<Array, AllocError>
+/// What reference `j` of a cell places, as it is written.
+pub(crate) fn reference_at(checked: &Checked, cell: usize, j: usize) -> Result<Array, AllocError>
     requires cell { cell < length checked.now.cells }
     requires reference { HasReference checked.now.cells cell j }
     ensures { IfOk result (IsArrayOf checked.now.cells cell j) }
@@ -61,21 +49,8 @@ fn reference_at(checked: &Checked, cell: usize, j: usize) -> Result<Array, Alloc
     placing(&parent.references.reference(j), target)
 }
 
-/// Whether a cell has no shapes and one reference.
-fn is_wrapper(checked: &Checked, cell: usize) -> bool
-    ensures { IsTrue result → IsWrapper checked.now.cells cell }
-{
-    let Some(found) = checked.cells().get(cell) else {
-        return false;
-    };
-    if !found.shapes.is_empty() {
-        return false;
-    }
-    found.references.len() == 1
-}
-
-/// What the array of a wrapper places through it, or None if it can't be kept as one array.
-fn inner_of(array: &Array, inner: &Array) -> Result<Option<Array>, AllocError>
+/// What an array places by an array of its cell, or None if that can't be kept as one array.
+pub(crate) fn inner_of(array: &Array, inner: &Array) -> Result<Option<Array>, AllocError>
     ensures { IfOk result (λ found. IfSome found (IsThrough array.now inner.now)) }
 {
     let Some(by) = array.by.then(&inner.by) else {
@@ -89,20 +64,8 @@ fn inner_of(array: &Array, inner: &Array) -> Result<Option<Array>, AllocError>
     Ok(Some(Array { cell, by, shifts }))
 }
 
-/// What an array places through its cell, if that is a wrapper, or None if it isn't, or if this
-/// can't be kept as one array.
-fn through(checked: &Checked, array: &Array) -> Result<Option<Array>, AllocError>
-    ensures { IfOk result (λ found. IfSome found (CoversSame checked.now.cells array.now)) }
-{
-    if !is_wrapper(checked, array.cell) {
-        return Ok(None);
-    }
-    let inner = reference_at(checked, array.cell, 0)?;
-    inner_of(array, &inner)
-}
-
 /// The array from its least place on, with the steps of its lattice in their order.
-fn in_order(array: Array) -> Array
+pub(crate) fn in_order(array: Array) -> Array
     ensures { IsRebased array result }
 {
     if array.shifts.is_single() {
@@ -120,49 +83,26 @@ fn in_order(array: Array) -> Array
     Array { cell, by, shifts }
 }
 
-/// What reference `j` of a cell places. If it is seen through, what a cell that has no shapes and one reference places
-/// is taken as placed by the reference, where that can be kept as one array. A lattice begins at its least place, and its
-/// steps are in an order of their own.
-pub(crate) fn array_of(
-    checked: &Checked,
-    cell: usize,
-    j: usize,
-    form: Form,
-) -> Result<Array, AllocError>
+/// What reference `j` of a cell places. A lattice begins at its least place, and its steps are in an order of their
+/// own.
+pub(crate) fn array_of(checked: &Checked, cell: usize, j: usize) -> Result<Array, AllocError>
     requires cell { cell < length checked.now.cells }
     requires reference { HasReference checked.now.cells cell j }
     ensures { IfOk result (IsArrayOf checked.now.cells cell j) }
 {
-    let most = match form {
-        Form::Written => 0,
-        Form::SeenThrough => MOST_WRAPPERS,
-    };
-    let mut array = reference_at(checked, cell, j)?;
-    for _ in 0..most {
-        match through(checked, &array)? {
-            Some(inner) => array = inner,
-            None => return Ok(in_order(array)),
-        }
-    }
-    Ok(in_order(array))
-}
-
-/// Whether a cell places one that has no shapes and one reference.
-pub(crate) fn places_wrappers(checked: &Checked, cell: usize) -> bool {
-    let Some(parent) = checked.cells().get(cell) else {
-        return false;
-    };
-    for j in 0..parent.references.len() {
-        if let Some(target) = checked.target(cell, j) {
-            if is_wrapper(checked, target) {
-                return true;
-            }
-        }
-    }
-    false
+    Ok(in_order(reference_at(checked, cell, j)?))
 }
 
 impl Array {
+    /// A copy.
+    pub(crate) fn copied(&self) -> Result<Array, AllocError>
+        ensures { IfOk result (λ copy. copy ≡ self.now) }
+    {
+        let Array { cell, by, .. } = *self;
+        let shifts = self.shifts.clone()?;
+        Ok(Array { cell, by, shifts })
+    }
+
     /// The map by which the cell is placed at the shift of this index, or None if there is none, or
     /// if its place is outside 64 signed bits.
     pub(crate) fn place(&self, k: u64) -> Option<Map>

@@ -1,5 +1,5 @@
 //! Comparison of two libraries cell by cell, without flattening them.
-ghost use Rattle.std.specs.Prelude.{◌≡◌, ◌<◌, length, List, map, None, Some, IfOk, IfSome, slice_set, vec_len};
+ghost use Rattle.std.specs.Prelude.{◌≡◌, ◌<◌, length, List, map, None, Some, IfOk, IfSome, slice_get, slice_set, vec_len};
 ghost use Rattle.std.specs.List.{range_with_len};
 ghost use Rattle.lvl_grid.specs.declared.point.Square.{Square};
 ghost use Rattle.lvl_names.specs.declared.layer.Layer.{Layer};
@@ -12,15 +12,23 @@ ghost use Rattle.lvl_changed.specs.inside.Areas.{AlikeOutside, IsIn};
 ghost use Rattle.lvl_changed.specs.inside.Drawing.{AreDrawnOn};
 ghost use Rattle.lvl_changed.specs.inside.Finding.{AreFound};
 ghost use Rattle.lvl_changed.specs.inside.Pairs.{AreFoundIn, IsFoundIn, first_covers, second_covers};
+ghost use Rattle.lvl_changed.specs.inside.Placements.{ReferencesCover};
+ghost use Rattle.lvl_changed.specs.inside.Remains.{AreSameIf, OursDraw, PartnersDraw, PlacedDraws, RemainOutside};
+ghost use Rattle.lvl_changed.specs.inside.Remains.{TheirsDraw};
 
 use crate::area::Area;
 use crate::changes::Changes;
 use crate::drawing::drawn_by_cells;
+use crate::figures::Seen;
 use crate::found::Found;
+use crate::holding::hold_rests;
+use crate::in_step::hold_same;
 use crate::layers::Layers;
+use crate::left::left_of_shapes;
 use crate::partners::{partner_in, partners_of};
-use crate::references::references_apart;
-use crate::shapes::hold_shapes;
+use crate::placed::{Placed, placed_of};
+use crate::references::{Partners, partners_placed};
+use crate::remains::{Remains, Rests, settled as settled_rests};
 use crate::whole::{Budget, is_same_pair, settled};
 use crate::windows::MOST_WINDOWS;
 use lvl_compare::Pair;
@@ -50,27 +58,92 @@ fn none_known(alloc: Global, count: usize) -> Result<Vec<Option<Found>>, AllocEr
     (0..count).map(|_| None).collect(alloc)
 }
 
+/// What the references of two cells place that has to be compared: nothing if they place the same, one after the other.
+fn referred(
+    area: &mut Area,
+    alloc: Global,
+    pair: &Pair<'_>,
+    ours: usize,
+    theirs: usize,
+    known: &[Option<Found>],
+) -> Result<(Partners, Placed), AllocError>
+    requires ours { ours < length pair.now.first.now.cells }
+    requires theirs { theirs < length pair.now.second.now.cells }
+    ensures { IfOk result (λ placed. AreFoundIn pair.now known.now → (c d : PlainCell Rings)
+        → slice_get pair.now.first.now.cells ours ≡ Some c → slice_get pair.now.second.now.cells theirs ≡ Some d
+        → RemainOutside area.new (ReferencesCover pair.now.first.now.cells c.references)
+        (IsMoved pair.now.view.now.pairs (ReferencesCover pair.now.second.now.cells d.references))
+        (PartnersDraw pair.now placed.0) (PlacedDraws pair.now placed.1)) }
+{
+    if hold_same(area, pair, ours, theirs, known)? {
+        return Ok((Partners::none(alloc), Placed::none(alloc)));
+    }
+    let partners = partners_placed(area, alloc, pair.first.checked(), ours, known)?;
+    let placed = placed_of(alloc, pair.second.checked(), theirs)?;
+    Ok((partners, placed))
+}
+
+/// What remains of cell `ours` of the first library and of cell `theirs` of the second where both have the same.
+fn rests_of(
+    area: &mut Area,
+    alloc: Global,
+    pair: &Pair<'_>,
+    ours: usize,
+    theirs: usize,
+    known: &[Option<Found>],
+) -> Result<Rests, AllocError>
+    requires ours { ours < length pair.now.first.now.cells }
+    requires theirs { theirs < length pair.now.second.now.cells }
+    ensures { IfOk result (λ rests. AreFoundIn pair.now known.now → AreSameIf area.new (first_covers pair.now ours)
+        (second_covers pair.now theirs) (OursDraw pair.now rests) (TheirsDraw pair.now rests)) }
+{
+    let whole = View::whole(alloc);
+    let our_shapes = Seen {
+        shapes: &pair.first.checked().cell(ours).shapes,
+        view: &whole,
+    };
+    let their_shapes = Seen {
+        shapes: &pair.second.checked().cell(theirs).shapes,
+        view: pair.view,
+    };
+    let (shapes, their_shapes) = left_of_shapes(alloc, our_shapes, their_shapes)?;
+    let (partners, their_placed) = referred(area, alloc, pair, ours, theirs, known)?;
+    let Partners { placed, alone } = partners;
+    let ours = Remains { shapes, placed };
+    let theirs = Remains {
+        shapes: their_shapes,
+        placed: their_placed,
+    };
+    Ok(Rests {
+        ours,
+        alone,
+        theirs,
+    })
+}
+
 /// An area outside of which cell `ours` of the first library covers what cell `theirs` of the
 /// second does.
 fn changes_of(
     alloc: Global,
     pair: &Pair<'_>,
     ours: usize,
-    drawn: &[Option<Layers>],
+    our_drawn: &[Option<Layers>],
     theirs: usize,
+    their_drawn: &[Option<Layers>],
     known: &[Option<Found>],
     most: usize,
 ) -> Result<Area, AllocError>
     requires ours { ours < length pair.now.first.now.cells }
-    requires drawn { AreDrawnOn pair.now.second.now.cells drawn.now }
+    requires our_drawn { AreDrawnOn pair.now.first.now.cells our_drawn.now }
     requires theirs { theirs < length pair.now.second.now.cells }
+    requires their_drawn { AreDrawnOn pair.now.second.now.cells their_drawn.now }
     ensures { IfOk result (λ area. AreFoundIn pair.now known.now
         → AlikeOutside area (first_covers pair.now ours) (second_covers pair.now theirs)) }
 {
-    let mut area = references_apart(alloc, pair, ours, drawn, theirs, known, most)?;
-    let our_cell = pair.first.checked().cell(ours);
-    let their_cell = pair.second.checked().cell(theirs);
-    hold_shapes(&mut area, alloc, our_cell, their_cell, pair.view)?;
+    let mut area = Area::none(alloc, most);
+    let rests = rests_of(&mut area, alloc, pair, ours, theirs, known)?;
+    let rests = settled_rests(&mut area, alloc, pair, known, rests)?;
+    hold_rests(&mut area, alloc, pair, our_drawn, their_drawn, rests)?;
     Ok(area)
 }
 
@@ -116,7 +189,16 @@ fn found_of(
             area,
         });
     };
-    let area = changes_of(alloc, pair, cell, their_drawn, theirs, known, most)?;
+    let area = changes_of(
+        alloc,
+        pair,
+        cell,
+        our_drawn,
+        theirs,
+        their_drawn,
+        known,
+        most,
+    )?;
     Ok(Found {
         partner: Some(theirs),
         area,
@@ -157,11 +239,12 @@ fn changes_in(mut known: Vec<Option<Found>>, cell: usize, partner: usize) -> Opt
 ///
 /// The tops are compared with each other, and any other cell with one that it is likely to be the
 /// same as: one of its name that looks like it, one that is placed where it is, or else the one of
-/// its name. Own shapes are compared with own shapes, and references with references. What is the
-/// same on both sides cancels; only the rest is flattened, or written out place by place, or becomes
-/// windows if it is large, on the Layers on which it draws. What is found for a cell is added to what
-/// is found for the cells that place it, at each place. A cell that isn't placed is no partner, since
-/// nothing limits how much it draws.
+/// its name. What both have is left out: own shapes, and references as they are written, as rows, and
+/// place by place. Then references that remain of one of both are opened, so that what their cells
+/// draw is compared with what remains of the other, as long as that gives at most twice as much. What
+/// remains is flattened, or becomes windows if it is large, on the Layers on which it draws. What is
+/// found for a cell is added to what is found for the cells that place it, at each place. A cell that
+/// isn't placed is no partner, since nothing limits how much it draws.
 ///
 /// Two cells that differ shape by shape, and are placed more than once, are compared once with all
 /// that they place, where that doesn't cost too much. If they draw the same, nothing is found for

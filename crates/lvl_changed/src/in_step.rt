@@ -9,7 +9,7 @@ ghost use Rattle.lvl_changed.specs.inside.Placements.{ReferAlike};
 ghost use Rattle.lvl_changed.specs.inside.InStep.{ReferAlikeUpTo};
 
 use crate::area::Area;
-use crate::arrays::{Array, Form, array_of};
+use crate::arrays::{Array, array_of};
 use crate::found::Found;
 use crate::shifts::are_same;
 use lvl_cells::Checked;
@@ -41,7 +41,6 @@ fn hold_same_at(
     ours: usize,
     theirs: usize,
     j: usize,
-    form: Form,
     known: &[Option<Found>],
 ) -> Result<bool, AllocError>
     requires ours { ours < length pair.now.first.now.cells }
@@ -52,8 +51,8 @@ fn hold_same_at(
         → ReferAlikeUpTo j area.old pair.now ours theirs → ReferAlikeUpTo (j + 1) area.new pair.now ours theirs) }
     ensures kept { OnOk result (Grows area.old area.new) }
 {
-    let array = array_of(pair.first.checked(), ours, j, form)?;
-    let other = array_of(pair.second.checked(), theirs, j, form)?;
+    let array = array_of(pair.first.checked(), ours, j)?;
+    let other = array_of(pair.second.checked(), theirs, j)?;
     let Some(Some(found)) = known.get(array.cell) else {
         return Ok(false);
     };
@@ -82,7 +81,6 @@ pub(crate) fn hold_same(
     pair: &Pair<'_>,
     ours: usize,
     theirs: usize,
-    form: Form,
     known: &[Option<Found>],
 ) -> Result<bool, AllocError>
     requires ours { ours < length pair.now.first.now.cells }
@@ -96,7 +94,7 @@ pub(crate) fn hold_same(
         return Ok(false);
     }
     for j in 0..count {
-        if !hold_same_at(area, pair, ours, theirs, j, form, known)? {
+        if !hold_same_at(area, pair, ours, theirs, j, known)? {
             return Ok(false);
         }
     }

@@ -9,10 +9,9 @@ ghost use Rattle.lvl_changed.specs.inside.Figures.{AreLeft};
 ghost use Rattle.lvl_changed.specs.inside.Shapes.{put_on, ShapesCover};
 
 use crate::figures::{Seen, has_shape};
-use crate::twins::Near;
+use crate::twins::{Near, twins_of};
 use lvl_cells::{Cell, References, Shapes};
-use lvl_names::{Layer, Offsets};
-use lvl_view::View;
+use lvl_names::{Layer, Name, Offsets};
 use std::alloc::{AllocError, Global};
 
 /// Appends the rings of shape `i` with its shifts to those on a Layer, each ring as a shape.
@@ -37,72 +36,71 @@ pub(crate) fn push_shape(
     Ok(())
 }
 
-/// Appends shape `i`, its rings as shapes of their own.
-pub(crate) fn push_left(
+/// Appends shape `i` on a Layer, its rings as shapes of their own.
+fn push_left(
     alloc: Global,
     left: &mut Shapes,
+    on: Layer,
     shapes: &Shapes,
     i: usize,
 ) -> Result<(), AllocError>
     requires { i < length shapes.now }
     ensures { OnOk result ((layer : PlainLayer) (s : Square) → ShapesCover left.new layer s
-        ↔ (ShapesCover left.old layer s ⊎ ShapeCovers SomeCovers layer s (shape_at shapes.now i))) }
+        ↔ (ShapesCover left.old layer s ⊎ ShapeCovers SomeCovers layer s (put_on on (shape_at shapes.now i)))) }
 {
-    let on = shapes.layer(i);
     match shapes.shifts(i) {
         Some(shifts) => push_shape(alloc, left, on, shapes, i, shifts),
         None => push_shape(alloc, left, on, shapes, i, &Offsets::single()),
     }
 }
 
-/// Those of the shapes that the others don't have, given which of these each may be the same as. The Layers of
-/// both count as those to which their views map them.
-fn alone(
+/// Those of the shapes that the others don't have, given which of these each may be the same as. They are on the
+/// Layers to which their view maps theirs.
+pub(crate) fn alone(
     alloc: Global,
-    shapes: &Shapes,
-    view: &View,
-    others: &Shapes,
-    other_view: &View,
+    seen: Seen<'_>,
+    others: Seen<'_>,
     twins: &[u32],
 ) -> Result<Shapes, AllocError>
-    ensures { IfOk result (λ left. AreLeft view.now.pairs shapes.now other_view.now.pairs others.now left) }
+    ensures { IfOk result (AreLeft seen.entry.view.now.pairs seen.entry.shapes.now others.entry.view.now.pairs
+        others.entry.shapes.now) }
 {
-    let seen = Seen { shapes, view };
-    let there = Seen {
-        shapes: others,
-        view: other_view,
-    };
     let mut left = Shapes::new(alloc);
     let mut near = Near::none();
-    for i in 0..shapes.len() {
-        let twin = near.twin(there, twins, i);
-        if !has_shape(there, twin, seen, i) {
-            push_left(alloc, &mut left, shapes, i)?;
+    for i in 0..seen.shapes.len() {
+        let twin = near.twin(others, twins, i);
+        if !has_shape(others, twin, seen, i) {
+            let on = seen.view.target(seen.shapes.layer(i));
+            push_left(alloc, &mut left, on, seen.shapes, i)?;
         }
     }
     Ok(left)
 }
 
-/// A cell without references whose shapes are those of a cell that the other cell doesn't have, given which shape
-/// of the other cell each may be the same as. The Layers of each cell count as those to which its view maps them.
-pub(crate) fn left_of(
+/// Of two lists of shapes, those of each that the other doesn't have, on the Layers to which their views map theirs.
+pub(crate) fn left_of_shapes(
     alloc: Global,
-    cell: &Cell,
-    view: &View,
-    other: &Cell,
-    other_view: &View,
-    twins: &[u32],
-) -> Result<Cell, AllocError>
-    ensures left { IfOk result (λ left. AreLeft view.now.pairs cell.now.shapes other_view.now.pairs other.now.shapes
-        left.shapes) }
-    ensures alone { IfOk result (λ left. left.references ≡ []) }
+    ours: Seen<'_>,
+    theirs: Seen<'_>,
+) -> Result<(Shapes, Shapes), AllocError>
+    ensures ours { IfOk result (λ left. AreLeft ours.entry.view.now.pairs ours.entry.shapes.now
+        theirs.entry.view.now.pairs theirs.entry.shapes.now left.0) }
+    ensures theirs { IfOk result (λ left. AreLeft theirs.entry.view.now.pairs theirs.entry.shapes.now
+        ours.entry.view.now.pairs ours.entry.shapes.now left.1) }
 {
-    let shapes = alone(alloc, &cell.shapes, view, &other.shapes, other_view, twins)?;
-    let name = cell.name.clone()?;
-    let references = References::new(alloc);
-    Ok(Cell {
-        name,
+    let twins = twins_of(alloc, ours, theirs)?;
+    let left = alone(alloc, ours, theirs, &twins.ours)?;
+    let their_left = alone(alloc, theirs, ours, &twins.theirs)?;
+    Ok((left, their_left))
+}
+
+/// A cell that has these shapes alone.
+pub(crate) fn cell_of(alloc: Global, shapes: Shapes) -> Cell
+    ensures { result ≡ record { name = []; shapes = shapes; references = [] } }
+{
+    Cell {
+        name: Name::empty(),
         shapes,
-        references,
-    })
+        references: References::new(alloc),
+    }
 }

@@ -1,84 +1,74 @@
 //! Arrays that only one of two lists has, written out place by place.
-ghost use Rattle.std.specs.Prelude.{◌≡◌, ◌++◌, IsTrue, IfOk, OnOk};
-ghost use Rattle.lvl_grid.specs.declared.point.Square.{Square};
-ghost use Rattle.lvl_names.specs.declared.layer.Layer.{Layer};
-ghost use Rattle.lvl_changed.specs.inside.Arrays.{AddsOutside, AreListed, each_place};
-ghost use Rattle.lvl_changed.specs.inside.Areas.{Grows};
-ghost use Rattle.lvl_changed.specs.inside.Drawing.{AreDrawnOn};
+ghost use Rattle.std.specs.Prelude.{◌≡◌, IfOk, IfSome, OnOk};
+ghost use Rattle.lvl_changed.specs.inside.Arrays.{AddsArray, AreListed, all_places, each_place};
 
-use crate::area::Area;
 use crate::arrays::{Array, is_at, skip};
-use crate::layers::Layers;
+use crate::placed::Placed;
 use crate::placements::Placement;
-use lvl_flat::Fitted;
-use lvl_view::View;
-use std::alloc::AllocError;
+use std::alloc::{AllocError, Global};
 
-/// Appends the cell of the array, placed at each of its places. Returns whether these are all
-/// within 64 signed bits, else only some may be appended.
-fn push_places(placements: &mut Vec<Placement>, array: &Array) -> Result<bool, AllocError>
-    ensures { IfOk result (λ all. IsTrue all
-        → placements.new.items ≡ placements.old.items ++ each_place array.now) }
+/// The cell of the array, placed at each of its places, or None if one of these is outside 64 signed bits.
+fn places_of(alloc: Global, array: &Array) -> Result<Option<Vec<Placement>>, AllocError>
+    ensures { IfOk result (λ found. IfSome found (λ all. all.items ≡ each_place array.now)) }
 {
+    let mut all = Vec::new(alloc);
     for k in 0..array.shifts.len() {
         let Some(map) = array.place(k) else {
-            return Ok(false);
+            return Ok(None);
         };
         let cell = array.cell;
-        placements.push(Placement { cell, map })?;
+        all.push(Placement { cell, map })?;
     }
-    Ok(true)
+    Ok(Some(all))
 }
 
-/// Appends the placements of an array. If there would be more than `most` of them, adds instead all
-/// that the array covers, with its Layers as the view maps them.
+/// The places of an array if there are at most `most`, and if all of them are within 64 signed bits.
+fn few_places_of(
+    alloc: Global,
+    array: &Array,
+    most: u64,
+) -> Result<Option<Vec<Placement>>, AllocError>
+    ensures { IfOk result (λ found. IfSome found (λ all. all.items ≡ each_place array.now)) }
+{
+    if array.shifts.len() > most {
+        return Ok(None);
+    }
+    places_of(alloc, array)
+}
+
+/// Adds an array place by place, or as it is if there would be more than `most` placements.
 fn list_array(
-    area: &mut Area,
-    placements: &mut Vec<Placement>,
-    library: &Fitted,
-    drawn: &[Option<Layers>],
-    view: &View,
+    alloc: Global,
+    placed: &mut Placed,
     array: &Array,
     most: u64,
 ) -> Result<(), AllocError>
-    requires { AreDrawnOn library.now.cells drawn.now }
-    ensures listed { OnOk result (AddsOutside area.new view.now.pairs library.now.cells
-        placements.old.items placements.new.items array.now) }
-    ensures kept { OnOk result (Grows area.old area.new) }
+    ensures { OnOk result (AddsArray (all_places placed.old) (all_places placed.new) array.now) }
 {
-    let listed = placements.len() as u64;
-    if listed.saturating_add(array.shifts.len()) > most {
-        return area.hold_array(library, drawn, view, array);
-    }
-    if !push_places(placements, array)? {
-        area.hold_anywhere();
+    let room = most.saturating_sub(placed.singles.len() as u64);
+    match few_places_of(alloc, array, room)? {
+        Some(mut all) => placed.singles.append(&mut all)?,
+        None => placed.arrays.push(array.copied()?)?,
     }
     Ok(())
 }
 
-/// Appends the placements of those arrays that aren't among the others. If there would be more than
-/// `most` of them, adds instead all that an array covers, with its Layers as the view maps them. Both
-/// lists of arrays should be sorted, or more are appended than need be.
+/// Adds those arrays that aren't among the others, place by place unless there would be more than `most` placements.
+/// Both lists of arrays should be sorted, or more are added than need be.
 pub(crate) fn list_alone(
-    area: &mut Area,
-    placements: &mut Vec<Placement>,
-    library: &Fitted,
-    drawn: &[Option<Layers>],
-    view: &View,
+    alloc: Global,
+    placed: &mut Placed,
     arrays: &[Array],
     others: &[Array],
     most: u64,
 ) -> Result<(), AllocError>
-    requires { AreDrawnOn library.now.cells drawn.now }
-    ensures listed { OnOk result (AreListed area.new view.now.pairs library.now.cells
-        placements.old.items placements.new.items arrays.now others.now) }
-    ensures kept { OnOk result (Grows area.old area.new) }
+    ensures { OnOk result (AreListed (all_places placed.old) (all_places placed.new) arrays.now others.now) }
 {
     let mut at = 0;
     for array in arrays {
         at = skip(others, at, array);
         if !is_at(others, at, array) {
-            list_array(area, placements, library, drawn, view, array, most)?;
+            list_array(alloc, placed, array, most)?;
         }
     }
     Ok(())

@@ -4,7 +4,7 @@
 //! least.
 ghost use Rattle.std.specs.Prelude.{◌<◌, length, IfSome};
 
-use crate::arrays::{Form, array_of};
+use crate::arrays::array_of;
 use crate::in_step::reference_count;
 use crate::placed::Placed;
 use crate::spots::{AtSpot, key_of, skip_to_spot, sort_by_spot};
@@ -107,7 +107,7 @@ fn some_placed(
 {
     let mut placed = Placed::none(alloc);
     for j in 0..reference_count(checked, cell) {
-        let array = array_of(checked, cell, j, Form::SeenThrough)?;
+        let array = array_of(checked, cell, j)?;
         let times = checked.times().get(array.cell).copied().unwrap_or(0);
         let share = share_of(times, most);
         if key_of(&array).checked_rem(share) == Some(0) {
@@ -245,8 +245,8 @@ impl<'a> Matching<'a> {
             return Ok(false);
         }
         for j in 0..count {
-            let placed = array_of(first, ours, j, Form::SeenThrough)?;
-            let other = array_of(second, theirs, j, Form::SeenThrough)?;
+            let placed = array_of(first, ours, j)?;
+            let other = array_of(second, theirs, j)?;
             if placed.spot() != other.spot() {
                 return Ok(false);
             }

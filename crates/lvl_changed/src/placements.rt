@@ -1,18 +1,9 @@
 //! Placements: cells that are placed, one for each place.
-ghost use Rattle.std.specs.Prelude.{Contains, IsTrue, OnOk};
-ghost use Rattle.lvl_grid.specs.declared.point.Square.{Square};
-ghost use Rattle.lvl_names.specs.declared.layer.Layer.{Layer};
-ghost use Rattle.lvl_view.specs.Views.{target_of};
-ghost use Rattle.lvl_changed.specs.inside.Areas.{Grows, IsIn};
-ghost use Rattle.lvl_changed.specs.inside.Drawing.{AreDrawnOn};
-ghost use Rattle.lvl_changed.specs.inside.Placements.{HaveSame, PlacedCover};
+ghost use Rattle.std.specs.Prelude.{Contains, IfOk, IsTrue};
+ghost use Rattle.lvl_changed.specs.inside.Placements.{AreLeftPlaces, HaveSame};
 
-use crate::area::Area;
-use crate::layers::Layers;
-use lvl_flat::Fitted;
 use lvl_grid::{Map, Turn};
-use lvl_view::View;
-use std::alloc::AllocError;
+use std::alloc::{AllocError, Global};
 
 /// What placements are sorted by. Different placements have different keys.
 type Key = (usize, i64, i64, u8, bool);
@@ -68,29 +59,21 @@ fn is_at(placements: &[Placement], at: usize, placement: &Placement) -> bool
     }
 }
 
-/// Adds all that is covered by those placements that aren't among the others, with its Layers as the
-/// view maps them. Both lists should be sorted, or more is added than need be.
-pub(crate) fn hold_alone(
-    area: &mut Area,
-    library: &Fitted,
-    drawn: &[Option<Layers>],
-    view: &View,
+/// Those of the placements that aren't among the others. Both lists should be sorted, or more are left than need be.
+pub(crate) fn missing_places(
+    alloc: Global,
     placements: &[Placement],
     others: &[Placement],
-) -> Result<(), AllocError>
-    requires { AreDrawnOn library.now.cells drawn.now }
-    ensures held { OnOk result ((layer : Layer) (s : Square)
-        → ¬ IsIn area.new (target_of view.now.pairs layer) s
-        → PlacedCover library.now.cells placements.now layer s
-        → PlacedCover library.now.cells others.now layer s) }
-    ensures kept { OnOk result (Grows area.old area.new) }
+) -> Result<Vec<Placement>, AllocError>
+    ensures { IfOk result (λ left. AreLeftPlaces placements.now others.now left.items) }
 {
+    let mut left = Vec::new(alloc);
     let mut at = 0;
     for placement in placements {
         at = skip(others, at, placement.key());
         if !is_at(others, at, placement) {
-            area.hold_placed_cell(library, drawn, view, placement.cell, &placement.map)?;
+            left.push(*placement)?;
         }
     }
-    Ok(())
+    Ok(left)
 }

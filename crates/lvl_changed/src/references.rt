@@ -1,153 +1,131 @@
-//! Where the references of two cells may cover different squares.
-ghost use Rattle.std.specs.Prelude.{◌≡◌, ◌<◌, ◌↔◌, length, Contains, List, Some, IfOk, IfSome, OnOk, slice_get};
-ghost use Rattle.lvl_grid.specs.declared.point.Point.{Point};
+//! What the references of two cells place, as cells of the second library, and what of it both have.
+ghost use Rattle.std.specs.Prelude.{◌≡◌, ◌<◌, length, IfOk, IfSome, OnOk, slice_get};
 ghost use Rattle.lvl_grid.specs.declared.point.Square.{Square};
 ghost use Rattle.lvl_names.specs.declared.layer.Layer.{Layer};
-ghost use Rattle.lvl_cells.specs.Cells.{PlainCell, Rings, map_at};
-ghost use Rattle.lvl_view.specs.declared.map.LayerPair.{LayerPair};
-ghost use Rattle.lvl_view.specs.Moved.{IsMoved};
-ghost use Rattle.lvl_changed.specs.declared.arrays.Array.{Array as PlainArray};
-ghost use Rattle.lvl_changed.specs.inside.Arrays.{all_places, as_reference, AddsPartner};
-ghost use Rattle.lvl_view.specs.Views.{target_of};
-ghost use Rattle.lvl_changed.specs.inside.Areas.{AlikeOutside, Grows, HasImages, IsIn};
-ghost use Rattle.lvl_changed.specs.inside.Drawing.{AreDrawnOn};
-ghost use Rattle.lvl_changed.specs.inside.Finding.{AreFound};
-ghost use Rattle.lvl_changed.specs.inside.Pairs.{AreFoundIn};
-ghost use Rattle.lvl_changed.specs.inside.Placements.{PlacedCover, ReferencesCover, ReferAlike};
+ghost use Rattle.lvl_changed.specs.inside.Areas.{AlikeOutside, Grows};
+ghost use Rattle.lvl_changed.specs.inside.Arrays.{AreListed, all_places, each_place, every_place};
+ghost use Rattle.lvl_changed.specs.inside.Pairs.{AreFoundIn, IsFoundIn};
+ghost use Rattle.lvl_changed.specs.inside.Placements.{AreLeftPlaces, PlaceSame, PlacedCover, ReferencesCover};
+ghost use Rattle.lvl_changed.specs.inside.Remains.{AddsOutside, PartnersDraw};
+ghost use Rattle.lvl_compare.specs.declared.pair.Pair.{Pair as PlainPair};
 
 use crate::area::Area;
-use crate::arrays::{Array, Form, array_of, places_wrappers, sort_arrays};
+use crate::arrays::{Array, array_of, sort_arrays};
 use crate::found::Found;
-use crate::in_step::hold_same;
-use crate::layers::Layers;
 use crate::listing::list_alone;
-use crate::placed::{Placed, placed_of};
-use crate::placements::{hold_alone, sort_places};
+use crate::placed::Placed;
+use crate::placements::{Placement, missing_places, sort_places};
 use crate::rows::split_alone;
 use lvl_cells::Checked;
-use lvl_compare::Pair;
-use lvl_flat::Fitted;
-use lvl_view::View;
 use std::alloc::{AllocError, Global};
 
 /// The greatest number of placements of a cell for which arrays that only one side has are written
 /// out place by place, and as many again as the other side has single placements.
 const MOST_LISTED: u64 = 1_048_576;
 
-/// Adds the area that was found for the cell of an array, at each place of the array, and adds what
-/// it places with the partner in place of the cell.
-fn place_partner(
-    area: &mut Area,
-    placed: &mut Placed,
-    array: Array,
-    found: &Found,
-) -> Result<(), AllocError>
-    ensures added { OnOk result
-        (AddsPartner (all_places placed.old) (all_places placed.new) found.now.partner array) }
-    ensures held { OnOk result ((e : Point) → Contains array.shifts e
-        → HasImages (map_at (as_reference array) e) found.now.area area.new) }
-    ensures kept { OnOk result (Grows area.old area.new) }
-{
-    area.hold_places(&found.area, &array)?;
-    let Array { by, shifts, .. } = array;
-    if let Some(cell) = found.partner {
-        placed.push(Array { cell, by, shifts })?;
-    }
-    Ok(())
+/// What is placed of the first library: partners in place of the cells that have one, and the others.
+#[derive(Drop)]
+pub(crate) struct Partners {
+    /// Cells of the second library.
+    pub placed: Placed,
+    /// Cells of the first library that have no partner.
+    pub alone: Vec<Array>,
 }
 
-/// What a cell's references place, with partners in place of the cells; those without a partner are
-/// left out. The area that was found for each of these cells is added at each place. If nothing is
-/// known for one of them, the area becomes the whole grid on every Layer.
-fn partners_placed(
+impl Partners {
+    /// Nothing is placed. Allocates nothing.
+    pub(crate) fn none(alloc: Global) -> Partners
+        ensures { (pair : PlainPair) (layer : Layer) (s : Square) → ¬ PartnersDraw pair result layer s }
+    {
+        Partners {
+            placed: Placed::none(alloc),
+            alone: Vec::new(alloc),
+        }
+    }
+
+    /// Adds an array of a cell for which something was found: of its partner, if it has one. The area that was found
+    /// is added at each place of the array.
+    fn push(&mut self, area: &mut Area, array: Array, found: &Found) -> Result<(), AllocError>
+        ensures added { OnOk result ((pair : PlainPair) → IsFoundIn pair array.cell found.now
+            → AddsOutside area.new (PartnersDraw pair self.old) (PartnersDraw pair self.new)
+            (PlacedCover pair.first.now.cells (each_place array))) }
+        ensures kept { OnOk result (Grows area.old area.new) }
+    {
+        let Some(cell) = found.partner else {
+            self.alone.push(array)?;
+            return Ok(());
+        };
+        area.hold_places(&found.area, &array)?;
+        let Array { by, shifts, .. } = array;
+        self.placed.push(Array { cell, by, shifts })
+    }
+
+    /// Adds an array of a cell of the first library. If nothing is known for the cell, the area becomes the whole
+    /// grid on every Layer.
+    pub(crate) fn add(
+        &mut self,
+        area: &mut Area,
+        array: Array,
+        known: &[Option<Found>],
+    ) -> Result<(), AllocError>
+        ensures added { OnOk result ((pair : PlainPair) → AreFoundIn pair known.now
+            → AddsOutside area.new (PartnersDraw pair self.old) (PartnersDraw pair self.new)
+            (PlacedCover pair.first.now.cells (each_place array))) }
+        ensures kept { OnOk result (Grows area.old area.new) }
+    {
+        match known.get(array.cell) {
+            Some(Some(found)) => self.push(area, array, found),
+            _ => {
+                area.hold_anywhere();
+                Ok(())
+            }
+        }
+    }
+
+    /// Adds arrays of cells of the first library.
+    pub(crate) fn add_all(
+        &mut self,
+        area: &mut Area,
+        arrays: Vec<Array>,
+        known: &[Option<Found>],
+    ) -> Result<(), AllocError>
+        ensures added { OnOk result ((pair : PlainPair) → AreFoundIn pair known.now
+            → AddsOutside area.new (PartnersDraw pair self.old) (PartnersDraw pair self.new)
+            (PlacedCover pair.first.now.cells (every_place arrays.items))) }
+        ensures kept { OnOk result (Grows area.old area.new) }
+    {
+        for array in arrays {
+            self.add(area, array, known)?;
+        }
+        Ok(())
+    }
+}
+
+/// What a cell's references place, with partners in place of the cells that have one.
+pub(crate) fn partners_placed(
     area: &mut Area,
     alloc: Global,
     checked: &Checked,
     cell: usize,
-    form: Form,
     known: &[Option<Found>],
-) -> Result<Placed, AllocError>
+) -> Result<Partners, AllocError>
     requires { cell < length checked.now.cells }
-    ensures covers { IfOk result (λ placed. (pairs : List LayerPair) (theirs : List (PlainCell Rings))
-        → AreFound pairs checked.now.cells theirs known.now
-        → IfSome (slice_get checked.now.cells cell)
-        (λ c. AlikeOutside area.new (ReferencesCover checked.now.cells c.references)
-        (IsMoved pairs (PlacedCover theirs (all_places placed))))) }
+    ensures covers { IfOk result (λ partners. (pair : PlainPair) → AreFoundIn pair known.now
+        → checked.now.cells ≡ pair.first.now.cells → IfSome (slice_get checked.now.cells cell)
+        (λ c. AlikeOutside area.new (ReferencesCover checked.now.cells c.references) (PartnersDraw pair partners))) }
     ensures kept { OnOk result (Grows area.old area.new) }
 {
-    let mut placed = Placed::none(alloc);
+    let mut partners = Partners::none(alloc);
     let parent = &checked.cells()[cell];
     for j in 0..parent.references.len() {
-        let array = array_of(checked, cell, j, form)?;
-        let Some(Some(found)) = known.get(array.cell) else {
-            area.hold_anywhere();
-            return Ok(placed);
-        };
-        place_partner(area, &mut placed, array, found)?;
+        partners.add(area, array_of(checked, cell, j)?, known)?;
     }
-    Ok(placed)
-}
-
-/// Adds an area outside of which the first covers the same squares as the second, both with their
-/// Layers as the view maps them. Arrays that only one of both has are written out place by place.
-fn hold_listed(
-    area: &mut Area,
-    library: &Fitted,
-    drawn: &[Option<Layers>],
-    view: &View,
-    first: Placed,
-    second: Placed,
-) -> Result<(), AllocError>
-    requires { AreDrawnOn library.now.cells drawn.now }
-    ensures held { OnOk result ((layer : Layer) (s : Square)
-        → (¬ IsIn area.new (target_of view.now.pairs layer) s)
-        → PlacedCover library.now.cells (all_places first) layer s
-        ↔ PlacedCover library.now.cells (all_places second) layer s) }
-    ensures kept { OnOk result (Grows area.old area.new) }
-{
-    let Placed {
-        mut singles,
-        mut arrays,
-    } = first;
-    let Placed {
-        singles: mut others,
-        arrays: mut other_arrays,
-    } = second;
-    sort_arrays(&mut arrays);
-    sort_arrays(&mut other_arrays);
-    let most = MOST_LISTED.saturating_add(others.len() as u64);
-    let their_most = MOST_LISTED.saturating_add(singles.len() as u64);
-    list_alone(
-        area,
-        &mut singles,
-        library,
-        drawn,
-        view,
-        &arrays,
-        &other_arrays,
-        most,
-    )?;
-    list_alone(
-        area,
-        &mut others,
-        library,
-        drawn,
-        view,
-        &other_arrays,
-        &arrays,
-        their_most,
-    )?;
-    sort_places(&mut singles);
-    sort_places(&mut others);
-    hold_alone(area, library, drawn, view, &singles, &others)?;
-    hold_alone(area, library, drawn, view, &others, &singles)?;
-    Ok(())
+    Ok(partners)
 }
 
 /// What is placed, with the arrays sorted.
 fn in_order(placed: Placed) -> Placed
-    ensures singles { result.singles.items ≡ placed.singles.items }
-    ensures arrays { (array : PlainArray) → Contains placed.arrays.items array ↔ Contains result.arrays.items array }
+    ensures { PlaceSame (all_places result) (all_places placed) }
 {
     let Placed {
         singles,
@@ -157,128 +135,110 @@ fn in_order(placed: Placed) -> Placed
     Placed { singles, arrays }
 }
 
-/// The single placements of what is placed, with other arrays.
-fn with_arrays(placed: Placed, arrays: Vec<Array>) -> Placed
-    ensures { result ≡ record { singles = placed.singles; arrays = arrays } }
-{
-    let Placed { singles, .. } = placed;
-    Placed { singles, arrays }
-}
-
-/// Adds an area outside of which the first covers the same squares as the second, both with their
-/// Layers as the view maps them. Arrays that only one of both has are split into rows first.
-fn hold_placed(
-    area: &mut Area,
-    alloc: Global,
-    library: &Fitted,
-    drawn: &[Option<Layers>],
-    view: &View,
-    first: Placed,
-    second: Placed,
-) -> Result<(), AllocError>
-    requires { AreDrawnOn library.now.cells drawn.now }
-    ensures held { OnOk result ((layer : Layer) (s : Square)
-        → (¬ IsIn area.new (target_of view.now.pairs layer) s)
-        → PlacedCover library.now.cells (all_places first) layer s
-        ↔ PlacedCover library.now.cells (all_places second) layer s) }
-    ensures kept { OnOk result (Grows area.old area.new) }
+/// What each of both places, with those arrays that the other doesn't have as rows.
+fn left_rows(alloc: Global, first: Placed, second: Placed) -> Result<(Placed, Placed), AllocError>
+    ensures ours { IfOk result (λ left. AreLeftPlaces (all_places first) (all_places second) (all_places left.0)) }
+    ensures theirs { IfOk result (λ left. AreLeftPlaces (all_places second) (all_places first) (all_places left.1)) }
 {
     let first = in_order(first);
     let second = in_order(second);
     let rows = split_alone(alloc, &first.arrays, &second.arrays)?;
     let their_rows = split_alone(alloc, &second.arrays, &first.arrays)?;
-    let first = with_arrays(first, rows);
-    let second = with_arrays(second, their_rows);
-    hold_listed(area, library, drawn, view, first, second)
+    let Placed { singles, .. } = first;
+    let Placed {
+        singles: others,
+        ..
+    } = second;
+    let ours = Placed {
+        singles,
+        arrays: rows,
+    };
+    let theirs = Placed {
+        singles: others,
+        arrays: their_rows,
+    };
+    Ok((ours, theirs))
 }
 
-/// Adds an area outside of which the references of cell `ours` cover the same squares as those of
-/// cell `theirs` under the view's map of Layers, each taken in this form.
-fn hold_references(
-    area: &mut Area,
+/// What is placed, with those arrays that the others don't have place by place.
+fn in_places(
     alloc: Global,
-    pair: &Pair<'_>,
-    ours: usize,
-    drawn: &[Option<Layers>],
-    theirs: usize,
-    form: Form,
-    known: &[Option<Found>],
-) -> Result<(), AllocError>
-    requires ours { ours < length pair.now.first.now.cells }
-    requires drawn { AreDrawnOn pair.now.second.now.cells drawn.now }
-    requires theirs { theirs < length pair.now.second.now.cells }
-    ensures held { OnOk result (AreFoundIn pair.now known.now → ReferAlike area.new pair.now.view.now.pairs
-        pair.now.first.now.cells ours pair.now.second.now.cells theirs) }
-    ensures kept { OnOk result (Grows area.old area.new) }
+    singles: Vec<Placement>,
+    arrays: &[Array],
+    others: &[Array],
+    most: u64,
+) -> Result<Placed, AllocError>
+    ensures { IfOk result (λ placed. AreListed singles.items (all_places placed) arrays.now others.now) }
 {
-    if hold_same(area, pair, ours, theirs, form, known)? {
-        return Ok(());
-    }
-    let placed = partners_placed(area, alloc, pair.first.checked(), ours, form, known)?;
-    let others = placed_of(alloc, pair.second.checked(), theirs, form)?;
-    hold_placed(area, alloc, pair.second, drawn, pair.view, placed, others)?;
-    Ok(())
+    let mut placed = Placed {
+        singles,
+        arrays: Vec::new(alloc),
+    };
+    list_alone(alloc, &mut placed, arrays, others, most)?;
+    Ok(placed)
 }
 
-/// An area as [`references_apart`] gives it, with references taken in this form.
-fn apart_in_form(
-    alloc: Global,
-    pair: &Pair<'_>,
-    ours: usize,
-    drawn: &[Option<Layers>],
-    theirs: usize,
-    form: Form,
-    known: &[Option<Found>],
-    most: usize,
-) -> Result<Area, AllocError>
-    requires ours { ours < length pair.now.first.now.cells }
-    requires drawn { AreDrawnOn pair.now.second.now.cells drawn.now }
-    requires theirs { theirs < length pair.now.second.now.cells }
-    ensures { IfOk result (λ area. AreFoundIn pair.now known.now → ReferAlike area pair.now.view.now.pairs
-        pair.now.first.now.cells ours pair.now.second.now.cells theirs) }
+/// What each of both places that the other doesn't, where arrays are looked at as a whole.
+fn left_arrays(alloc: Global, first: Placed, second: Placed) -> Result<(Placed, Placed), AllocError>
+    ensures ours { IfOk result (λ left. AreLeftPlaces (all_places first) (all_places second) (all_places left.0)) }
+    ensures theirs { IfOk result (λ left. AreLeftPlaces (all_places second) (all_places first) (all_places left.1)) }
 {
-    let mut area = Area::none(alloc, most);
-    hold_references(&mut area, alloc, pair, ours, drawn, theirs, form, known)?;
-    Ok(area)
+    let first = in_order(first);
+    let second = in_order(second);
+    let most = MOST_LISTED.saturating_add(second.singles.len() as u64);
+    let their_most = MOST_LISTED.saturating_add(first.singles.len() as u64);
+    let Placed { singles, arrays } = first;
+    let Placed {
+        singles: others,
+        arrays: other_arrays,
+    } = second;
+    let ours = in_places(alloc, singles, &arrays, &other_arrays, most)?;
+    let theirs = in_places(alloc, others, &other_arrays, &arrays, their_most)?;
+    Ok((ours, theirs))
 }
 
-/// An area outside of which the references of cell `ours` cover the same squares as those of cell `theirs` under the
-/// view's map of Layers. They are compared as they are written; only where that leaves something, and cells that have no
-/// shapes and one reference are placed, these are seen through: a writer may place a row of cells at a list of places,
-/// which is no array of what the row has.
-pub(crate) fn references_apart(
+/// What each of both places at single places that the other doesn't, and all arrays.
+fn left_singles(
     alloc: Global,
-    pair: &Pair<'_>,
-    ours: usize,
-    drawn: &[Option<Layers>],
-    theirs: usize,
-    known: &[Option<Found>],
-    most: usize,
-) -> Result<Area, AllocError>
-    requires ours { ours < length pair.now.first.now.cells }
-    requires drawn { AreDrawnOn pair.now.second.now.cells drawn.now }
-    requires theirs { theirs < length pair.now.second.now.cells }
-    ensures { IfOk result (λ area. AreFoundIn pair.now known.now → ReferAlike area pair.now.view.now.pairs
-        pair.now.first.now.cells ours pair.now.second.now.cells theirs) }
+    first: Placed,
+    second: Placed,
+) -> Result<(Placed, Placed), AllocError>
+    ensures ours { IfOk result (λ left. AreLeftPlaces (all_places first) (all_places second) (all_places left.0)) }
+    ensures theirs { IfOk result (λ left. AreLeftPlaces (all_places second) (all_places first) (all_places left.1)) }
 {
-    let written = apart_in_form(alloc, pair, ours, drawn, theirs, Form::Written, known, most)?;
-    let has_wrappers = places_wrappers(pair.first.checked(), ours)
-        || places_wrappers(pair.second.checked(), theirs);
-    if written.windows.is_empty() || !has_wrappers {
-        return Ok(written);
-    }
-    let through = apart_in_form(
-        alloc,
-        pair,
-        ours,
-        drawn,
-        theirs,
-        Form::SeenThrough,
-        known,
-        most,
-    )?;
-    if through.windows.squares() < written.windows.squares() {
-        return Ok(through);
-    }
-    Ok(written)
+    let Placed {
+        mut singles,
+        arrays,
+    } = first;
+    let Placed {
+        singles: mut others,
+        arrays: other_arrays,
+    } = second;
+    sort_places(&mut singles);
+    sort_places(&mut others);
+    let ours = missing_places(alloc, &singles, &others)?;
+    let theirs = missing_places(alloc, &others, &singles)?;
+    let first = Placed {
+        singles: ours,
+        arrays,
+    };
+    let second = Placed {
+        singles: theirs,
+        arrays: other_arrays,
+    };
+    Ok((first, second))
+}
+
+/// What each of both places that the other doesn't: first arrays are compared, then their rows, then single places.
+pub(crate) fn left_placed(
+    alloc: Global,
+    first: Placed,
+    second: Placed,
+) -> Result<(Placed, Placed), AllocError>
+    ensures ours { IfOk result (λ left. AreLeftPlaces (all_places first) (all_places second) (all_places left.0)) }
+    ensures theirs { IfOk result (λ left. AreLeftPlaces (all_places second) (all_places first) (all_places left.1)) }
+{
+    let (first, second) = left_rows(alloc, first, second)?;
+    let (first, second) = left_arrays(alloc, first, second)?;
+    left_singles(alloc, first, second)
 }

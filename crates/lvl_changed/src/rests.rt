@@ -19,7 +19,7 @@ ghost use Rattle.lvl_changed.specs.inside.Rests.{AreSameWhere, IsKnown};
 use crate::area::Area;
 use crate::changes::{Changes, difference_among};
 use crate::figures::Seen;
-use crate::left::left_of;
+use crate::left::{alone, cell_of};
 use crate::shapes::hold_extents;
 use crate::twins::{Twins, count_alone, have_many, twins_of};
 use crate::windows::MOST_WINDOWS;
@@ -58,14 +58,13 @@ fn top_of(library: &Fitted) -> &Cell
     checked.cell(checked.top())
 }
 
-/// A layout that draws what a cell without references does. None if it isn't accepted.
-fn layout_of(alloc: Global, cell: Cell) -> Result<Option<Fitted>, AllocError>
-    requires { cell.references ≡ [] }
+/// A layout that draws these shapes. None if it isn't accepted.
+fn layout_of(alloc: Global, shapes: Shapes) -> Result<Option<Fitted>, AllocError>
     ensures { IfOk result (λ found. IfSome found (λ fitted. (layer : PlainLayer) (s : GridSquare)
-        → TopCovers fitted layer s ↔ ShapesCover cell.shapes layer s)) }
+        → TopCovers fitted layer s ↔ ShapesCover shapes layer s)) }
 {
     let mut cells = Vec::with_capacity(alloc, 1)?;
-    cells.push_reserved(cell);
+    cells.push_reserved(cell_of(alloc, shapes));
     let library = Library { cells };
     let checked = match check_or_return(alloc, library, None, Limits::LARGE) {
         Ok(checked) => checked,
@@ -116,8 +115,9 @@ fn much_in_common(
 /// of these, if only a window is compared, so that most shapes needn't be looked at again, or if what is left isn't
 /// accepted as a layout.
 fn rests_of(alloc: Global, pair: &Pair<'_>) -> Result<Option<(Fitted, Fitted)>, AllocError>
-    ensures { IfOk result (λ found. IfSome found (λ rests. AreSameWhere (ours pair.now) (theirs pair.now)
-        (TopCovers rests.0) (IsMoved pair.now.view.now.pairs (TopCovers rests.1)))) }
+    ensures same { IfOk result (λ found. IfSome found (λ rests. AreSameWhere (ours pair.now) (theirs pair.now)
+        (TopCovers rests.0) (TopCovers rests.1))) }
+    ensures window { IfOk result (λ found. IfSome found (λ _. pair.now.view.now.window ≡ None)) }
 {
     let (first, second) = (top_of(pair.first), top_of(pair.second));
     if !first.references.is_empty() || !second.references.is_empty() {
@@ -138,8 +138,8 @@ fn rests_of(alloc: Global, pair: &Pair<'_>) -> Result<Option<(Fitted, Fitted)>, 
     let Some(twins) = much_in_common(alloc, ours, theirs)? else {
         return Ok(None);
     };
-    let left = left_of(alloc, first, &whole, second, pair.view, &twins.ours)?;
-    let their_left = left_of(alloc, second, pair.view, first, &whole, &twins.theirs)?;
+    let left = alone(alloc, ours, theirs, &twins.ours)?;
+    let their_left = alone(alloc, theirs, ours, &twins.theirs)?;
     drop(twins);
     let Some(rest) = layout_of(alloc, left)? else {
         return Ok(None);
@@ -197,18 +197,17 @@ fn most_of_rests(pair: &Pair<'_>, rest: &Fitted, their_rest: &Fitted, most: usiz
     most.saturating_sub(left_out / 4).max(most / 4)
 }
 
-/// Windows round all that is left of two layouts, on the Layers on which it draws, those of the second as the view maps
-/// them. None if one of the tops has references.
+/// Windows round all that is left of two layouts, on the Layers on which it draws. None if one of the tops has
+/// references.
 fn changes_round(
     alloc: Global,
     rest: &Fitted,
     their_rest: &Fitted,
-    view: &View,
 ) -> Result<Option<Changes>, AllocError>
     ensures ours { IfOk result (λ found. IfSome found (λ changes. (layer : PlainLayer) (s : GridSquare)
         → ¬ IsChange changes layer s → ¬ TopCovers rest.now layer s)) }
     ensures theirs { IfOk result (λ found. IfSome found (λ changes. (layer : PlainLayer) (s : GridSquare)
-        → ¬ IsChange changes layer s → ¬ IsMoved view.now.pairs (TopCovers their_rest.now) layer s)) }
+        → ¬ IsChange changes layer s → ¬ TopCovers their_rest.now layer s)) }
 {
     let (first, second) = (top_of(rest), top_of(their_rest));
     if !first.references.is_empty() || !second.references.is_empty() {
@@ -217,7 +216,7 @@ fn changes_round(
     let whole = View::whole(alloc);
     let mut area = Area::none(alloc, MOST_WINDOWS);
     hold_extents(&mut area, &first.shapes, &whole)?;
-    hold_extents(&mut area, &second.shapes, view)?;
+    hold_extents(&mut area, &second.shapes, &whole)?;
     let changes = area.into_changes();
     Ok(changes)
 }
@@ -252,14 +251,14 @@ pub(crate) fn known_by_rests(
         return Ok(Known::Nothing);
     };
     let most = most_of_rests(pair, &rest, &their_rest, most);
-    let found = difference_by_strips(alloc, &rest, &their_rest, pair.view, most)?;
+    let found = difference_by_strips(alloc, &rest, &their_rest, &View::whole(alloc), most)?;
     let Some((layer, square, _)) = found else {
         return Ok(Known::Same);
     };
     if let Some(side) = side_at(alloc, pair, layer, square, most)? {
         return Ok(Known::Differ(layer, square, side));
     }
-    let Some(changes) = changes_round(alloc, &rest, &their_rest, pair.view)? else {
+    let Some(changes) = changes_round(alloc, &rest, &their_rest)? else {
         return Ok(Known::Nothing);
     };
     drop(rest);

@@ -76,9 +76,7 @@ fn add_split(alloc: Global, all: &mut Vec<Array>, array: &Array) -> Result<(), A
             Ok(())
         }
         None => {
-            let Array { cell, by, .. } = *array;
-            let shifts = array.shifts.clone()?;
-            all.push(Array { cell, by, shifts })?;
+            all.push(array.copied()?)?;
             Ok(())
         }
     }

@@ -13,12 +13,10 @@ ghost use Rattle.lvl_changed.specs.inside.Shapes.{ShapesCover, FlatCovers, HasMo
 
 use crate::area::Area;
 use crate::corners::between;
-use crate::figures::Seen;
-use crate::left::left_of;
+use crate::left::cell_of;
 use crate::pays::rings_of;
 use crate::rings::hold_rings;
 use crate::shifts::moved;
-use crate::twins::twins_of;
 use lvl_cells::{Cell, MovedRing, Shapes};
 use lvl_compare::{lesser, past};
 use lvl_flat::{Flat, flatten_shapes};
@@ -59,17 +57,14 @@ fn hold_flats(area: &mut Area, alloc: Global, ours: &Flat, theirs: &Flat) -> Res
     Ok(())
 }
 
-/// Adds an area outside of which the shapes of cell `ours`, which are flattened, cover the same
-/// squares as those of cell `theirs` under the view's map of Layers.
+/// Adds an area outside of which the shapes of both cells, which are flattened, cover the same squares.
 fn hold_flattened(
     area: &mut Area,
     alloc: Global,
     ours: &Cell,
     theirs: &Cell,
-    view: &View,
 ) -> Result<(), AllocError>
-    ensures held { OnOk result (AlikeOutside area.new (ShapesCover ours.now.shapes)
-        (IsMoved view.now.pairs (ShapesCover theirs.now.shapes))) }
+    ensures held { OnOk result (AlikeOutside area.new (ShapesCover ours.now.shapes) (ShapesCover theirs.now.shapes)) }
     ensures kept { OnOk result (Grows area.old area.new) }
 {
     let Some(ours) = shapes_of(alloc, ours)? else {
@@ -80,8 +75,7 @@ fn hold_flattened(
         area.hold_anywhere();
         return Ok(());
     };
-    let mapped = theirs.mapped(alloc, view)?;
-    hold_flats(area, alloc, &ours, &mapped)
+    hold_flats(area, alloc, &ours, &theirs)
 }
 
 /// A window that has all squares that a ring covers after a move by any of the shifts, whose least
@@ -142,37 +136,24 @@ pub(crate) fn hold_extents(area: &mut Area, shapes: &Shapes, view: &View) -> Res
     Ok(())
 }
 
-/// Adds an area outside of which the own shapes of cell `ours` cover the same squares as those of cell `theirs` under
-/// the view's map of Layers. The same shapes on both sides are left out. The others are flattened, unless these are more
-/// than [`MOST_FLATTENED`] rings.
+/// Adds an area outside of which two lists of shapes cover the same squares. They are flattened, unless these are
+/// more than [`MOST_FLATTENED`] rings.
 pub(crate) fn hold_shapes(
     area: &mut Area,
     alloc: Global,
-    ours: &Cell,
-    theirs: &Cell,
-    view: &View,
+    ours: Shapes,
+    theirs: Shapes,
 ) -> Result<(), AllocError>
-    ensures held { OnOk result (AlikeOutside area.new (ShapesCover ours.now.shapes)
-        (IsMoved view.now.pairs (ShapesCover theirs.now.shapes))) }
+    ensures held { OnOk result (AlikeOutside area.new (ShapesCover ours) (ShapesCover theirs)) }
     ensures kept { OnOk result (Grows area.old area.new) }
 {
-    let whole = View::whole(alloc);
-    let our_shapes = Seen {
-        shapes: &ours.shapes,
-        view: &whole,
-    };
-    let their_shapes = Seen {
-        shapes: &theirs.shapes,
-        view,
-    };
-    let twins = twins_of(alloc, our_shapes, their_shapes)?;
-    let left = left_of(alloc, ours, &whole, theirs, view, &twins.ours)?;
-    let their_left = left_of(alloc, theirs, view, ours, &whole, &twins.theirs)?;
-    if rings_of(&left).saturating_add(rings_of(&their_left)) <= MOST_FLATTENED {
-        hold_flattened(area, alloc, &left, &their_left, view)?;
-        return Ok(());
+    let ours = cell_of(alloc, ours);
+    let theirs = cell_of(alloc, theirs);
+    if rings_of(&ours).saturating_add(rings_of(&theirs)) <= MOST_FLATTENED {
+        return hold_flattened(area, alloc, &ours, &theirs);
     }
-    hold_extents(area, &left.shapes, &whole)?;
-    hold_extents(area, &their_left.shapes, view)?;
+    let whole = View::whole(alloc);
+    hold_extents(area, &ours.shapes, &whole)?;
+    hold_extents(area, &theirs.shapes, &whole)?;
     Ok(())
 }

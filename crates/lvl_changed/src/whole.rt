@@ -40,7 +40,8 @@ const POINTS: usize = 65_536;
 const MOST_IN_VAIN: u8 = 2;
 
 /// Which part of what both tops place a cell may place that is placed once, if it is compared as a whole. So a block of
-/// a chip whose placements were moved into its own cells, or drawn in it, is compared once, beside what it is placed in.
+/// a chip whose placements were moved into its own cells, or drawn in it, is compared once, beside what it is placed
+/// in.
 const PART_OF_ONCE: u64 = 4;
 
 /// What comparisons of whole cells may still cost. Each costs the rings that both cells place, and

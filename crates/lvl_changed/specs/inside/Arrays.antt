@@ -1,5 +1,5 @@
 -- Arrays: cells that are placed, each at all of a list of shifts.
-use Rattle.std.specs.Prelude.{◌≡◌, ◌↔◌, ◌⊎◌, ◌++◌, ◌∷◌, ℕ, List, [], flat_map, slice_get, Some, Contains, Option}
+use Rattle.std.specs.Prelude.{◌≡◌, ◌↔◌, ◌⊎◌, ◌++◌, ◌∷◌, ℕ, List, [], flat_map, slice_get, Some, Contains}
 use Rattle.lvl_grid.specs.declared.point.Point.{Point}
 use Rattle.lvl_grid.specs.declared.point.Square.{Square}
 use Rattle.lvl_grid.specs.declared.point.Window.{Window}
@@ -7,15 +7,11 @@ use Rattle.lvl_grid.specs.Clip.{IsInWindow}
 use Rattle.lvl_grid.specs.Turn.{image, image_square, shifted}
 use Rattle.lvl_names.specs.declared.layer.Layer.{Layer}
 use Rattle.lvl_cells.specs.Cells.{PlainCell, PlainReference, Rings, map_at}
-use Rattle.lvl_view.specs.declared.map.LayerPair.{LayerPair}
-use Rattle.lvl_view.specs.Views.{target_of}
-use Rattle.lvl_changed.specs.declared.area.Area.{Area}
 use Rattle.lvl_changed.specs.declared.arrays.Array.{Array}
 use Rattle.lvl_changed.specs.declared.placed.Placed.{Placed}
 use Rattle.lvl_changed.specs.declared.placements.Placement.{Placement}
-use Rattle.lvl_changed.specs.inside.Placements.{placed, partner_placed, PlacedCover, ReferencesCover}
+use Rattle.lvl_changed.specs.inside.Placements.{placed, PlacedCover, ReferencesCover}
 use Rattle.lvl_changed.specs.inside.Shifts.{AreMovedBy, AreSums}
-use Rattle.lvl_changed.specs.inside.Areas.{IsIn}
 
 -- the array as a reference, to a cell of no name
 abbrev pub as_reference : Array → PlainReference
@@ -40,11 +36,6 @@ IsArrayOf cells i j a =
     → (layer : Layer) (s : Square)
     → PlacedCover cells (each_place a) layer s ↔ ReferencesCover cells (r ∷ []) layer s
 
--- the cell at an index has no shapes and one reference
-abbrev pub IsWrapper : List (PlainCell Rings) → ℕ → Type 0
-IsWrapper cells i =
-    (c : PlainCell Rings) × (r : PlainReference) × (slice_get cells i ≡ Some c) × (c.shapes ≡ []) × (c.references ≡ r ∷ [])
-
 -- the first map is the second after the third, and the places are the sums of theirs
 pub record IsThrough (outer inner whole : Array) : Type 0 where
   pub cell : whole.cell ≡ inner.cell
@@ -60,31 +51,17 @@ IsRebased a b =
       shifts = b.shifts;
     }) × AreMovedBy d a.shifts b.shifts
 
--- both arrays cover the same
-abbrev pub CoversSame : List (PlainCell Rings) → Array → Array → Type 0
-CoversSame cells a b =
-    (layer : Layer) (s : Square)
-    → PlacedCover cells (each_place b) layer s ↔ PlacedCover cells (each_place a) layer s
-
 -- the new placements cover what the old ones or the array do
 abbrev pub AddsArray : List Placement → List Placement → Array → Type 0
 AddsArray old new a =
     (cells : List (PlainCell Rings)) (layer : Layer) (s : Square)
     → PlacedCover cells new layer s ↔ (PlacedCover cells old layer s ⊎ PlacedCover cells (each_place a) layer s)
 
--- the new placements cover what the old ones or the partner of the array's cell do, if it has one
-abbrev pub AddsPartner : List Placement → List Placement → Option ℕ → Array → Type 0
-AddsPartner old new partner a =
+-- the new placements cover what the old ones or the others do
+abbrev pub AddsArrays : List Placement → List Placement → List Placement → Type 0
+AddsArrays old new others =
     (cells : List (PlainCell Rings)) (layer : Layer) (s : Square)
-    → PlacedCover cells new layer s
-    ↔ (PlacedCover cells old layer s ⊎ PlacedCover cells (partner_placed partner (as_reference a)) layer s)
-
--- outside of the area that holds of one library, whose Layers are mapped
-abbrev pub AddsOutside : Area → List LayerPair → List (PlainCell Rings) → List Placement → List Placement → Array
-    → Type 0
-AddsOutside w pairs cells old new a =
-    (layer : Layer) (s : Square) → (¬ IsIn w (target_of pairs layer) s)
-    → PlacedCover cells new layer s ↔ (PlacedCover cells old layer s ⊎ PlacedCover cells (each_place a) layer s)
+    → PlacedCover cells new layer s ↔ (PlacedCover cells old layer s ⊎ PlacedCover cells others layer s)
 
 -- the window has the images of the other window's squares, at each place of the array
 abbrev pub HasEach : Array → Window → (Square → Type 0) → Type 0
@@ -101,8 +78,7 @@ pub record IsListed (cells : List (PlainCell Rings)) (old new : List Placement) 
   pub inside : PlacedCover cells new layer s
       → PlacedCover cells old layer s ⊎ PlacedCover cells (every_place arrays) layer s
 
--- that holds of all squares outside of the area, with the Layers mapped
-abbrev pub AreListed : Area → List LayerPair → List (PlainCell Rings) → List Placement → List Placement → List Array
-    → List Array → Type 0
-AreListed w pairs cells old new arrays others =
-    (layer : Layer) (s : Square) → (¬ IsIn w (target_of pairs layer) s) → IsListed cells old new arrays others layer s
+-- that holds of all squares
+abbrev pub AreListed : List Placement → List Placement → List Array → List Array → Type 0
+AreListed old new arrays others =
+    (cells : List (PlainCell Rings)) (layer : Layer) (s : Square) → IsListed cells old new arrays others layer s

@@ -22,9 +22,9 @@ pub record AreAlike (pairs : List LayerPair) (xs : List (PlainShape Rings)) (i :
 abbrev pub HasAlike : List LayerPair → List (PlainShape Rings) → ℕ → List LayerPair → List (PlainShape Rings) → Type 0
 HasAlike pairs xs i others ys = (j : ℕ) × AreAlike pairs xs i others ys j
 
--- `left` covers a part of what the shapes cover, and all that the other shapes don't
+-- `left` covers a part of what the shapes cover, and all that the other shapes don't, on the Layers as mapped
 pub record AreLeft (pairs : List LayerPair) (shapes : List (PlainShape Rings)) (others : List LayerPair)
     (ys left : List (PlainShape Rings)) : Type 0 where
-  pub inside : (layer : Layer) (s : Square) → ShapesCover left layer s → ShapesCover shapes layer s
+  pub inside : (layer : Layer) (s : Square) → ShapesCover left layer s → IsMoved pairs (ShapesCover shapes) layer s
   pub held : (layer : Layer) (s : Square) → IsMoved pairs (ShapesCover shapes) layer s
-      → IsMoved pairs (ShapesCover left) layer s ⊎ IsMoved others (ShapesCover ys) layer s
+      → ShapesCover left layer s ⊎ IsMoved others (ShapesCover ys) layer s

@@ -7,7 +7,7 @@ use Rattle.lvl_view.specs.Views.{target_of}
 use Rattle.lvl_changed.specs.declared.area.Area.{Area}
 use Rattle.lvl_changed.specs.inside.Areas.{IsIn}
 use Rattle.lvl_changed.specs.inside.Shapes.{ShapesCover}
-use Rattle.lvl_changed.proofs.Resting.{changes_have, changes_have_own}
+use Rattle.lvl_changed.proofs.Resting.{changes_have}
 use Rattle.lvl_changed.proofs.rests.changes_round.Goals as goal
 
 -- the shapes cover nothing outside of the area
@@ -25,20 +25,20 @@ returns-clause-ours c =
     let held : Misses old none cell.shapes =
     subst (Misses old none) (ap (λ (b : PlainCell Rings). b.shapes) c.first.view_is) c.in_ok-hold_extents.ensures.held in
     let wide = c.in_ok-hold_extents-2.ensures.kept in
-    changes_have_own none c.args.rest.now c.into_changes-changes.result c.whole-whole.ensures.no_pairs
-    (changes_have none c.args.rest.now cell new c.into_changes-changes.result c.top_of-first.ensures alone
-    (λ l s out. held l s (λ inside. out (wide.has (target_of none l) s inside))) c.into_changes-changes.ensures)
+    changes_have none c.args.rest.now cell new c.into_changes-changes.result c.whole-whole.ensures.no_pairs
+    c.top_of-first.ensures alone (λ l s out. held l s (λ inside. out (wide.has (target_of none l) s inside)))
+    c.into_changes-changes.ensures
 
 pub returns-clause-theirs : goal.returns-clause-theirs
 returns-clause-theirs c =
     let cell : PlainCell Rings = c.top_of-second.result.now in
-    let pairs : List LayerPair = c.args.view.now.pairs in
+    let none : List LayerPair = c.whole-whole.result.pairs in
     let new : Area = c.hold_extents-2.new.area in
     let alone : cell.references ≡ [] =
     sym (ap (λ (b : PlainCell Rings). b.references) c.second.view_is)
     ∙ c.is_empty-else-not-is_empty.ensures.0 c.if-not-is_empty-2.false in
-    let held : Misses new pairs cell.shapes =
-    subst (Misses new pairs) (ap (λ (b : PlainCell Rings). b.shapes) c.second.view_is)
+    let held : Misses new none cell.shapes =
+    subst (Misses new none) (ap (λ (b : PlainCell Rings). b.shapes) c.second.view_is)
     c.in_ok-hold_extents-2.ensures.held in
-    changes_have pairs c.args.their_rest.now cell new c.into_changes-changes.result c.top_of-second.ensures alone held
-    c.into_changes-changes.ensures
+    changes_have none c.args.their_rest.now cell new c.into_changes-changes.result c.whole-whole.ensures.no_pairs
+    c.top_of-second.ensures alone held c.into_changes-changes.ensures

@@ -1,5 +1,4 @@
 use Rattle.std.proofs.Common.{◌++◌, ◌∷◌, [], List, ap, ◌∙◌}
-use Rattle.lvl_grid.specs.declared.point.Point.{Point}
 use Rattle.lvl_changed.specs.declared.arrays.Array.{Array}
 use Rattle.lvl_changed.proofs.Arraying.{array_added}
 use Rattle.lvl_changed.proofs.Rowing.{rows_added}
@@ -13,8 +12,6 @@ returns-in_ok-append-in-Some c =
 
 pub returns-in_ok-push-in-None : goal.returns-in_ok-push-in-None
 returns-in_ok-push-in-None c = λ cells l s.
-    let a : Array = c.args.array.now in
     let old : List Array = c.args.all.now.items in
-    let of : List Point → Array = λ shifts. record { cell = a.cell; by = a.by; shifts = shifts } in
-    array_added cells [] old c.push.new.self.items a l s
-    (c.in_ok-push-in-None.ensures.items ∙ ap (λ shifts. old ++ of shifts ∷ []) c.in_ok-shifts-in-None.ensures.cases)
+    array_added cells [] old c.push.new.self.items c.args.array.now l s
+    (c.in_ok-push-in-None.ensures.items ∙ ap (λ (a : Array). old ++ a ∷ []) c.in_ok-copied-in-None.ensures)

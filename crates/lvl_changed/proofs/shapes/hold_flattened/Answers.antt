@@ -1,5 +1,4 @@
 use Rattle.std.proofs.lemmas.Result.{on_ok_weaker}
-use Rattle.lvl_changed.proofs.Own.{shapes_alike}
 use Rattle.lvl_changed.proofs.shapes.hold_flattened.Goals as goal
 
 pub returns-in_default-clause-held : goal.returns-in_default-clause-held
@@ -19,7 +18,7 @@ returns-clause-held c =
     let ours = rw c.in-Some.is at c.in_ok-ours.ensures in
     let theirs = rw c.in-Some-2.is at c.in_ok-theirs.ensures in
     on_ok_weaker c.hold_flats.result
-    (λ same.
-    shapes_alike c.in-Some.ours c.in-Some-2.theirs c.in_ok-mapped.mapped c.args.ours.now.shapes c.args.theirs.now.shapes
-    c.args.view.now.pairs c.hold_flats.new.area ours theirs c.in_ok-mapped.ensures.covers same)
-    c.hold_flats.ensures.held
+    (λ same l s out. (
+      λ h. (theirs l s).0 ((same l s out).0 ((ours l s).1 h)),
+      λ h. (ours l s).0 ((same l s out).1 ((theirs l s).1 h)),
+    )) c.hold_flats.ensures.held
