@@ -41,6 +41,7 @@ ANSWERS = {
     "Digests": ["lvl_corners"],
     "Reasons": ["lvl_grid", "lvl_why", "lvl_witness"],
     "Views": ["lvl_view", "lvl_count"],
+    "Grid steps": ["lvl_units"],
     "Answers": ["lvl"],
 }
 
@@ -73,7 +74,6 @@ PARTS = [
         ("lvl/src/compare.rt", "compare_layouts", None),
         ("lvl/src/compare.rt", "compare_view", None),
         ("lvl/src/compare.rt", "compare_files", None),
-        ("lvl/src/compare.rt", "explain_files", None),
         ("lvl/src/digest.rt", "digest_file", None),
         ("lvl/src/digest.rt", "digests_decide", None),
         ("lvl/src/layout.rt", "widening_keeps", None),

@@ -12,5 +12,5 @@ pub mod Hashing
 pub mod Columns
 pub mod Listing
 pub mod Reasoning
-pub mod Measuring
+pub mod Answering
 pub mod CellLists

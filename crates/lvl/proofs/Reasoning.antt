@@ -23,7 +23,8 @@ use Rattle.lvl.specs.Kept.{Kept}
 use Rattle.lvl.specs.Layouts.{File, IsLayoutOf}
 use Rattle.lvl.specs.Reasons.{IsKeptReason, IsReasonIn, IsReasonOf}
 
-abbrev kept_with : File → List (PlainCell Rings) → Kept
+-- the library of a file, as it is kept
+abbrev pub kept_with : File → List (PlainCell Rings) → Kept
 kept_with file cells = record { limits = file.profile.limits; cells = cells; top = file.top }
 
 pub reason_in : (view : PlainView) (a b : File) (ours theirs : List (PlainCell Rings)) (g h : Head)

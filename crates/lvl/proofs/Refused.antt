@@ -1,5 +1,6 @@
 -- What a refusal says about the two files, step by step.
-use Rattle.std.proofs.Common.{◌≡◌, List, sym, ◌∙◌, subst}
+use Rattle.std.proofs.Common.{◌≡◌, ℕ, List, false, Some, None, refl, sym, ◌∙◌, subst}
+use Rattle.lvl_io.specs.Bytes.{CountsFailure}
 use Rattle.lvl_cells.specs.Cells.{PlainCell, Rings}
 use Rattle.lvl_region.specs.declared.region.Side.{Side}
 use Rattle.lvl_region.specs.declared.region.Side.TheVariants.{First, Second}
@@ -11,12 +12,14 @@ use Rattle.lvl.specs.declared.verdict.Refusal.TheVariants.{Flat as FlatRefusal, 
 use Rattle.lvl.specs.Layouts.{File, SpellsSome, IsLayoutOf}
 use Rattle.lvl.specs.Accepted.{IsAccepted}
 use Rattle.lvl.specs.Kept.{Kept, Passes, IsFitted, IsKeptRefusal}
-use Rattle.lvl.specs.Answers.{HasPassed, IsEarlyOf, IsRefusalOf, PassesCheck}
+use Rattle.lvl.specs.Answers.{HasPassed, IsEarlyFile, IsEarlyOf, IsHopeless, IsRefusalOf, IsUnreadAt, PassesCheck}
+use Rattle.lvl.specs.Answers.{is_read_of, read_failed}
+use Rattle.lvl.specs.Readers.{Input, IsReadBy, file_of}
 use Rattle.lvl.specs.declared.layout.FileFault.{FileFault}
-use Rattle.lvl.specs.Sides.{IsOfFile}
+use Rattle.lvl.specs.Sides.{IsFileFault, IsOfFile}
 use Rattle.lvl.proofs.Lifting.{cell_reported, cell_unaccepted, range_reported, range_unaccepted, top_lifted}
 
-first_second : First ≡ Second → ⊥
+pub first_second : First ≡ Second → ⊥
 first_second e = cc
 
 -- a library that was read, checked and flattened
@@ -42,6 +45,92 @@ none_before First file First f e = tt
 none_before First file Second f e = absurd (first_second (sym e))
 none_before Second file s f e = tt
 
+own_refused : (side : Side) (file : File) (f : FileFault) → IsFileFault file.profile file.bytes f
+    → IsRefusalOf side file (FileRefusal side f)
+own_refused side file f h = record {
+  unaccepted = λ b cells top accepted. h.nothing b.1 cells accepted.head accepted.spelled;
+  reported = λ same. h.reported;
+  passed = none_before side file side f refl;
+}
+
+own_read : (side : Side) (f : FileFault) → is_read_of side (Some (FileRefusal side f)) ≡ read_failed f
+own_read First f = refl
+own_read Second f = refl
+
+-- what is promised of a reader whose file wasn't read
+pub unread : (side : Side) (a : Input) (f : FileFault)
+    → ((xs : List ℕ) → a.bytes ≡ Some xs → IsFileFault a.profile xs f)
+    → ((xs : List ℕ) → a.bytes ≡ Some xs → IsEarlyFile f → IsHopeless a.profile xs a.left)
+    → ((xs : List ℕ) → a.bytes ≡ Some xs → IsUnreadAt a.profile xs a.left f)
+    → CountsFailure a.before a.after (read_failed f) → IsReadBy side a (Some (FileRefusal side f))
+unread side a f fault early offset reads = record {
+  refused = λ xs known. own_refused side (file_of a xs) f (fault xs known);
+  early = λ xs known soon. early xs known soon.1;
+  unread = λ xs known other is.
+      (let same : f ≡ other = cc in subst (IsUnreadAt a.profile xs a.left) same (offset xs known));
+  reads = subst (CountsFailure a.before a.after) (sym (own_read side f)) reads;
+}
+
+-- the refusal isn't that this side's file wasn't read
+abbrev pub IsElsewhere : Side → Refusal → Type 0
+IsElsewhere side (FileRefusal s f) = s ≡ side → ⊥
+IsElsewhere side (CellsRefusal s f) = Unit {0}
+IsElsewhere side (FlatRefusal s f) = Unit {0}
+IsElsewhere side OutOfMemory = Unit {0}
+
+never_early : (side : Side) (r : Refusal) → IsElsewhere side r → IsEarlyOf side r → ⊥
+never_early side (FileRefusal s f) other soon = other soon.0
+never_early side (CellsRefusal s f) other soon = soon
+never_early side (FlatRefusal s f) other soon = soon
+never_early side OutOfMemory other soon = soon
+
+not_own : (side : Side) (r : Refusal) (f : FileFault) → IsElsewhere side r → Some r ≡ Some (FileRefusal side f) → ⊥
+not_own side r f other is =
+    let same : r ≡ FileRefusal side f = cc in
+    let own : IsElsewhere side (FileRefusal side f) = subst (IsElsewhere side) same other in own refl
+
+not_read : (side : Side) (r : Refusal) → IsElsewhere side r → is_read_of side (Some r) ≡ false
+not_read First (FileRefusal First f) other = absurd (other refl)
+not_read First (FileRefusal Second f) other = refl
+not_read First (CellsRefusal s f) other = refl
+not_read First (FlatRefusal s f) other = refl
+not_read First OutOfMemory other = refl
+not_read Second (FileRefusal First f) other = refl
+not_read Second (FileRefusal Second f) other = absurd (other refl)
+not_read Second (CellsRefusal s f) other = refl
+not_read Second (FlatRefusal s f) other = refl
+not_read Second OutOfMemory other = refl
+
+none_read : (side : Side) → is_read_of side None ≡ false
+none_read First = refl
+none_read Second = refl
+
+-- what is promised of a reader whose file was read
+pub read : (side : Side) (a : Input) → CountsFailure a.before a.after false → IsReadBy side a None
+read side a reads = record {
+  refused = λ xs known. tt;
+  early = λ xs known. tt;
+  unread = λ xs known fault is. cc;
+  reads = subst (CountsFailure a.before a.after) (sym (none_read side)) reads;
+}
+
+-- what is promised of a reader that returned no error, if the refusal isn't that its file wasn't read
+pub read_before : (side : Side) (a : Input) (r : Refusal) → IsElsewhere side r → CountsFailure a.before a.after false
+    → ((xs : List ℕ) → a.bytes ≡ Some xs → IsRefusalOf side (file_of a xs) r) → IsReadBy side a (Some r)
+read_before side a r other reads refused = record {
+  refused = refused;
+  early = λ xs known soon. absurd (never_early side r other soon);
+  unread = λ xs known fault is. absurd (not_own side r fault other is);
+  reads = subst (CountsFailure a.before a.after) (sym (not_read side r other)) reads;
+}
+
+-- a refusal that one side's file wasn't read is elsewhere for the other side
+pub elsewhere : (side other : Side) (r : Refusal) → (side ≡ other → ⊥) → IsOfFile side r → IsElsewhere other r
+elsewhere side other (FileRefusal s f) apart h = λ e. apart (sym h ∙ e)
+elsewhere side other (CellsRefusal s f) apart h = tt
+elsewhere side other (FlatRefusal s f) apart h = tt
+elsewhere side other OutOfMemory apart h = tt
+
 pub no_memory : (side : Side) (file : File) → IsRefusalOf side file OutOfMemory
 no_memory First file = record { unaccepted = λ b. absurd b; reported = tt; passed = tt }
 no_memory Second file = record { unaccepted = λ b. absurd b; reported = tt; passed = tt }
@@ -61,6 +150,17 @@ first_of_second file cells head read (FileRefusal Second f) h = record {
 first_of_second file cells head read (CellsRefusal s f) h = absurd h
 first_of_second file cells head read (FlatRefusal s f) h = absurd h
 first_of_second file cells head read OutOfMemory h = no_memory First file
+
+pub second_of_first : (file : File) (r : Refusal) → IsOfFile First r → IsRefusalOf Second file r
+second_of_first file (FileRefusal First f) h = record {
+  unaccepted = λ b. absurd (first_second b.0);
+  reported = λ e. absurd (first_second e);
+  passed = tt;
+}
+second_of_first file (FileRefusal Second f) h = absurd (first_second (sym h))
+second_of_first file (CellsRefusal s f) h = absurd h
+second_of_first file (FlatRefusal s f) h = absurd h
+second_of_first file OutOfMemory h = no_memory Second file
 
 -- libraries that weren't compared
 
@@ -116,11 +216,3 @@ second_refused b k cells head read (FlatRefusal Second f) h = record {
   passed = passes b cells head read (h.1.settled, h.1.checked);
 }
 second_refused b k cells head read OutOfMemory h = no_memory Second b
-
--- only the file that wasn't read can have been refused early
-
-pub not_early_of : (side other : Side) (r : Refusal) → (side ≡ other → ⊥) → IsOfFile side r → IsEarlyOf other r → ⊥
-not_early_of side other (FileRefusal s f) apart h e = apart (sym h ∙ e.0)
-not_early_of side other (CellsRefusal s f) apart h e = e
-not_early_of side other (FlatRefusal s f) apart h e = e
-not_early_of side other OutOfMemory apart h e = e

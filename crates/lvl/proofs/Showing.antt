@@ -1,5 +1,5 @@
 -- From what is shown of a library of rings to what the bytes of the file spell.
-use Rattle.std.proofs.Common.{◌≡◌, ◌<◌, ◌+◌, ◌*◌, ℕ, List, [], ◌∷◌, Result, Ok, Err, IfErr, IfOk, length, map}
+use Rattle.std.proofs.Common.{◌≡◌, ◌<◌, ◌+◌, ◌*◌, ℕ, List, [], ◌∷◌, None, Result, Ok, Err, IfErr, IfOk, length, map}
 use Rattle.std.proofs.Common.{slice_get, Some, if◌then◌else◌, ◌==◌, ◌&&◌, refl, sym, ap, ◌∙◌, subst}
 use Rattle.std.specs.Prelude.{sum_by}
 use Rattle.std.proofs.lemmas.List.Sums.{sum_by-cons}
@@ -15,20 +15,16 @@ use Rattle.lvl.specs.declared.shown.Shown.{Shown}
 use Rattle.lvl.specs.declared.verdict.Refusal.{Refusal}
 use Rattle.lvl.specs.declared.verdict.Refusal.TheVariants.{File as FileRefusal, Cells as CellsRefusal}
 use Rattle.lvl.specs.declared.verdict.Refusal.TheVariants.{Flat as FlatRefusal, OutOfMemory}
-use Rattle.lvl.specs.Layouts.{File, Spells, SpellsSome, IsLayoutOf}
-use Rattle.lvl.specs.declared.verdict.CellRefusal.{CellRefusal}
-use Rattle.lvl_flat.specs.declared.fault.FlatFault.{FlatFault}
-use Rattle.lvl_region.specs.declared.region.Side.{Side}
-use Rattle.lvl.specs.Kept.{Kept}
-use Rattle.lvl.specs.Answers.{HasPassed, IsEarlyOf, IsRefusalOf, PassesCheck}
-use Rattle.lvl.specs.Sides.{kept_named}
+use Rattle.lvl.specs.Layouts.{File, Spells, IsLayoutOf}
+use Rattle.lvl.specs.Kept.{IsKeptRefusal, Kept}
+use Rattle.lvl.specs.Readers.{Input, IsFoundBy, IsReadBy, file_of}
+use Rattle.lvl.specs.Sides.{IsOfFile, kept_named}
 use Rattle.lvl_count.specs.Counted.{AreCounted}
 use Rattle.lvl_count.specs.declared.counts.LayerRings.{LayerRings}
-use Rattle.lvl.specs.Shown.{IsShownOf, IsShownFile, IsShownKept, IsShowRefusal}
+use Rattle.lvl.specs.Shown.{IsOfFirst, IsShownOf, IsShownFile, IsShownKept, IsShowRefusal}
 use Rattle.lvl.proofs.Keeping.{over_kept, length_kept, sound_kept, cell_kept}
-use Rattle.lvl.proofs.Lifting.{top_lifted, one_top, one_cell, cell_reported, cell_unaccepted, range_reported}
-use Rattle.lvl.proofs.Lifting.{range_unaccepted}
-use Rattle.lvl.proofs.Refused.{no_memory, passes, spells}
+use Rattle.lvl.proofs.Lifting.{top_lifted, one_top, one_cell}
+use Rattle.lvl.proofs.Refused.{IsElsewhere, first_refused, first_second, read_before}
 
 sum_by-map : {X Y : Type 0} (f : X → Y) (g : Y → ℕ) (xs : List X) → sum_by g (map f xs) ≡ sum_by (λ x. g (f x)) xs
 sum_by-map f g [] = refl
@@ -107,40 +103,46 @@ pub file_shown : (file : File) (found : List (PlainCell Rings)) (head : Head)
 file_shown file found head read (Ok shown) head_is k = shown_lifted file found head read shown head_is k
 file_shown file found head read (Err r) head_is k = tt
 
-passed_cells : (side : Side) (file : File) (f : CellRefusal) → side ≡ First → SpellsSome file.profile file.bytes
-    → HasPassed First file (CellsRefusal side f)
-passed_cells First file f e some = some
-passed_cells Second file f e some = cc
+-- a refusal of one library is one of two that are this one
+of_two : (k : Kept) (r : Refusal) → IsShowRefusal k r → IsKeptRefusal k k r
+of_two k (FileRefusal side f) h = absurd h
+of_two k (CellsRefusal First f) h = h.1
+of_two k (CellsRefusal Second f) h = absurd (first_second (sym h.0))
+of_two k (FlatRefusal First f) h = (h.1, (h.1.settled, h.1.checked))
+of_two k (FlatRefusal Second f) h = absurd (first_second (sym h.0))
+of_two k OutOfMemory h = tt
 
-passed_flat : (side : Side) (file : File) (f : FlatFault) → side ≡ First → PassesCheck file
-    → HasPassed First file (FlatRefusal side f)
-passed_flat First file f e p = p
-passed_flat Second file f e p = cc
+-- a refusal of a library that was read isn't that the file wasn't read
+later : (k : Kept) (r : Refusal) → IsShowRefusal k r → IsElsewhere First r × IsOfFirst r
+later k (FileRefusal side f) h = absurd h
+later k (CellsRefusal side f) h = (tt, h.0)
+later k (FlatRefusal side f) h = (tt, h.0)
+later k OutOfMemory h = (tt, tt)
 
-pub show_refused : (file : File) (found : List (PlainCell Rings)) (head : Head)
-    → IsLayoutOf file.profile file.bytes found head
-    → (r : Refusal) → IsShowRefusal (kept_named file.profile.limits found file.top) r → IsRefusalOf First file r
-show_refused file found head read (FileRefusal side f) h = absurd h
-show_refused file found head read (CellsRefusal side f) h = record {
-  unaccepted = λ b. cell_unaccepted file found head read f h.1;
-  reported = λ e. cell_reported file found head read f h.1;
-  passed = passed_cells side file f h.0 (spells file found head read);
-}
-show_refused file found head read (FlatRefusal side f) h = record {
-  unaccepted = λ b. range_unaccepted file found head read f h.1;
-  reported = λ e. range_reported file found head read f h.1;
-  passed = passed_flat side file f h.0 (passes file found head read (h.1.settled, h.1.checked));
-}
-show_refused file found head read OutOfMemory h = no_memory First file
+-- a refusal of the first side's file is one of the first side
+pub of_first : (r : Refusal) → IsOfFile First r → IsOfFirst r
+of_first (FileRefusal side f) h = h
+of_first (CellsRefusal side f) h = absurd h
+of_first (FlatRefusal side f) h = absurd h
+of_first OutOfMemory h = tt
 
--- a refusal of a library that was read isn't early
-show_not_early : (k : Kept) (r : Refusal) → IsShowRefusal k r → IsEarlyOf First r → ⊥
-show_not_early k (FileRefusal side f) h e = h
-show_not_early k (CellsRefusal side f) h e = e
-show_not_early k (FlatRefusal side f) h e = e
-show_not_early k OutOfMemory h e = e
+module _ {X : Type 0} (Says : File → X → Type 0) (a : Input) where
+  -- the file wasn't read
+  pub none_found : (r : Refusal) → IsReadBy First a (Some r) → IsOfFile First r → IsFoundBy Says a (Err r)
+  none_found r read own = record { found = λ xs known. tt; read = read; side = of_first r own }
 
-pub show_never_early : {X : Type 0} (k : Kept) (P : Type 0) (r : Result X Refusal) → IfErr r (IsShowRefusal k)
-    → IfErr r (λ e. IsEarlyOf First e → P)
-show_never_early k P (Ok x) h = tt
-show_never_early k P (Err e) h = λ early. absurd (show_not_early k e h early)
+  -- the file was read
+  pub found_in : (found : List (PlainCell Rings)) (head : Head) → IsReadBy First a None
+      → ((xs : List ℕ) → a.bytes ≡ Some xs → IsLayoutOf a.profile xs found head) → (r : Result X Refusal)
+      → ((xs : List ℕ) → a.bytes ≡ Some xs → IfOk r (Says (file_of a xs)))
+      → IfErr r (IsShowRefusal (kept_named a.profile.limits found a.top)) → IsFoundBy Says a r
+  found_in found head read is (Ok x) says refused = record { found = says; read = read; side = tt }
+  found_in found head read is (Err e) says refused =
+      let k : Kept = kept_named a.profile.limits found a.top in
+      let after = later k e refused in
+      record {
+        found = says;
+        read = read_before First a e after.0 read.reads
+            (λ xs known. first_refused (file_of a xs) k found head (is xs known) e (of_two k e refused));
+        side = after.1;
+      }

@@ -1,5 +1,5 @@
 -- From a verdict on what the tops cover under a view to what the bytes of the files spell.
-use Rattle.std.proofs.Common.{◌≡◌, ◌↔◌, ◌∙◌, List, Option, Some, slice_get, ap, subst, sym}
+use Rattle.std.proofs.Common.{◌≡◌, ◌↔◌, ◌∙◌, Bool, true, false, List, Option, Some, slice_get, ap, subst, sym}
 use Rattle.std.specs.Prelude.{IfErr, IfSome, IsErr, IsErrAnd, Result, Ok, Err}
 use Rattle.lvl_grid.specs.declared.point.Square.{Square}
 use Rattle.lvl_grid.specs.Winding.{SomeCovers}
@@ -27,7 +27,12 @@ use Rattle.lvl.specs.Layouts.{File, IsLayoutOf}
 use Rattle.lvl.specs.Accepted.{Draws, IsVerdict}
 use Rattle.lvl.specs.Kept.{Kept, IsCheckedAs, IsInRangeAs, IsKeptRefusal, IsKeptVerdict, Places}
 use Rattle.lvl.specs.Sides.{IsFlattenRefusal}
-use Rattle.lvl.specs.Views.{IsComparedIn, IsVerdictOf, IsViewVerdict}
+use Rattle.lvl.specs.Questions.{Asked, IfAsked, IsJudged, IsKeptJudged}
+use Rattle.lvl.specs.Reasons.{IsKeptReason, IsReasonIn}
+use Rattle.lvl.specs.Views.{IsVerdictOf, IsViewVerdict}
+use Rattle.lvl.specs.declared.question.Judged.{Judged}
+use Rattle.lvl_why.specs.declared.why.Why.{Why}
+use Rattle.lvl.proofs.Reasoning.{kept_with, reason_in}
 use Rattle.lvl.proofs.Lifting.{alone_lifted, both_lifted, top_lifted}
 
 -- a verdict depends only on which squares are covered
@@ -105,22 +110,28 @@ kept_viewed view a b ours theirs g h p q v k =
           k.verdict;
     }
 
--- a whole comparison under a view
-pub compared_in : (view : PlainView) (a b : File) (ours theirs : List (PlainCell Rings)) (g h : Head)
-    → IsLayoutOf a.profile a.bytes ours g → IsLayoutOf b.profile b.bytes theirs h
-    → (v : Verdict)
-    → IsKeptVerdict view (record { limits = a.profile.limits; cells = ours; top = a.top }) (record { limits = b.profile.limits; cells = theirs; top = b.top }) v
-    → (u : Option Layer) → u ≡ first_undrawn theirs (sources view.pairs)
-    → IsComparedIn view a b (record { first = g; second = h; verdict = v; undrawn = u })
+-- a reason that is asked for, in another form
+pub if_asked : (asks : Bool) (P Q : Option Why → Type 0) (why : Option Why) → (P why → Q why) → IfAsked asks P why
+    → IfAsked asks Q why
+if_asked true P Q why f h = f h
+if_asked false P Q why f h = h
+
+-- how two libraries compare is how the files compare
+pub judged_in : (q : Asked) (a b : File) (ours theirs : List (PlainCell Rings)) (g h : Head)
+    → IsLayoutOf a.profile a.bytes ours g → IsLayoutOf b.profile b.bytes theirs h → (j : Judged)
+    → IsKeptJudged q (kept_with a ours) (kept_with b theirs) j → IsJudged q a b j
 unfolding kept_viewed
-compared_in view a b ours theirs g h p q v k u is = record {
-  first = (p.cells, p.spelled);
-  second = (q.cells, q.spelled);
-  verdict = kept_viewed view a b ours theirs g h p q v k;
-  undrawn =
-      is ∙ ap (λ cells. first_undrawn cells (sources view.pairs)) q.kept_as
-      ∙ undrawn_kept figure_rings q.cells (sources view.pairs);
-}
+judged_in q a b ours theirs g h p r j k =
+    let verdict = kept_viewed q.view a b ours theirs g h p r j.verdict k.verdict in
+    record {
+      verdict = verdict;
+      whole = λ whole. whole_verdict q.view whole a b j.verdict verdict;
+      undrawn =
+          k.undrawn ∙ ap (λ cells. first_undrawn cells (sources q.view.pairs)) r.kept_as
+          ∙ undrawn_kept figure_rings r.cells (sources q.view.pairs);
+      why = if_asked q.why (IsKeptReason q.view (kept_with a ours) (kept_with b theirs) j.verdict)
+          (IsReasonIn q.view a b j.verdict) j.why (reason_in q.view a b ours theirs g h p r j.verdict j.why) k.why;
+    }
 
 -- a library that passed the check, and whose top is in range
 pub in_range_as : (k : Kept) (s t : Settled) → IsCheckedAs k s → t ≡ s → IsTopInRange t → IsInRangeAs k t

@@ -1,5 +1,5 @@
 -- What a result says about two files: a verdict, or why one of them is refused.
-use Rattle.std.specs.Prelude.{◌≡◌, ◌≢◌, ◌≤◌, ⊤, ℕ, Bool, false, List, ◌++◌, length, Option, Some, Result, Ok, Err, None}
+use Rattle.std.specs.Prelude.{◌≡◌, ◌≢◌, ◌≤◌, ⊤, ℕ, Bool, false, List, ◌++◌, length, Option, Some, Result, Ok, Err}
 use Rattle.std.specs.Io.KnownBytes.{prepend_known}
 use Rattle.lvl_profile.specs.declared.profile.Profile.{Profile}
 use Rattle.lvl_path.specs.Figure.{figure_rings}
@@ -19,12 +19,11 @@ use Rattle.oasis_library.specs.Ends.{ReportsUnread as ReportsUnreadOasis, is_rea
 use Rattle.lvl.specs.declared.layout.Head.{Head}
 use Rattle.lvl.specs.declared.layout.FileFault.{FileFault}
 use Rattle.lvl.specs.declared.layout.FileFault.TheVariants.{Gds, Oasis}
-use Rattle.lvl.specs.declared.verdict.Comparison.{Comparison}
 use Rattle.lvl.specs.declared.verdict.Refusal.{Refusal}
 use Rattle.lvl.specs.declared.verdict.Refusal.TheVariants.{File as FileRefusal, Cells as CellsRefusal}
 use Rattle.lvl.specs.declared.verdict.Refusal.TheVariants.{Flat as FlatRefusal, OutOfMemory}
-use Rattle.lvl.specs.Layouts.{File, IsOasis, Spells, SpellsSome, HasHead}
-use Rattle.lvl.specs.Accepted.{IsAccepted, IsUnaccepted, IsVerdict}
+use Rattle.lvl.specs.Layouts.{File, IsOasis, Spells, SpellsSome}
+use Rattle.lvl.specs.Accepted.{IsAccepted, IsUnaccepted}
 use Rattle.lvl.specs.Kept.{Kept, Passes, IsCellFault, IsRangeFault}
 
 -- the fault is a failed read, and says nothing about the file
@@ -41,14 +40,14 @@ abbrev pub ReportsOfFile : Profile → List ℕ → FileFault → Type 0
 ReportsOfFile profile bytes (Gds f) = (f ≢ nothing_read → ¬ IsOasis bytes) × ReportsGds profile bytes f
 ReportsOfFile profile bytes (Oasis f) = IsOasis bytes × ReportsOasis profile bytes f
 
--- if the fault is a failed read, the bytes before its offset are a front; of those from it on, the ones that the reader
--- gave are none or an unfinished beginning of a record, and it has the others left
+-- if the fault is a failed read, the bytes before its offset are a front; of those from it on, the ones that the
+-- reader gave are none or an unfinished beginning of a record, and it has the others left
 abbrev pub ReportsUnreadFile : Profile → List ℕ → Option (List ℕ) → FileFault → Type 0
 ReportsUnreadFile profile bytes left (Gds f) = ReportsUnreadGds profile bytes left f
 ReportsUnreadFile profile bytes left (Oasis f) = ReportsUnreadOasis profile bytes left f
 
--- if the fault is a failed read, its offset is right, though the first byte of the file, which says its format, may not be
--- counted as given
+-- if the fault is a failed read, its offset is right, though the first byte of the file, which says its format, may
+-- not be counted as given
 pub record IsUnreadAt (profile : Profile) (bytes : List ℕ) (left : Option (List ℕ)) (fault : FileFault) : Type 0 where
   pub first : List ℕ
   pub few : length first ≤ 1
@@ -124,13 +123,6 @@ pub record IsHopeless (profile : Profile) (xs : List ℕ) (left : Option (List �
   pub left_is : left ≡ Some rest
   pub none : (more : List ℕ) → SpellsSome profile (taken ++ more) → ⊥
 
--- the heads are those that the bytes spell, and the verdict is true; there is no map
-pub record IsCompared (a b : File) (c : Comparison) : Type 0 where
-  pub first : HasHead a.profile a.bytes c.first
-  pub second : HasHead b.profile b.bytes c.second
-  pub verdict : IsVerdict a b c.verdict
-  pub undrawn : c.undrawn ≡ None
-
 -- the fault is a failed read
 abbrev pub read_failed : FileFault → Bool
 read_failed (Gds f) = is_read_kind f.kind
@@ -142,8 +134,8 @@ is_failed_read (Ok x) = false
 is_failed_read (Err (Breach f)) = read_failed f
 is_failed_read (Err NoMemory) = false
 
--- the result is that a read of that side failed
-abbrev pub is_read_of : {A : Type 0} → Side → Result A Refusal → Bool
-is_read_of First (Err (FileRefusal First f)) = read_failed f
-is_read_of Second (Err (FileRefusal Second f)) = read_failed f
-is_read_of side answer = false
+-- the refusal is that a read of that side failed
+abbrev pub is_read_of : Side → Option Refusal → Bool
+is_read_of First (Some (FileRefusal First f)) = read_failed f
+is_read_of Second (Some (FileRefusal Second f)) = read_failed f
+is_read_of side refusal = false

@@ -10,5 +10,6 @@ pub mod Hashes
 pub mod Views
 pub mod Reasons
 pub mod Steps
-pub mod Measured
+pub mod Readers
+pub mod Questions
 pub mod Listings

@@ -12,8 +12,6 @@ use Rattle.lvl.specs.Answers.{kept_of}
 use Rattle.lvl.specs.Drawing.{Drawing}
 use Rattle.lvl.specs.Kept.{Kept, IsCheckedAs}
 use Rattle.lvl.specs.Layouts.{File, Spells}
-use Rattle.lvl.specs.Views.{IsComparedIn}
-use Rattle.lvl.specs.declared.explained.Explained.{Explained}
 use Rattle.lvl.specs.declared.layout.Head.{Head}
 use Rattle.lvl.specs.declared.verdict.Verdict.{Verdict}
 use Rattle.lvl.specs.declared.verdict.Verdict.TheVariants.{Same, Differ}
@@ -50,8 +48,3 @@ pub record IsReasonIn (view : PlainView) (a b : File) (v : Verdict) (why : Optio
   pub first : Spells a.profile a.bytes ours our_head
   pub second : Spells b.profile b.bytes theirs their_head
   pub reason : IsKeptReason view (kept_of a ours) (kept_of b theirs) v why
-
--- the comparison is true of both files, and so is its reason
-pub record IsExplainedIn (view : PlainView) (a b : File) (e : Explained) : Type 0 where
-  pub compared : IsComparedIn view a b e.comparison
-  pub reason : IsReasonIn view a b e.comparison.verdict e.why

@@ -41,13 +41,6 @@ IsOfFile side (CellsRefusal s f) = ⊥
 IsOfFile side (FlatRefusal s f) = ⊥
 IsOfFile side OutOfMemory = ⊤
 
--- the refusal of a file that wasn't read is true
-abbrev pub IsReadRefusal : Side → Profile → List ℕ → Refusal → Type 0
-IsReadRefusal side profile xs (FileRefusal s f) = (s ≡ side) × IsFileFault profile xs f
-IsReadRefusal side profile xs (CellsRefusal s f) = ⊥
-IsReadRefusal side profile xs (FlatRefusal s f) = ⊥
-IsReadRefusal side profile xs OutOfMemory = ⊤
-
 -- the refusal by the check of cells is true
 abbrev pub IsCheckRefusal : Side → Kept → Refusal → Type 0
 IsCheckRefusal side k (FileRefusal s f) = ⊥

@@ -1,88 +1,132 @@
 //! Compares two files: reads them, checks them, and compares them strip by strip under a view.
-ghost use Rattle.std.specs.Prelude.{◌≡◌, false, List, ℕ, None, Some, Ok, Err, IfOk, IfErr, IsTrue};
-ghost use Rattle.lvl_io.specs.Bytes.{CountsFailure};
+ghost use Rattle.std.specs.Prelude.{◌≡◌, false, List, ℕ, Some, Ok, Err, IfOk, IfErr};
 ghost use Rattle.lvl_region.specs.declared.region.Side.TheVariants.{First, Second};
-ghost use Rattle.lvl_count.specs.Drawn.{first_undrawn};
 ghost use Rattle.lvl_names.specs.declared.layer.Layer.{Layer as PlainLayer};
 ghost use Rattle.lvl_grid.specs.declared.point.Square.{Square};
 ghost use Rattle.lvl_region.specs.declared.region.Side.{Side as WhichSide};
 ghost use Rattle.lvl_profile.specs.Profiles.{strict};
-ghost use Rattle.lvl_view.specs.Views.{IsWhole, sources};
+ghost use Rattle.lvl_view.specs.Views.{IsWhole};
 ghost use Rattle.lvl.specs.declared.layout.FileFault.{FileFault as FaultOfFile};
 ghost use Rattle.lvl.specs.declared.verdict.Verdict.TheVariants.{Same, Differ};
-ghost use Rattle.lvl.specs.declared.verdict.Refusal.TheVariants.{File as FileRefused, OutOfMemory};
-ghost use Rattle.lvl.specs.Accepted.{AreSame, AreDifferent, IsUnaccepted, IsVerdict};
+ghost use Rattle.lvl.specs.declared.verdict.Refusal.TheVariants.{File as FileRefused};
+ghost use Rattle.lvl.specs.Accepted.{AreSame, AreDifferent, IsVerdict};
 ghost use Rattle.lvl.specs.Kept.{Kept, IsCheckedAs, IsKeptVerdict, IsKeptRefusal};
-ghost use Rattle.lvl.specs.Measured.{IfCompared, IfUncompared, IsAfterSteps, IsBySteps, IsMeasuredIn, WasCompared};
-ghost use Rattle.lvl.specs.Answers.{Blames, HasPassed, IsEarlyOf, IsHopeless, IsRefusalOf, IsReported, IsUnreadAt};
-ghost use Rattle.lvl.specs.Answers.{is_read_of};
-ghost use Rattle.lvl.specs.Sides.{file, library_of};
-ghost use Rattle.lvl.specs.Reasons.{IsExplainedIn, IsKeptReason, IsReasonIn};
-ghost use Rattle.lvl.specs.Views.{IsComparedIn, IsViewVerdict};
+ghost use Rattle.lvl.specs.Questions.{IfAsked, IsAnswerBy, IsBySteps, IsKeptJudged, IsVerdictIn, asked};
+ghost use Rattle.lvl.specs.Readers.{IsReadBy, input, refusal_of};
+ghost use Rattle.lvl.specs.Reasons.{IsKeptReason};
+ghost use Rattle.lvl.specs.Sides.{file, given_name, library_of};
+ghost use Rattle.lvl.specs.Views.{IsViewVerdict};
 
-use crate::explained::{Explained, Judged};
-use crate::measured::{Asked, Measured, explained_of};
+use crate::question::{Answer, Judged, Question};
 use crate::reason::judge;
 use crate::side::{check_side, fit_side, read_side, undrawn_of};
 use crate::steps::may_compare;
-use crate::verdict::{Comparison, Refusal, Tops, Verdict};
+use crate::verdict::{Refusal, Tops, Verdict};
 use lvl_cells::{Checked, Library};
 use lvl_io::Read;
-use lvl_names::Layer;
-use lvl_profile::{Limits, Profile};
+use lvl_profile::Profile;
 use lvl_region::Side;
 use lvl_view::View;
+use lvl_why::Why;
 use std::alloc::Global;
 
-/// Checks the libraries of both files and compares them under the view. Returns the verdict, and which source of the
-/// map says nothing of the second library.
-fn compare_libraries(
-    alloc: Global,
-    limits: Limits,
-    ours: Library,
-    theirs: Library,
-    tops: &Tops,
-    view: &View,
-    explained: bool,
-) -> Result<(Judged, Option<Layer>), Refusal>
-    ensures verdict { IfOk result (λ found. IsKeptVerdict view.now
-        (library_of limits ours tops.now.first) (library_of limits theirs tops.now.second) found.0.verdict) }
-    ensures reason { IsTrue explained → IfOk result (λ found. IsKeptReason view.now
-        (library_of limits ours tops.now.first) (library_of limits theirs tops.now.second)
-        found.0.verdict found.0.why) }
-    ensures plain { explained ≡ false → IfOk result (λ found. found.0.why ≡ None) }
-    ensures undrawn { IfOk result (λ found. found.1 ≡ first_undrawn theirs (sources view.now.pairs)) }
-    ensures refused { IfErr result
-        (IsKeptRefusal (library_of limits ours tops.now.first) (library_of limits theirs tops.now.second)) }
-{
-    let undrawn = undrawn_of(alloc, &theirs, view)?;
-    let ours = check_side(alloc, Side::First, limits, ours, &tops.first)?;
-    let theirs = check_side(alloc, Side::Second, limits, theirs, &tops.second)?;
-    let judged = compare_checked(alloc, ours, theirs, view, explained)?;
-    Ok((judged, undrawn))
-}
-
-/// Compares two sound libraries under the view.
+/// Compares two sound libraries under the view. Returns the verdict, and its reason if that is asked for.
 fn compare_checked(
     alloc: Global,
     ours: Checked,
     theirs: Checked,
     view: &View,
     explained: bool,
-) -> Result<Judged, Refusal>
+) -> Result<(Verdict, Option<Why>), Refusal>
     ensures verdict { (a b : Kept) → IsCheckedAs a ours → IsCheckedAs b theirs
-        → IfOk result (λ judged. IsKeptVerdict view.now a b judged.verdict) }
-    ensures reason { (a b : Kept) → IsCheckedAs a ours → IsCheckedAs b theirs → IsTrue explained
-        → IfOk result (λ judged. IsKeptReason view.now a b judged.verdict judged.why) }
-    ensures plain { explained ≡ false → IfOk result (λ judged. judged.why ≡ None) }
+        → IfOk result (λ found. IsKeptVerdict view.now a b found.0) }
+    ensures reason { (a b : Kept) → IsCheckedAs a ours → IsCheckedAs b theirs
+        → IfOk result (λ found. IfAsked explained (IsKeptReason view.now a b found.0) found.1) }
     ensures refused { (a b : Kept) → IsCheckedAs a ours → IsCheckedAs b theirs
         → IfErr result (IsKeptRefusal a b) }
 {
     let ours = fit_side(alloc, Side::First, ours)?;
     let theirs = fit_side(alloc, Side::Second, theirs)?;
     match judge(alloc, &ours, &theirs, view, explained) {
-        Ok(judged) => Ok(judged),
+        Ok(found) => Ok(found),
         Err(_) => Err(Refusal::OutOfMemory),
+    }
+}
+
+/// Checks the libraries of both files and compares them.
+fn compare_libraries(
+    alloc: Global,
+    ours: Library,
+    theirs: Library,
+    question: &Question<'_>,
+) -> Result<Judged, Refusal>
+    ensures judged { IfOk result (IsKeptJudged (asked question.now)
+        (library_of question.now.profile.limits ours question.now.tops.now.first)
+        (library_of question.now.profile.limits theirs question.now.tops.now.second)) }
+    ensures refused { IfErr result (IsKeptRefusal
+        (library_of question.now.profile.limits ours question.now.tops.now.first)
+        (library_of question.now.profile.limits theirs question.now.tops.now.second)) }
+{
+    let limits = question.profile.limits;
+    let undrawn = undrawn_of(alloc, &theirs, question.view)?;
+    let ours = check_side(alloc, Side::First, limits, ours, &question.tops.first)?;
+    let theirs = check_side(alloc, Side::Second, limits, theirs, &question.tops.second)?;
+    let (verdict, why) = compare_checked(alloc, ours, theirs, question.view, question.why)?;
+    Ok(Judged {
+        verdict,
+        undrawn,
+        why,
+    })
+}
+
+/// The answer to a question on two files. The second file isn't read if the first is refused while it is read; and if
+/// their grid steps must agree ([`agree_in_steps`](crate::agree_in_steps)) and don't, the files are read and nothing
+/// else is done. [`compare_layouts`] and [`compare_view`] are this call with the standard profile.
+///
+/// The reason says by which references and which shape the side that alone covers the square does so. On the second
+/// side, a shape counts whose Layer is mapped to that of the difference.
+pub fn compare_files<A: Read, B: Read>(
+    alloc: Global,
+    first: &mut A,
+    second: &mut B,
+    question: &Question<'_>,
+) -> Result<Answer, Refusal>
+    ensures answer { IsAnswerBy (asked question.now)
+        (input question.now.profile (A.remaining first.old) (A.remaining first.new)
+        (A.read_errors first.old) (A.read_errors first.new) (given_name question.now.tops.now.first))
+        (input question.now.profile (B.remaining second.old) (B.remaining second.new)
+        (B.read_errors second.old) (B.read_errors second.new) (given_name question.now.tops.now.second)) result }
+    ensures kept { (fault : FaultOfFile) → result ≡ Err (FileRefused First fault) → second.new ≡ second.old }
+{
+    let (ours, first) = read_side(alloc, Side::First, first, question.profile)?;
+    let (theirs, second) = read_side(alloc, Side::Second, second, question.profile)?;
+    if !may_compare(question.units, &first, &second) {
+        return Ok(Answer {
+            first,
+            second,
+            judged: None,
+        });
+    }
+    let judged = compare_libraries(alloc, ours, theirs, question)?;
+    Ok(Answer {
+        first,
+        second,
+        judged: Some(judged),
+    })
+}
+
+/// The verdict of an answer to a question in which the grid steps needn't agree.
+fn verdict_of(answer: Result<Answer, Refusal>) -> Result<Verdict, Refusal>
+    requires { IfOk answer (IsBySteps false) }
+    ensures verdict { IfOk result (IsVerdictIn answer) }
+    ensures refusal { refusal_of result ≡ refusal_of answer }
+{
+    match answer {
+        Ok(answer) => match answer.judged {
+            Some(judged) => Ok(judged.verdict),
+            None => unreachable!(),
+        },
+        Err(refusal) => Err(refusal),
     }
 }
 
@@ -105,44 +149,13 @@ pub fn compare_layouts<A: Read, B: Read>(
     ensures differ { (xs ys : List ℕ) → A.remaining first.old ≡ Some xs → B.remaining second.old ≡ Some ys
         → (layer : PlainLayer) (square : Square) (side : WhichSide) → result ≡ Ok (Differ layer square side)
         → AreDifferent (file strict xs tops.now.first) (file strict ys tops.now.second) layer square side }
-    ensures first_refused { (xs : List ℕ) → A.remaining first.old ≡ Some xs
-        → IfErr result (λ r. Blames First r → IsUnaccepted (file strict xs tops.now.first)) }
-    ensures second_refused { (ys : List ℕ) → B.remaining second.old ≡ Some ys
-        → IfErr result (λ r. Blames Second r → IsUnaccepted (file strict ys tops.now.second)) }
-    ensures first_reported { (xs : List ℕ) → A.remaining first.old ≡ Some xs
-        → IfErr result (IsReported First (file strict xs tops.now.first)) }
-    ensures second_reported { (ys : List ℕ) → B.remaining second.old ≡ Some ys
-        → IfErr result (IsReported Second (file strict ys tops.now.second)) }
-    ensures first_passed { (xs : List ℕ) → A.remaining first.old ≡ Some xs
-        → IfErr result (HasPassed First (file strict xs tops.now.first)) }
-    ensures second_passed { (ys : List ℕ) → B.remaining second.old ≡ Some ys
-        → IfErr result (HasPassed Second (file strict ys tops.now.second)) }
-    ensures first_early { (xs : List ℕ) → A.remaining first.old ≡ Some xs
-        → IfErr result (λ r. IsEarlyOf First r → IsHopeless strict xs (A.remaining first.new)) }
-    ensures second_early { (ys : List ℕ) → B.remaining second.old ≡ Some ys
-        → IfErr result (λ r. IsEarlyOf Second r → IsHopeless strict ys (B.remaining second.new)) }
-    ensures first_unread { (xs : List ℕ) → A.remaining first.old ≡ Some xs
-        → (fault : FaultOfFile) → result ≡ Err (FileRefused First fault)
-        → IsUnreadAt strict xs (A.remaining first.new) fault }
-    ensures second_unread { (ys : List ℕ) → B.remaining second.old ≡ Some ys
-        → (fault : FaultOfFile) → result ≡ Err (FileRefused Second fault)
-        → IsUnreadAt strict ys (B.remaining second.new) fault }
-    ensures second_kept { (fault : FaultOfFile) → result ≡ Err (FileRefused First fault) → second.new ≡ second.old }
-    ensures first_reads { CountsFailure (A.read_errors first.old) (A.read_errors first.new) (is_read_of First result) }
-    ensures second_reads { CountsFailure (B.read_errors second.old) (B.read_errors second.new)
-        (is_read_of Second result) }
+    ensures first { IsReadBy First (input strict (A.remaining first.old) (A.remaining first.new)
+        (A.read_errors first.old) (A.read_errors first.new) (given_name tops.now.first)) (refusal_of result) }
+    ensures second { IsReadBy Second (input strict (B.remaining second.old) (B.remaining second.new)
+        (B.read_errors second.old) (B.read_errors second.new) (given_name tops.now.second)) (refusal_of result) }
+    ensures kept { (fault : FaultOfFile) → result ≡ Err (FileRefused First fault) → second.new ≡ second.old }
 {
-    match compare_files(
-        alloc,
-        first,
-        second,
-        tops,
-        &View::whole(alloc),
-        Profile::STANDARD,
-    ) {
-        Ok(compared) => Ok(compared.verdict),
-        Err(refusal) => Err(refusal),
-    }
+    compare_view(alloc, first, second, tops, &View::whole(alloc))
 }
 
 /// Whether two files draw the same mask under a view (own rule).
@@ -164,229 +177,18 @@ pub fn compare_view<A: Read, B: Read>(
     ensures whole { IsWhole view.now
         → (xs ys : List ℕ) → A.remaining first.old ≡ Some xs → B.remaining second.old ≡ Some ys
         → IfOk result (IsVerdict (file strict xs tops.now.first) (file strict ys tops.now.second)) }
-    ensures first_refused { (xs : List ℕ) → A.remaining first.old ≡ Some xs
-        → IfErr result (IsRefusalOf First (file strict xs tops.now.first)) }
-    ensures second_refused { (ys : List ℕ) → B.remaining second.old ≡ Some ys
-        → IfErr result (IsRefusalOf Second (file strict ys tops.now.second)) }
-    ensures first_early { (xs : List ℕ) → A.remaining first.old ≡ Some xs
-        → IfErr result (λ r. IsEarlyOf First r → IsHopeless strict xs (A.remaining first.new)) }
-    ensures second_early { (ys : List ℕ) → B.remaining second.old ≡ Some ys
-        → IfErr result (λ r. IsEarlyOf Second r → IsHopeless strict ys (B.remaining second.new)) }
-    ensures first_unread { (xs : List ℕ) → A.remaining first.old ≡ Some xs
-        → (fault : FaultOfFile) → result ≡ Err (FileRefused First fault)
-        → IsUnreadAt strict xs (A.remaining first.new) fault }
-    ensures second_unread { (ys : List ℕ) → B.remaining second.old ≡ Some ys
-        → (fault : FaultOfFile) → result ≡ Err (FileRefused Second fault)
-        → IsUnreadAt strict ys (B.remaining second.new) fault }
-    ensures second_kept { (fault : FaultOfFile) → result ≡ Err (FileRefused First fault) → second.new ≡ second.old }
-    ensures first_reads { CountsFailure (A.read_errors first.old) (A.read_errors first.new) (is_read_of First result) }
-    ensures second_reads { CountsFailure (B.read_errors second.old) (B.read_errors second.new)
-        (is_read_of Second result) }
+    ensures first { IsReadBy First (input strict (A.remaining first.old) (A.remaining first.new)
+        (A.read_errors first.old) (A.read_errors first.new) (given_name tops.now.first)) (refusal_of result) }
+    ensures second { IsReadBy Second (input strict (B.remaining second.old) (B.remaining second.new)
+        (B.read_errors second.old) (B.read_errors second.new) (given_name tops.now.second)) (refusal_of result) }
+    ensures kept { (fault : FaultOfFile) → result ≡ Err (FileRefused First fault) → second.new ≡ second.old }
 {
-    match compare_files(alloc, first, second, tops, view, Profile::STANDARD) {
-        Ok(viewed) => Ok(viewed.verdict),
-        Err(refusal) => Err(refusal),
-    }
-}
-
-/// Compares two files under a view and a profile, as [`compare_files`], [`explain_files`] and [`compare_measured`] do.
-fn compare_both<A: Read, B: Read>(
-    alloc: Global,
-    first: &mut A,
-    second: &mut B,
-    tops: &Tops,
-    view: &View,
-    profile: Profile,
-    asked: Asked,
-) -> Result<Measured, Refusal>
-    ensures compared { (xs ys : List ℕ) → A.remaining first.old ≡ Some xs → B.remaining second.old ≡ Some ys
-        → IfOk result (IfCompared (λ e. IsComparedIn view.now (file profile xs tops.now.first)
-        (file profile ys tops.now.second) e.comparison)) }
-    ensures reason { (xs ys : List ℕ) → A.remaining first.old ≡ Some xs → B.remaining second.old ≡ Some ys
-        → IsTrue asked.reason → IfOk result (IfCompared (λ e. IsReasonIn view.now (file profile xs tops.now.first)
-        (file profile ys tops.now.second) e.comparison.verdict e.why)) }
-    ensures plain { asked.reason ≡ false → IfOk result (IfCompared (λ e. e.why ≡ None)) }
-    ensures always { asked.steps ≡ false → IfOk result WasCompared }
-    ensures steps { IsTrue asked.steps → IfOk result IsBySteps }
-    ensures heads { (xs ys : List ℕ) → A.remaining first.old ≡ Some xs → B.remaining second.old ≡ Some ys
-        → IfOk result (IfUncompared (file profile xs tops.now.first) (file profile ys tops.now.second)) }
-    ensures after_steps { (xs ys : List ℕ) → A.remaining first.old ≡ Some xs → B.remaining second.old ≡ Some ys
-        → IsTrue asked.steps
-        → IfErr result (IsAfterSteps (file profile xs tops.now.first) (file profile ys tops.now.second)) }
-    ensures first_refused { (xs : List ℕ) → A.remaining first.old ≡ Some xs
-        → IfErr result (IsRefusalOf First (file profile xs tops.now.first)) }
-    ensures second_refused { (ys : List ℕ) → B.remaining second.old ≡ Some ys
-        → IfErr result (IsRefusalOf Second (file profile ys tops.now.second)) }
-    ensures first_early { (xs : List ℕ) → A.remaining first.old ≡ Some xs
-        → IfErr result (λ r. IsEarlyOf First r → IsHopeless profile xs (A.remaining first.new)) }
-    ensures second_early { (ys : List ℕ) → B.remaining second.old ≡ Some ys
-        → IfErr result (λ r. IsEarlyOf Second r → IsHopeless profile ys (B.remaining second.new)) }
-    ensures first_unread { (xs : List ℕ) → A.remaining first.old ≡ Some xs
-        → (fault : FaultOfFile) → result ≡ Err (FileRefused First fault)
-        → IsUnreadAt profile xs (A.remaining first.new) fault }
-    ensures second_unread { (ys : List ℕ) → B.remaining second.old ≡ Some ys
-        → (fault : FaultOfFile) → result ≡ Err (FileRefused Second fault)
-        → IsUnreadAt profile ys (B.remaining second.new) fault }
-    ensures second_kept { (fault : FaultOfFile) → result ≡ Err (FileRefused First fault) → second.new ≡ second.old }
-    ensures first_reads { CountsFailure (A.read_errors first.old) (A.read_errors first.new) (is_read_of First result) }
-    ensures second_reads { CountsFailure (B.read_errors second.old) (B.read_errors second.new)
-        (is_read_of Second result) }
-{
-    let (ours, first) = read_side(alloc, Side::First, first, profile)?;
-    let (theirs, second) = read_side(alloc, Side::Second, second, profile)?;
-    if !may_compare(asked.steps, &first, &second) {
-        return Ok(Measured::StepsDiffer { first, second });
-    }
-    let limits = profile.limits;
-    let (judged, undrawn) = compare_libraries(
-        alloc,
-        limits,
-        ours,
-        theirs,
+    let question = Question {
         tops,
         view,
-        asked.reason,
-    )?;
-    let Judged { verdict, why } = judged;
-    let comparison = Comparison {
-        first,
-        second,
-        verdict,
-        undrawn,
+        profile: Profile::STANDARD,
+        why: false,
+        units: false,
     };
-    Ok(Measured::Compared(Explained { comparison, why }))
-}
-
-/// Compares two files under a view and a profile, and returns the head of each, the verdict of [`compare_view`], and
-/// the first source of the map on which no cell of the second file has a shape. The second file isn't read if the first
-/// is refused. [`compare_layouts`] and [`compare_view`] are this call with the standard profile and without the heads.
-pub fn compare_files<A: Read, B: Read>(
-    alloc: Global,
-    first: &mut A,
-    second: &mut B,
-    tops: &Tops,
-    view: &View,
-    profile: Profile,
-) -> Result<Comparison, Refusal>
-    ensures compared { (xs ys : List ℕ) → A.remaining first.old ≡ Some xs → B.remaining second.old ≡ Some ys
-        → IfOk result (IsComparedIn view.now (file profile xs tops.now.first) (file profile ys tops.now.second)) }
-    ensures whole { IsWhole view.now
-        → (xs ys : List ℕ) → A.remaining first.old ≡ Some xs → B.remaining second.old ≡ Some ys
-        → IfOk result (λ c. IsVerdict (file profile xs tops.now.first) (file profile ys tops.now.second) c.verdict) }
-    ensures first_refused { (xs : List ℕ) → A.remaining first.old ≡ Some xs
-        → IfErr result (IsRefusalOf First (file profile xs tops.now.first)) }
-    ensures second_refused { (ys : List ℕ) → B.remaining second.old ≡ Some ys
-        → IfErr result (IsRefusalOf Second (file profile ys tops.now.second)) }
-    ensures first_early { (xs : List ℕ) → A.remaining first.old ≡ Some xs
-        → IfErr result (λ r. IsEarlyOf First r → IsHopeless profile xs (A.remaining first.new)) }
-    ensures second_early { (ys : List ℕ) → B.remaining second.old ≡ Some ys
-        → IfErr result (λ r. IsEarlyOf Second r → IsHopeless profile ys (B.remaining second.new)) }
-    ensures first_unread { (xs : List ℕ) → A.remaining first.old ≡ Some xs
-        → (fault : FaultOfFile) → result ≡ Err (FileRefused First fault)
-        → IsUnreadAt profile xs (A.remaining first.new) fault }
-    ensures second_unread { (ys : List ℕ) → B.remaining second.old ≡ Some ys
-        → (fault : FaultOfFile) → result ≡ Err (FileRefused Second fault)
-        → IsUnreadAt profile ys (B.remaining second.new) fault }
-    ensures second_kept { (fault : FaultOfFile) → result ≡ Err (FileRefused First fault) → second.new ≡ second.old }
-    ensures first_reads { CountsFailure (A.read_errors first.old) (A.read_errors first.new) (is_read_of First result) }
-    ensures second_reads { CountsFailure (B.read_errors second.old) (B.read_errors second.new)
-        (is_read_of Second result) }
-{
-    let asked = Asked {
-        reason: false,
-        steps: false,
-    };
-    match compare_both(alloc, first, second, tops, view, profile, asked) {
-        Ok(measured) => {
-            let explained = explained_of(measured);
-            Ok(explained.comparison)
-        }
-        Err(refusal) => Err(refusal),
-    }
-}
-
-/// Compares two files as [`compare_files`] does, and if they differ, also says why: by which references and which shape
-/// the side that alone covers the square does so. On the second side, a shape counts whose Layer is mapped to that of
-/// the difference.
-pub fn explain_files<A: Read, B: Read>(
-    alloc: Global,
-    first: &mut A,
-    second: &mut B,
-    tops: &Tops,
-    view: &View,
-    profile: Profile,
-) -> Result<Explained, Refusal>
-    ensures explained { (xs ys : List ℕ) → A.remaining first.old ≡ Some xs → B.remaining second.old ≡ Some ys
-        → IfOk result (IsExplainedIn view.now (file profile xs tops.now.first) (file profile ys tops.now.second)) }
-    ensures first_refused { (xs : List ℕ) → A.remaining first.old ≡ Some xs
-        → IfErr result (IsRefusalOf First (file profile xs tops.now.first)) }
-    ensures second_refused { (ys : List ℕ) → B.remaining second.old ≡ Some ys
-        → IfErr result (IsRefusalOf Second (file profile ys tops.now.second)) }
-    ensures first_early { (xs : List ℕ) → A.remaining first.old ≡ Some xs
-        → IfErr result (λ r. IsEarlyOf First r → IsHopeless profile xs (A.remaining first.new)) }
-    ensures second_early { (ys : List ℕ) → B.remaining second.old ≡ Some ys
-        → IfErr result (λ r. IsEarlyOf Second r → IsHopeless profile ys (B.remaining second.new)) }
-    ensures first_unread { (xs : List ℕ) → A.remaining first.old ≡ Some xs
-        → (fault : FaultOfFile) → result ≡ Err (FileRefused First fault)
-        → IsUnreadAt profile xs (A.remaining first.new) fault }
-    ensures second_unread { (ys : List ℕ) → B.remaining second.old ≡ Some ys
-        → (fault : FaultOfFile) → result ≡ Err (FileRefused Second fault)
-        → IsUnreadAt profile ys (B.remaining second.new) fault }
-    ensures second_kept { (fault : FaultOfFile) → result ≡ Err (FileRefused First fault) → second.new ≡ second.old }
-    ensures first_reads { CountsFailure (A.read_errors first.old) (A.read_errors first.new) (is_read_of First result) }
-    ensures second_reads { CountsFailure (B.read_errors second.old) (B.read_errors second.new)
-        (is_read_of Second result) }
-{
-    let asked = Asked {
-        reason: true,
-        steps: false,
-    };
-    match compare_both(alloc, first, second, tops, view, profile, asked) {
-        Ok(measured) => Ok(explained_of(measured)),
-        Err(refusal) => Err(refusal),
-    }
-}
-
-/// Compares two files as [`compare_files`] or, if the reason is asked for, as [`explain_files`] does, but only if their
-/// grid steps agree ([`agree_in_steps`](crate::agree_in_steps)). If they don't, the files are read and nothing else is
-/// done.
-pub fn compare_measured<A: Read, B: Read>(
-    alloc: Global,
-    first: &mut A,
-    second: &mut B,
-    tops: &Tops,
-    view: &View,
-    profile: Profile,
-    explained: bool,
-) -> Result<Measured, Refusal>
-    ensures measured { (xs ys : List ℕ) → A.remaining first.old ≡ Some xs → B.remaining second.old ≡ Some ys
-        → IfOk result
-        (IsMeasuredIn explained view.now (file profile xs tops.now.first) (file profile ys tops.now.second)) }
-    ensures steps { IfOk result IsBySteps }
-    ensures after_steps { (xs ys : List ℕ) → A.remaining first.old ≡ Some xs → B.remaining second.old ≡ Some ys
-        → IfErr result (IsAfterSteps (file profile xs tops.now.first) (file profile ys tops.now.second)) }
-    ensures first_refused { (xs : List ℕ) → A.remaining first.old ≡ Some xs
-        → IfErr result (IsRefusalOf First (file profile xs tops.now.first)) }
-    ensures second_refused { (ys : List ℕ) → B.remaining second.old ≡ Some ys
-        → IfErr result (IsRefusalOf Second (file profile ys tops.now.second)) }
-    ensures first_early { (xs : List ℕ) → A.remaining first.old ≡ Some xs
-        → IfErr result (λ r. IsEarlyOf First r → IsHopeless profile xs (A.remaining first.new)) }
-    ensures second_early { (ys : List ℕ) → B.remaining second.old ≡ Some ys
-        → IfErr result (λ r. IsEarlyOf Second r → IsHopeless profile ys (B.remaining second.new)) }
-    ensures first_unread { (xs : List ℕ) → A.remaining first.old ≡ Some xs
-        → (fault : FaultOfFile) → result ≡ Err (FileRefused First fault)
-        → IsUnreadAt profile xs (A.remaining first.new) fault }
-    ensures second_unread { (ys : List ℕ) → B.remaining second.old ≡ Some ys
-        → (fault : FaultOfFile) → result ≡ Err (FileRefused Second fault)
-        → IsUnreadAt profile ys (B.remaining second.new) fault }
-    ensures second_kept { (fault : FaultOfFile) → result ≡ Err (FileRefused First fault) → second.new ≡ second.old }
-    ensures first_reads { CountsFailure (A.read_errors first.old) (A.read_errors first.new) (is_read_of First result) }
-    ensures second_reads { CountsFailure (B.read_errors second.old) (B.read_errors second.new)
-        (is_read_of Second result) }
-{
-    let asked = Asked {
-        reason: explained,
-        steps: true,
-    };
-    compare_both(alloc, first, second, tops, view, profile, asked)
+    verdict_of(compare_files(alloc, first, second, &question))
 }

@@ -1,13 +1,9 @@
 //! The digest of one layout: the file is read and checked, and what it draws is hashed strip by strip.
-ghost use Rattle.std.specs.Prelude.{◌≡◌, ◌≢◌, List, ℕ, Some, Err, IfOk, IfErr, option_copied};
-ghost use Rattle.lvl_io.specs.Bytes.{CountsFailure};
-ghost use Rattle.lvl_region.specs.declared.region.Side.TheVariants.{First};
-ghost use Rattle.lvl.specs.Answers.{IsEarlyOf, IsHopeless, IsRefusalOf, IsUnreadAt, is_read_of};
+ghost use Rattle.std.specs.Prelude.{◌≡◌, IfOk, IfErr, option_copied};
 ghost use Rattle.lvl.specs.Digested.{DigestsDecide, IsDigestedFile, IsDigestedKept};
-ghost use Rattle.lvl.specs.Shown.{IsOfFirst, IsShowRefusal};
-ghost use Rattle.lvl.specs.Sides.{file_named, kept_named};
-ghost use Rattle.lvl.specs.declared.layout.FileFault.{FileFault as FaultOfFile};
-ghost use Rattle.lvl.specs.declared.verdict.Refusal.TheVariants.{File as FileRefused, OutOfMemory};
+ghost use Rattle.lvl.specs.Readers.{IsFoundBy, input};
+ghost use Rattle.lvl.specs.Shown.{IsShowRefusal};
+ghost use Rattle.lvl.specs.Sides.{kept_named};
 
 use crate::digested::{Digested, digest_fitted};
 use crate::layout::Head;
@@ -68,17 +64,8 @@ pub fn digest_file<R: Read>(
     top: Option<&[u8]>,
     profile: Profile,
 ) -> Result<Digested, Refusal>
-    ensures digested { (xs : List ℕ) → R.remaining reader.old ≡ Some xs
-        → IfOk result (IsDigestedFile (file_named profile xs (option_copied top.entry))) }
-    ensures refused { (xs : List ℕ) → R.remaining reader.old ≡ Some xs
-        → IfErr result (IsRefusalOf First (file_named profile xs (option_copied top.entry))) }
-    ensures early { (xs : List ℕ) → R.remaining reader.old ≡ Some xs
-        → IfErr result (λ r. IsEarlyOf First r → IsHopeless profile xs (R.remaining reader.new)) }
-    ensures unread { (xs : List ℕ) → R.remaining reader.old ≡ Some xs
-        → (fault : FaultOfFile) → result ≡ Err (FileRefused First fault)
-        → IsUnreadAt profile xs (R.remaining reader.new) fault }
-    ensures side { IfErr result IsOfFirst }
-    ensures reads { CountsFailure (R.read_errors reader.old) (R.read_errors reader.new) (is_read_of First result) }
+    ensures { IsFoundBy IsDigestedFile (input profile (R.remaining reader.old) (R.remaining reader.new)
+        (R.read_errors reader.old) (R.read_errors reader.new) (option_copied top.entry)) result }
 {
     let (library, head) = read_side(alloc, Side::First, reader, profile)?;
     digest_library(alloc, head, profile.limits, library, top)

@@ -1,15 +1,15 @@
 //! Why one of two layouts alone covers the square in which they differ.
-ghost use Rattle.std.specs.Prelude.{◌≡◌, false, All, Contains, IfOk, IsTrue, None};
+ghost use Rattle.std.specs.Prelude.{◌≡◌, All, Contains, IfOk};
 ghost use Rattle.lvl_columns.specs.Windows.{IsShown};
 ghost use Rattle.lvl_flat.specs.Flattened.{TopCovers};
 ghost use Rattle.lvl_grid.specs.declared.point.Square.{Square};
 ghost use Rattle.lvl_names.specs.declared.layer.Layer.{Layer as PlainLayer};
 ghost use Rattle.lvl_view.specs.Moved.{IsMoved};
 ghost use Rattle.lvl_view.specs.Views.{target_of};
+ghost use Rattle.lvl.specs.Questions.{IfAsked};
 ghost use Rattle.lvl.specs.Reasons.{IsReasonOf};
 ghost use Rattle.lvl.specs.Views.{IsVerdictOf};
 
-use crate::explained::Judged;
 use crate::fitted::compare_fitted;
 use crate::verdict::Verdict;
 use lvl_flat::Fitted;
@@ -69,24 +69,23 @@ fn reason_of(
     }
 }
 
-/// The verdict on two libraries under a view, with its reason if that is asked for.
+/// The verdict on two libraries under a view, and its reason if that is asked for.
 pub(crate) fn judge(
     alloc: Global,
     first: &Fitted,
     second: &Fitted,
     view: &View,
     explained: bool,
-) -> Result<Judged, AllocError>
-    ensures verdict { IfOk result (λ judged. IsVerdictOf (IsShown view.now.window) (TopCovers first.now)
-        (IsMoved view.now.pairs (TopCovers second.now)) judged.verdict) }
-    ensures reason { IsTrue explained
-        → IfOk result (λ judged. IsReasonOf view.now.pairs first.now second.now judged.verdict judged.why) }
-    ensures plain { explained ≡ false → IfOk result (λ judged. judged.why ≡ None) }
+) -> Result<(Verdict, Option<Why>), AllocError>
+    ensures verdict { IfOk result (λ found. IsVerdictOf (IsShown view.now.window) (TopCovers first.now)
+        (IsMoved view.now.pairs (TopCovers second.now)) found.0) }
+    ensures reason { IfOk result
+        (λ found. IfAsked explained (IsReasonOf view.now.pairs first.now second.now found.0) found.1) }
 {
     let verdict = compare_fitted(alloc, first, second, view)?;
     if !explained {
-        return Ok(Judged { verdict, why: None });
+        return Ok((verdict, None));
     }
     let why = reason_of(alloc, first, second, view, &verdict)?;
-    Ok(Judged { verdict, why })
+    Ok((verdict, why))
 }

@@ -1,12 +1,8 @@
 //! Shows one layout: reads it, checks it, and counts its cells and rings.
-ghost use Rattle.std.specs.Prelude.{◌≡◌, ◌≢◌, List, ℕ, Some, Err, IfOk, IfErr, option_copied};
-ghost use Rattle.lvl_io.specs.Bytes.{CountsFailure};
-ghost use Rattle.lvl_region.specs.declared.region.Side.TheVariants.{First};
-ghost use Rattle.lvl.specs.Answers.{IsEarlyOf, IsHopeless, IsRefusalOf, IsUnreadAt, is_read_of};
-ghost use Rattle.lvl.specs.Shown.{IsShownFile, IsShownKept, IsOfFirst, IsShowRefusal};
-ghost use Rattle.lvl.specs.Sides.{file_named, kept_named};
-ghost use Rattle.lvl.specs.declared.layout.FileFault.{FileFault as FaultOfFile};
-ghost use Rattle.lvl.specs.declared.verdict.Refusal.TheVariants.{File as FileRefused, OutOfMemory};
+ghost use Rattle.std.specs.Prelude.{◌≡◌, IfOk, IfErr, option_copied};
+ghost use Rattle.lvl.specs.Readers.{IsFoundBy, input};
+ghost use Rattle.lvl.specs.Shown.{IsShownFile, IsShownKept, IsShowRefusal};
+ghost use Rattle.lvl.specs.Sides.{kept_named};
 
 use crate::layout::Head;
 use crate::shown::{Shown, top_name};
@@ -69,17 +65,8 @@ pub fn show_file<R: Read>(
     top: Option<&[u8]>,
     profile: Profile,
 ) -> Result<Shown, Refusal>
-    ensures shown { (xs : List ℕ) → R.remaining reader.old ≡ Some xs
-        → IfOk result (IsShownFile (file_named profile xs (option_copied top.entry))) }
-    ensures refused { (xs : List ℕ) → R.remaining reader.old ≡ Some xs
-        → IfErr result (IsRefusalOf First (file_named profile xs (option_copied top.entry))) }
-    ensures early { (xs : List ℕ) → R.remaining reader.old ≡ Some xs
-        → IfErr result (λ r. IsEarlyOf First r → IsHopeless profile xs (R.remaining reader.new)) }
-    ensures unread { (xs : List ℕ) → R.remaining reader.old ≡ Some xs
-        → (fault : FaultOfFile) → result ≡ Err (FileRefused First fault)
-        → IsUnreadAt profile xs (R.remaining reader.new) fault }
-    ensures side { IfErr result IsOfFirst }
-    ensures reads { CountsFailure (R.read_errors reader.old) (R.read_errors reader.new) (is_read_of First result) }
+    ensures { IsFoundBy IsShownFile (input profile (R.remaining reader.old) (R.remaining reader.new)
+        (R.read_errors reader.old) (R.read_errors reader.new) (option_copied top.entry)) result }
 {
     let (library, head) = read_side(alloc, Side::First, reader, profile)?;
     show_library(alloc, head, profile.limits, library, top)

@@ -1,7 +1,6 @@
 //! The steps for one of two files: read it, check its cells, test where its top places anything outside 64 bits, and
 //! look for its shapes on the sources of a map.
-ghost use Rattle.std.specs.Prelude.{◌≡◌, List, ℕ, Some, None, Err, IfOk, IfErr, IfSome, option_copied};
-ghost use Rattle.lvl_io.specs.Bytes.{CountsFailure};
+ghost use Rattle.std.specs.Prelude.{◌≡◌, List, ℕ, Option, Some, None, IfOk, IfErr, IfSome, option_copied};
 ghost use Rattle.lvl_cells.specs.Soundness.{AreReferred};
 ghost use Rattle.lvl_count.specs.Drawn.{first_undrawn};
 ghost use Rattle.lvl_count.specs.Listed.{tops};
@@ -9,11 +8,10 @@ ghost use Rattle.lvl_flat.specs.Flattened.{IsTopInRange};
 ghost use Rattle.lvl_view.specs.Views.{sources};
 ghost use Rattle.lvl.specs.Layouts.{IsLayoutOf};
 ghost use Rattle.lvl.specs.Kept.{IsCheckedAs};
-ghost use Rattle.lvl.specs.Answers.{IsEarlyOf, IsHopeless, IsUnreadAt, is_read_of};
-ghost use Rattle.lvl.specs.Sides.{IsOfFile, IsReadRefusal, IsCheckRefusal, IsFlattenRefusal, given_name, library_of};
+ghost use Rattle.lvl.specs.Readers.{IsReadBy, input, refusal_of};
+ghost use Rattle.lvl.specs.Sides.{IsOfFile, IsCheckRefusal, IsFlattenRefusal, given_name, library_of};
 ghost use Rattle.lvl.specs.Sides.{kept_named};
-ghost use Rattle.lvl.specs.declared.layout.FileFault.{FileFault as FaultOfFile};
-ghost use Rattle.lvl.specs.declared.verdict.Refusal.TheVariants.{File as FileRefused, OutOfMemory};
+ghost use Rattle.lvl.specs.declared.verdict.Refusal.TheVariants.{OutOfMemory};
 
 use crate::layout::{Head, read_layout_with};
 use crate::verdict::{CellRefusal, Refusal};
@@ -37,15 +35,9 @@ pub(crate) fn read_side<R: Read>(
 ) -> Result<(Library, Head), Refusal>
     ensures read { (xs : List ℕ) → R.remaining reader.old ≡ Some xs
         → IfOk result (λ found. IsLayoutOf profile xs found.0 found.1) }
-    ensures refused { (xs : List ℕ) → R.remaining reader.old ≡ Some xs
-        → IfErr result (IsReadRefusal side profile xs) }
-    ensures early { (xs : List ℕ) → R.remaining reader.old ≡ Some xs
-        → IfErr result (λ r. IsEarlyOf side r → IsHopeless profile xs (R.remaining reader.new)) }
-    ensures unread { (xs : List ℕ) → R.remaining reader.old ≡ Some xs
-        → (fault : FaultOfFile) → result ≡ Err (FileRefused side fault)
-        → IsUnreadAt profile xs (R.remaining reader.new) fault }
+    ensures refused { (top : Option (List ℕ)) → IsReadBy side (input profile (R.remaining reader.old)
+        (R.remaining reader.new) (R.read_errors reader.old) (R.read_errors reader.new) top) (refusal_of result) }
     ensures own { IfErr result (IsOfFile side) }
-    ensures reads { CountsFailure (R.read_errors reader.old) (R.read_errors reader.new) (is_read_of side result) }
 {
     match read_layout_with(alloc, reader, profile) {
         Ok(layout) => Ok(layout.into_parts()),

@@ -1,6 +1,6 @@
 //! The result of a comparison: a verdict or a refusal.
 
-use crate::layout::{FileFault, Head};
+use crate::layout::FileFault;
 use lvl_cells::CellFault;
 use lvl_flat::FlatFault;
 use lvl_grid::Square;
@@ -28,18 +28,6 @@ pub enum Verdict {
         square: Square,
         side: Side,
     },
-}
-
-/// Two layouts that were compared: what each file says about itself, the verdict, and whether the map says nothing of
-/// the second file.
-#[derive(Clone, Copy, Debug, PartialEq, Eq)]
-pub struct Comparison {
-    pub first: Head,
-    pub second: Head,
-    pub verdict: Verdict,
-    /// The first source of the map on which no cell of the second file has a shape, if there is one: its pair moves
-    /// nothing, perhaps since a number in it is mistyped (own rule).
-    pub undrawn: Option<Layer>,
 }
 
 /// Why the cells of a file aren't sound for its top, or place too much.

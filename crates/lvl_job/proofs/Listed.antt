@@ -22,7 +22,7 @@ use Rattle.lvl_job.specs.inside.Loops.{IsCheckedAll, IsEntries, IsListing, IsLoo
 use Rattle.lvl_job.specs.inside.Steps.{Says, Speaking}
 use Rattle.lvl_job.specs.inside.Told.{IsCheckTold, IsEntriesTold, IsListTold, IsSummary}
 use Rattle.lvl_job.proofs.Passing.{no_notes}
-use Rattle.lvl_job.proofs.Saying.{keeps_same}
+use Rattle.lvl_report.proofs.Running.{keeps_same}
 use Rattle.lvl_job.proofs.Telling.{says_nothing}
 use Rattle.lvl_job.specs.Opening.{Opened}
 use Rattle.lvl_job.specs.declared.files.Look.{Look}

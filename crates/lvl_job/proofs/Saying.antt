@@ -1,15 +1,10 @@
 -- A text written in parts.
-use Rattle.std.proofs.Common.{◌≡◌, ℕ, List, ◌++◌, Result, Ok, Err, OnErr, subst, Option, Some, None, refl, ap, ◌∙◌}
+use Rattle.std.proofs.Common.{◌≡◌, ℕ, List, ◌++◌, subst, Option}
 use Rattle.std.proofs.Common.{sym, append_assoc}
-use Rattle.std.specs.Io.KnownBytes.{Appends, Keeps}
+use Rattle.std.specs.Io.KnownBytes.{Appends}
 use Rattle.std.proofs.KnownBytes.{Appends-trans}
 use Rattle.lvl_report.specs.Writing.{AppendsBeginning}
 use Rattle.lvl_report.proofs.Writing.{begins, begins_later}
-
--- known bytes stay the same
-pub keeps_same : (a : Option (List ℕ)) → Keeps a a
-keeps_same None = tt
-keeps_same (Some xs) = refl
 
 -- of a line in three parts, a beginning of the first was written
 pub in_first : (old new : Option (List ℕ)) (x a b c : List ℕ) → x ≡ a → AppendsBeginning old new x

@@ -16,7 +16,7 @@ use Rattle.lvl_job.specs.declared.fault.JobFault.TheVariants.{BadLine, LongList,
 use Rattle.lvl_job.specs.Ends.{IsSaid, end_text, is_looked_at, look_text}
 use Rattle.lvl_job.specs.declared.files.Look.{Look}
 use Rattle.lvl_job.specs.Hashing.{Hash, IsPart, IsPass, IsStopped, items_of, texts_of}
-use Rattle.lvl_job.specs.Jobs.{IsAnswered, IsFaultOfJob, IsIgnoreFault, UnderProfile, files_of}
+use Rattle.lvl_job.specs.Jobs.{IsFaultOfJob, IsIgnoreFault, IsJobRun, UnderProfile, files_of}
 use Rattle.lvl_job.specs.Listing.{checked_text, count_unlike, file_of_entry, file_of_name, name_listed, name_unlisted}
 use Rattle.lvl_job.specs.Listing.{ended_with, no_note, summary_text, worst_checked, worst_listed}
 use Rattle.lvl_job.specs.Opening.{Opened}
@@ -27,6 +27,10 @@ pub record Change : Type 0 where
   pub new : Option (List ℕ)
   pub before : ℕ
   pub after : ℕ
+
+-- a writer before and after, from these values in this order
+abbrev pub change : Option (List ℕ) → Option (List ℕ) → ℕ → ℕ → Change
+change old new before after = record { old = old; new = new; before = before; after = after }
 
 -- the text was written whole, and no write failed, or a beginning of it was, and one write failed
 abbrev pub IsSaidOn : Change → List ℕ → Type 0
@@ -39,8 +43,8 @@ AreLooks looks s (name ∷ names) text =
     (look : Look) × (rest : List ℕ) × looks s name look × AreLooks looks s names rest
     × (text ≡ look_text name look ++ rest)
 
--- what a job on the files of these names writes to standard error: what `end_text` has, and after a refusal that nothing
--- else explains what the files are
+-- what a job on the files of these names writes to standard error: what `end_text` has, and after a refusal that
+-- nothing else explains what the files are
 abbrev pub IsEndText : {S : Type 0} → (S → List ℕ → Look → Type 0) → S → List (List ℕ) → Result Outcome JobFault
     → List ℕ → Type 0
 IsEndText looks s names (Ok outcome) text =
@@ -53,7 +57,7 @@ IsEndText looks s names (Err fault) text = text ≡ end_text names (Err fault)
 pub record IsOneDone {S : Type 0} (opens : S → List ℕ → Opened → S → Type 0) (looks : S → List ℕ → Look → Type 0)
     (job : Job) (old new : S) (out err : Change) (ended : Result Outcome JobFault) : Type 0 where
   pub text : List ℕ
-  pub answered : IfOk ended (IsAnswered opens job old new out.old out.new)
+  pub answered : IfOk ended (λ outcome. IsJobRun opens job old new out.old out.new (Ok outcome))
   pub fault : IfErr ended (IsFaultOfJob opens job old new out.old out.new)
   pub text_is : IsEndText looks new (files_of job) ended text
   pub said : IsSaidOn err text
@@ -97,8 +101,8 @@ pub record IsListDone {S : Type 0} (opens : S → List ℕ → Opened → S → 
 
 -- ---- `--check`
 
--- the file of the list was opened and no read of it failed; if its bytes are known, they are a list of these entries, and
--- Holds is true of the entries
+-- the file of the list was opened and no read of it failed; if its bytes are known, they are a list of these entries,
+-- and Holds is true of the entries
 pub record OfList {S : Type 0} (opens : S → List ℕ → Opened → S → Type 0) (list : List ℕ) (old : S)
     (Holds : S → List Entry → Type 0) : Type 0 where
   pub bytes : Option (List ℕ)
@@ -120,8 +124,8 @@ pub record IsChecked {S : Type 0} (opens : S → List ℕ → Opened → S → T
   pub said_is : said ≡ summary_text (count_unlike done) (length entries)
   pub ends : outcome ≡ ended_with (worst_checked done)
 
--- the file of the list was opened, and no other file; `failed` says whether a read of it failed, and Holds is true of its
--- bytes, if they are known
+-- the file of the list was opened, and no other file; `failed` says whether a read of it failed, and Holds is true of
+-- its bytes, if they are known
 pub record IsListOpened {S : Type 0} (opens : S → List ℕ → Opened → S → Type 0) (list : List ℕ)
     (old new : S) (failed : Bool) (Holds : List ℕ → Type 0) : Type 0 where
   pub bytes : Option (List ℕ)

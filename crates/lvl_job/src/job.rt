@@ -1,33 +1,27 @@
 //! Does a job.
-ghost use Rattle.std.specs.Prelude.{◌≡◌, true, IfOk, IfErr, OnErr, Err, None, option_map, option_copied};
-ghost use Rattle.std.specs.Io.KnownBytes.{Keeps};
-ghost use Rattle.std.specs.Prelude.{string_bytes};
+ghost use Rattle.std.specs.Prelude.{◌≡◌, true, Ok, IfOk, IfErr, option_map, string_bytes};
 ghost use Rattle.lvl.specs.Sides.{given_name};
 ghost use Rattle.lvl_io.specs.Bytes.{CountsFailure};
-ghost use Rattle.lvl_job.specs.Done.{IsDone, IsOneDone};
+ghost use Rattle.lvl_job.specs.Done.{IsDone, IsOneDone, change};
 ghost use Rattle.lvl_job.specs.Ends.{end_code, is_cut};
-ghost use Rattle.lvl_job.specs.Jobs.{IsAnswered, IsComparedUnder, IsExplainedUnder, IsFaultOfJob, IsIgnoreAsked};
-ghost use Rattle.lvl_job.specs.Jobs.{IsPairBegun, IsPairWritten, IsProfileAsked, IsViewAsked, has_one_answer};
+ghost use Rattle.lvl_job.specs.Jobs.{IsFaultOfJob, IsFileDone, IsFileFault, IsIgnoreAsked, IsJobRun, IsProfileAsked};
+ghost use Rattle.lvl_job.specs.Jobs.{has_one_answer};
 ghost use Rattle.lvl_job.specs.Opening.{held_by_job, why_unopened};
-ghost use Rattle.lvl_job.specs.inside.Parts.{IsOneAnswered, IsOneFault, IsPairAnswered, IsPairFault, IsViewFault};
-ghost use Rattle.lvl_job.specs.inside.Parts.{fault_of_run, IsNoIgnore};
-ghost use Rattle.lvl_report.specs.Runs.{IsBegun, IsDigestedBy, IsListedBy, IsShownBy, IsWritten, input};
-ghost use Rattle.lvl_report.specs.Texts.{text_of, text_of_digested, text_of_explained, text_of_list, text_of_shown};
-ghost use Rattle.lvl_report.specs.Hints.{IsExplainedOutcome, IsOutcomeOf, IsShownOutcome};
-ghost use Rattle.lvl_report.specs.Writing.{is_output};
+ghost use Rattle.lvl_job.specs.inside.Parts.{IsNoIgnore, IsViewFault, fault_of_run};
+ghost use Rattle.lvl_view.specs.Views.{IsViewOf};
 
 use crate::fault::JobFault;
 use crate::files::Files;
 use crate::lists::{Asked, do_check, do_list};
 use crate::looked::{paths_of, say_answer};
-use crate::pair::{Pair, compare};
+use crate::pair::compare;
 use crate::said::say;
-use lvl::Tops;
+use lvl::{Question, Tops};
 use lvl_io::Write;
 use lvl_line::Job;
 use lvl_profile::{Ignore, Limits, Profile};
 use lvl_refusal::Cause;
-use lvl_report::{Outcome, RunFault, run_cells, run_digest, run_show_with};
+use lvl_report::{Outcome, Request, RunFault, Wanted, run_file};
 use lvl_view::View;
 use std::alloc::Global;
 
@@ -53,20 +47,13 @@ pub(crate) fn top_of(name: Option<String>) -> Option<Vec<u8>>
     }
 }
 
-/// The view that the texts of a map and a window give, if one of them is given.
-fn view_of(
-    alloc: Global,
-    map: &Option<String>,
-    window: &Option<String>,
-) -> Result<Option<View>, JobFault>
-    ensures view { IfOk result (IsViewAsked (option_map string_bytes map.now) (option_map string_bytes window.now)) }
+/// The view that the texts of a map and a window give.
+fn view_of(alloc: Global, map: &Option<String>, window: &Option<String>) -> Result<View, JobFault>
+    ensures view { IfOk result (IsViewOf (option_map string_bytes map.now) (option_map string_bytes window.now)) }
     ensures fault { IfErr result (IsViewFault (option_map string_bytes map.now) (option_map string_bytes window.now)) }
 {
-    if map.is_none() && window.is_none() {
-        return Ok(None);
-    }
     match View::read(alloc, map.as_deref(), window.as_deref()) {
-        Ok(view) => Ok(Some(view)),
+        Ok(view) => Ok(view),
         Err(Cause::Breach(fault)) => Err(JobFault::BadView(fault)),
         Err(Cause::OutOfMemory) => Err(JobFault::OutOfMemory),
     }
@@ -121,72 +108,32 @@ pub(crate) fn fault_of(fault: RunFault) -> JobFault
     }
 }
 
-/// Shows the file of a name.
-fn show<F: Files, O: Write>(
+/// Writes what is wanted of the file of a name.
+fn inspect<F: Files, O: Write>(
     alloc: Global,
     name: String,
-    top: Option<&[u8]>,
-    profile: Profile,
+    wanted: Wanted,
+    asked: Asked,
     files: &mut F,
     out: &mut O,
 ) -> Result<Outcome, JobFault>
-    ensures answered { IfOk result (IsOneAnswered F.opens IsShownBy text_of_shown (IsShownOutcome profile)
-        (record { profile = profile; name = string_bytes name; top = option_copied top.entry })
-        files.old files.new (O.contents out.old) (O.contents out.new)) }
-    ensures fault { IfErr result (IsOneFault F.opens IsShownBy text_of_shown
-        (record { profile = profile; name = string_bytes name; top = option_copied top.entry })
-        files.old files.new (O.contents out.old) (O.contents out.new)) }
+    ensures answered { IfOk result (λ outcome. IsFileDone F.opens wanted name asked.top asked.ignore asked.large
+        asked.unpack files.old files.new
+        (O.contents out.old) (O.contents out.new) (Ok outcome)) }
+    ensures fault { IfErr result (IsFileFault F.opens wanted name asked.top asked.ignore asked.large
+        asked.unpack files.old files.new
+        (O.contents out.old) (O.contents out.new)) }
     ensures errors { CountsFailure (O.write_errors out.old) (O.write_errors out.new) (is_cut result) }
 {
+    let profile = profile_of(alloc, &asked.ignore, asked.large, asked.unpack)?;
+    let top = top_of(asked.top);
     let mut file = open(files, name)?;
-    match run_show_with(alloc, &mut file, top, profile, out) {
-        Ok(outcome) => Ok(outcome),
-        Err(fault) => Err(fault_of(fault)),
-    }
-}
-
-/// Hashes what the file of a name draws.
-fn digest<F: Files, O: Write>(
-    alloc: Global,
-    name: String,
-    top: Option<&[u8]>,
-    profile: Profile,
-    files: &mut F,
-    out: &mut O,
-) -> Result<Outcome, JobFault>
-    ensures answered { IfOk result (IsOneAnswered F.opens IsDigestedBy text_of_digested (IsShownOutcome profile)
-        (record { profile = profile; name = string_bytes name; top = option_copied top.entry })
-        files.old files.new (O.contents out.old) (O.contents out.new)) }
-    ensures fault { IfErr result (IsOneFault F.opens IsDigestedBy text_of_digested
-        (record { profile = profile; name = string_bytes name; top = option_copied top.entry })
-        files.old files.new (O.contents out.old) (O.contents out.new)) }
-    ensures errors { CountsFailure (O.write_errors out.old) (O.write_errors out.new) (is_cut result) }
-{
-    let mut file = open(files, name)?;
-    match run_digest(alloc, &mut file, top, profile, out) {
-        Ok(outcome) => Ok(outcome),
-        Err(fault) => Err(fault_of(fault)),
-    }
-}
-
-/// Lists the cells of the file of a name.
-fn cells<F: Files, O: Write>(
-    alloc: Global,
-    name: String,
-    profile: Profile,
-    files: &mut F,
-    out: &mut O,
-) -> Result<Outcome, JobFault>
-    ensures answered { IfOk result (IsOneAnswered F.opens IsListedBy text_of_list (IsShownOutcome profile)
-        (record { profile = profile; name = string_bytes name; top = None })
-        files.old files.new (O.contents out.old) (O.contents out.new)) }
-    ensures fault { IfErr result (IsOneFault F.opens IsListedBy text_of_list
-        (record { profile = profile; name = string_bytes name; top = None })
-        files.old files.new (O.contents out.old) (O.contents out.new)) }
-    ensures errors { CountsFailure (O.write_errors out.old) (O.write_errors out.new) (is_cut result) }
-{
-    let mut file = open(files, name)?;
-    match run_cells(alloc, &mut file, profile, out) {
+    let request = Request {
+        wanted,
+        top: top.as_deref(),
+        profile,
+    };
+    match run_file(alloc, &mut file, &request, out) {
         Ok(outcome) => Ok(outcome),
         Err(fault) => Err(fault_of(fault)),
     }
@@ -200,10 +147,10 @@ fn perform<F: Files, O: Write>(
     out: &mut O,
 ) -> Result<Outcome, JobFault>
     requires { has_one_answer job ≡ true }
-    ensures answered { IfOk result
-        (IsAnswered F.opens job files.old files.new (O.contents out.old) (O.contents out.new)) }
-    ensures fault { IfErr result
-        (IsFaultOfJob F.opens job files.old files.new (O.contents out.old) (O.contents out.new)) }
+    ensures answered { IfOk result (λ outcome. IsJobRun F.opens job files.old files.new
+        (O.contents out.old) (O.contents out.new) (Ok outcome)) }
+    ensures fault { IfErr result (IsFaultOfJob F.opens job files.old files.new
+        (O.contents out.old) (O.contents out.new)) }
     ensures errors { CountsFailure (O.write_errors out.old) (O.write_errors out.new) (is_cut result) }
 {
     match job {
@@ -226,13 +173,14 @@ fn perform<F: Files, O: Write>(
                 first: top_of(top_a),
                 second: top_of(top_b),
             };
-            let asked = Pair {
-                tops,
-                view,
+            let question = Question {
+                tops: &tops,
+                view: &view,
+                profile,
                 why,
                 units,
             };
-            compare(alloc, (first, second), &asked, profile, files, out)
+            compare(alloc, (first, second), &question, files, out)
         }
         Job::Show {
             file,
@@ -241,18 +189,13 @@ fn perform<F: Files, O: Write>(
             large,
             unpack,
         } => {
-            let profile = profile_of(alloc, &ignore, large, unpack)?;
-            let top = top_of(top);
-            show(alloc, file, top.as_deref(), profile, files, out)
-        }
-        Job::Cells {
-            file,
-            ignore,
-            large,
-            unpack,
-        } => {
-            let profile = profile_of(alloc, &ignore, large, unpack)?;
-            cells(alloc, file, profile, files, out)
+            let asked = Asked {
+                top,
+                ignore,
+                large,
+                unpack,
+            };
+            inspect(alloc, file, Wanted::Show, asked, files, out)
         }
         Job::Digest {
             file,
@@ -261,9 +204,27 @@ fn perform<F: Files, O: Write>(
             large,
             unpack,
         } => {
-            let profile = profile_of(alloc, &ignore, large, unpack)?;
-            let top = top_of(top);
-            digest(alloc, file, top.as_deref(), profile, files, out)
+            let asked = Asked {
+                top,
+                ignore,
+                large,
+                unpack,
+            };
+            inspect(alloc, file, Wanted::Digest, asked, files, out)
+        }
+        Job::Cells {
+            file,
+            ignore,
+            large,
+            unpack,
+        } => {
+            let asked = Asked {
+                top: None,
+                ignore,
+                large,
+                unpack,
+            };
+            inspect(alloc, file, Wanted::Cells, asked, files, out)
         }
         Job::List { .. } | Job::Check { .. } => unreachable!(),
     }
@@ -279,18 +240,8 @@ fn answer<F: Files, O: Write, E: Write>(
 ) -> Result<Outcome, JobFault>
     requires { has_one_answer job ≡ true }
     ensures done { IsOneDone F.opens F.looks job files.old files.new
-        (record {
-          old = O.contents out.old;
-          new = O.contents out.new;
-          before = O.write_errors out.old;
-          after = O.write_errors out.new;
-        })
-        (record {
-          old = E.contents err.old;
-          new = E.contents err.new;
-          before = E.write_errors err.old;
-          after = E.write_errors err.new;
-        }) result }
+        (change (O.contents out.old) (O.contents out.new) (O.write_errors out.old) (O.write_errors out.new))
+        (change (E.contents err.old) (E.contents err.new) (E.write_errors err.old) (E.write_errors err.new)) result }
     ensures errors { CountsFailure (O.write_errors out.old) (O.write_errors out.new) (is_cut result) }
 {
     let Ok(paths) = paths_of(alloc, &job) else {
@@ -302,22 +253,21 @@ fn answer<F: Files, O: Write, E: Write>(
     ended
 }
 
-/// Does a job: reads the texts of its view and of what is ignored, takes the limits that it asks for,
-/// opens its files by `files`, the first before the second, and writes its answer to `out`. If there is
-/// no answer, it writes one line to `err` that says why, and some reasons on a second one; if the answer is a refusal
-/// that something would mend, one line that says what, with the name of the only file; if it is a refusal since several
-/// cells could be the top, one line that names these; if it is a verdict on files whose grid steps differ, or if they
-/// aren't compared since these must agree, one line that says so; and if it is a verdict under a map with a source on
-/// which no cell of the second file has a shape, one line that names it. After a refusal that none of these lines
-/// explains, its files are looked at, and one line is written for each that is a directory or gzipped.
+/// Does a job: reads the texts of its view and of what is ignored, takes the limits that it asks for, opens its files
+/// by `files`, the first before the second, and writes its answer to `out`. If there is no answer, it writes one line
+/// to `err` that says why, and some reasons on a second one; if the answer is a refusal that something would mend, one
+/// line that says what, with the name of the only file; if it is a refusal since several cells could be the top, one
+/// line that names these; if it is a verdict on files whose grid steps differ, or if they aren't compared since these
+/// must agree, one line that says so; and if it is a verdict under a map with a source on which no cell of the second
+/// file has a shape, one line that names it. After a refusal that none of these lines explains, its files are looked
+/// at, and one line is written for each that is a directory or gzipped.
 ///
-/// It writes an answer that [`run_with`], [`run_view_with`], [`run_why`], [`run_measured`], [`run_show_with`],
-/// [`run_digest`] or [`run_cells`] may write for these files.
+/// It writes an answer that [`run_question`](lvl_report::run_question) or [`run_file`] may write for these files.
 ///
-/// A list of digests has a line for each file that has one, in the order of the files; why a file has none is a line on
-/// `err`. To check a list it first reads the whole list. If a line of it is bad, it opens no other file. Then it hashes
-/// the files that the list names, one after another, and writes a line for each; the last line on `err` counts those
-/// that aren't the same. The status is the greatest of all files. One file is in memory at a time.
+/// A list of digests has a line for each file that has one, in the order of the files; why a file has none is a line
+/// on `err`. To check a list it first reads the whole list. If a line of it is bad, it opens no other file. Then it
+/// hashes the files that the list names, one after another, and writes a line for each; the last line on `err` counts
+/// those that aren't the same. The status is the greatest of all files. One file is in memory at a time.
 pub fn do_job<F: Files, O: Write, E: Write>(
     alloc: Global,
     job: Job,
@@ -326,18 +276,8 @@ pub fn do_job<F: Files, O: Write, E: Write>(
     err: &mut E,
 ) -> Result<Outcome, JobFault>
     ensures done { IsDone F.opens F.looks job files.old files.new
-        (record {
-          old = O.contents out.old;
-          new = O.contents out.new;
-          before = O.write_errors out.old;
-          after = O.write_errors out.new;
-        })
-        (record {
-          old = E.contents err.old;
-          new = E.contents err.new;
-          before = E.write_errors err.old;
-          after = E.write_errors err.new;
-        }) result }
+        (change (O.contents out.old) (O.contents out.new) (O.write_errors out.old) (O.write_errors out.new))
+        (change (E.contents err.old) (E.contents err.new) (E.write_errors err.old) (E.write_errors err.new)) result }
     ensures errors { CountsFailure (O.write_errors out.old) (O.write_errors out.new) (is_cut result) }
 {
     match job {

@@ -1,5 +1,6 @@
 //! Does what a command line asks for.
 ghost use Rattle.std.specs.Prelude.{◌⊎◌, map};
+ghost use Rattle.lvl_job.specs.Done.{change};
 ghost use Rattle.lvl_job.specs.Lines.{IsLineDone, IsLineRefused, IsRefusalSaid};
 
 use crate::fault::JobFault;
@@ -15,12 +16,8 @@ const BAD_LINE: u8 = 3;
 
 /// Writes why a command line is refused: `clap`'s text, or that it is out of memory.
 fn refuse<E: Write>(alloc: Global, fault: &LineFault, err: &mut E)
-    ensures { IsRefusalSaid fault.now (record {
-      old = E.contents err.old;
-      new = E.contents err.new;
-      before = E.write_errors err.old;
-      after = E.write_errors err.new;
-    }) }
+    ensures { IsRefusalSaid fault.now
+        (change (E.contents err.old) (E.contents err.new) (E.write_errors err.old) (E.write_errors err.new)) }
 {
     match fault {
         LineFault::Words(error) => match format!(in alloc; "{error}") {
@@ -43,31 +40,11 @@ pub fn do_line<'a, F: Files, O: Write, E: Write>(
     err: &mut E,
 ) -> u8
     ensures { IsLineDone F.opens F.looks (map (λ s. s.now) words.entry.now) files.old files.new
-        (record {
-          old = O.contents out.old;
-          new = O.contents out.new;
-          before = O.write_errors out.old;
-          after = O.write_errors out.new;
-        })
-        (record {
-          old = E.contents err.old;
-          new = E.contents err.new;
-          before = E.write_errors err.old;
-          after = E.write_errors err.new;
-        }) result
+        (change (O.contents out.old) (O.contents out.new) (O.write_errors out.old) (O.write_errors out.new))
+        (change (E.contents err.old) (E.contents err.new) (E.write_errors err.old) (E.write_errors err.new)) result
         ⊎ IsLineRefused (map (λ s. s.now) words.entry.now) files.old files.new
-        (record {
-          old = O.contents out.old;
-          new = O.contents out.new;
-          before = O.write_errors out.old;
-          after = O.write_errors out.new;
-        })
-        (record {
-          old = E.contents err.old;
-          new = E.contents err.new;
-          before = E.write_errors err.old;
-          after = E.write_errors err.new;
-        }) result }
+        (change (O.contents out.old) (O.contents out.new) (O.write_errors out.old) (O.write_errors out.new))
+        (change (E.contents err.old) (E.contents err.new) (E.write_errors err.old) (E.write_errors err.new)) result }
 {
     match parse_line(alloc, words) {
         Ok(job) => {

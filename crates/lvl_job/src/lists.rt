@@ -1,7 +1,7 @@
 //! The jobs on several files: to list their digests, and to check a list.
 ghost use Rattle.std.specs.Prelude.{option_copied, option_map, string_bytes};
 ghost use Rattle.lvl_io.specs.Bytes.{CountsFailure};
-ghost use Rattle.lvl_job.specs.Done.{IsCheckDone, IsListDone};
+ghost use Rattle.lvl_job.specs.Done.{IsCheckDone, IsListDone, change};
 ghost use Rattle.lvl_job.specs.Ends.{is_cut};
 ghost use Rattle.lvl_job.specs.inside.Told.{IsCheckTold, IsEntriesTold, IsListTold, IsSummary};
 
@@ -145,18 +145,8 @@ pub(crate) fn do_list<F: Files, O: Write, E: Write>(
     ensures done { IsListDone F.opens names.now (option_map string_bytes asked.top)
         asked.ignore asked.large asked.unpack
         files.old files.new
-        (record {
-          old = O.contents out.old;
-          new = O.contents out.new;
-          before = O.write_errors out.old;
-          after = O.write_errors out.new;
-        })
-        (record {
-          old = E.contents err.old;
-          new = E.contents err.new;
-          before = E.write_errors err.old;
-          after = E.write_errors err.new;
-        }) result }
+        (change (O.contents out.old) (O.contents out.new) (O.write_errors out.old) (O.write_errors out.new))
+        (change (E.contents err.old) (E.contents err.new) (E.write_errors err.old) (E.write_errors err.new)) result }
     ensures errors { CountsFailure (O.write_errors out.old) (O.write_errors out.new) (is_cut result) }
 {
     let mut said = Ok(());
@@ -178,18 +168,8 @@ pub(crate) fn do_check<F: Files, O: Write, E: Write>(
     ensures done { IsCheckDone F.opens (string_bytes list) quiet (option_map string_bytes asked.top)
         asked.ignore asked.large asked.unpack
         files.old files.new
-        (record {
-          old = O.contents out.old;
-          new = O.contents out.new;
-          before = O.write_errors out.old;
-          after = O.write_errors out.new;
-        })
-        (record {
-          old = E.contents err.old;
-          new = E.contents err.new;
-          before = E.write_errors err.old;
-          after = E.write_errors err.new;
-        }) result }
+        (change (O.contents out.old) (O.contents out.new) (O.write_errors out.old) (O.write_errors out.new))
+        (change (E.contents err.old) (E.contents err.new) (E.write_errors err.old) (E.write_errors err.new)) result }
     ensures errors { CountsFailure (O.write_errors out.old) (O.write_errors out.new) (is_cut result) }
 {
     let mut said = Ok(());

@@ -7,7 +7,7 @@ use crate::hash::Hash;
 use crate::said::open_form;
 use lvl::Digested;
 use lvl_list::{Entry, push_line, push_name};
-use lvl_report::{Status, form_digest};
+use lvl_report::{Status, form_refusal};
 use lvl_text::push_hex;
 use std::alloc::{AllocError, Global};
 use std::io;
@@ -43,11 +43,11 @@ pub(crate) fn unlisted_text(alloc: Global, name: &str, hash: &Hash) -> Result<Ve
     let mut text = Vec::new(alloc);
     match hash {
         Ok(Ok(_)) => {}
-        Ok(answer) => {
+        Ok(Err(refusal)) => {
             text.extend_from_slice(b"lvl: ")?;
             push_name(&mut text, name.as_bytes())?;
             text.extend_from_slice(b": ")?;
-            let refusal = form_digest(alloc, answer)?;
+            let refusal = form_refusal(alloc, refusal)?;
             text.extend_from_slice(&refusal)?;
         }
         Err(why) => {
@@ -107,9 +107,9 @@ fn push_words(
     match hash {
         Ok(Ok(_)) if is_same(status) => text.extend_from_slice(b": same\n"),
         Ok(Ok(_)) => text.extend_from_slice(b": differs\n"),
-        Ok(answer) => {
+        Ok(Err(refusal)) => {
             text.extend_from_slice(b": ")?;
-            let refusal = form_digest(alloc, answer)?;
+            let refusal = form_refusal(alloc, refusal)?;
             text.extend_from_slice(&refusal)
         }
         Err(_) => text.extend_from_slice(b": cannot open\n"),

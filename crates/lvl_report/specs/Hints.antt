@@ -30,17 +30,10 @@ use Rattle.lvl.specs.declared.layout.FileFault.{FileFault}
 use Rattle.lvl.specs.declared.layout.FileFault.TheVariants.{Gds, Oasis}
 use Rattle.lvl.specs.declared.verdict.Refusal.{Refusal}
 use Rattle.lvl.specs.declared.verdict.Refusal.TheVariants.{File, Cells}
-use Rattle.lvl.specs.declared.explained.Explained.{Explained}
-use Rattle.lvl.specs.declared.measured.Measured.{Measured}
-use Rattle.lvl.specs.declared.measured.Measured.TheVariants.{Compared, StepsDiffer}
-use Rattle.lvl.specs.declared.verdict.Comparison.{Comparison}
-use Rattle.lvl_report.specs.Writing.{verdict_status}
+use Rattle.lvl.specs.declared.question.Answer.{Answer}
+use Rattle.lvl_report.specs.Writing.{shown_status, status_of}
 use Rattle.lvl_report.specs.declared.status.Status.{Status}
-use Rattle.lvl_report.specs.declared.status.Status.TheVariants.{Shown as ShownStatus, Refused}
-use Rattle.lvl_report.specs.Beside.{IsSaidBeside}
-use Rattle.lvl_report.specs.Steps.{IsDifferenceSaid}
-use Rattle.lvl_report.specs.Texts.{comparison_of}
-use Rattle.lvl_report.specs.Tops.{line_of_one, line_of_two}
+use Rattle.lvl_report.specs.Beside.{IsLineOf, IsLineOfOne}
 use Rattle.lvl_report.specs.declared.outcome.Outcome.{Outcome}
 use Rattle.lvl_report.specs.declared.hint.Hint.{Hint}
 use Rattle.lvl_report.specs.declared.hint.Hint.TheVariants.{Foreign, IgnoreMore, LiftLimits, ReadBlocks}
@@ -160,25 +153,15 @@ pub record IsEnd (status : Status) (hint : Option Hint) (Line : Option (List ℕ
   pub hint_is : o.hint ≡ hint
   pub line_is : Line (option_map (λ text. text.items) o.line)
 
--- how a run on two files ends: of a verdict its status, and what is said beside it; of a refusal its hint, or which cells
--- could be the top
-abbrev pub IsOutcomeOf : Profile → Result Comparison Refusal → Outcome → Type 0
-IsOutcomeOf given (Ok comparison) =
-    IsEnd (verdict_status comparison.verdict) None (IsSaidBeside comparison)
-IsOutcomeOf given (Err refusal) = IsEnd Refused (hint_of given refusal) (λ text. text ≡ line_of_two refusal)
+-- the hint of an answer: that of a refusal
+abbrev pub hint_in : {X : Type 0} → Profile → Result X Refusal → Option Hint
+hint_in given (Ok x) = None
+hint_in given (Err refusal) = hint_of given refusal
 
--- how a run ends that also gives the reason: as its comparison does
-abbrev pub IsExplainedOutcome : Profile → Result Explained Refusal → Outcome → Type 0
-IsExplainedOutcome given answer = IsOutcomeOf given (comparison_of answer)
-
--- how a run ends in which the grid steps must agree: as its comparison does, or, if they differ, as a refusal does, with
--- the line that says so
-abbrev pub IsMeasuredOutcome : Profile → Result Measured Refusal → Outcome → Type 0
-IsMeasuredOutcome given (Ok (Compared e)) = IsExplainedOutcome given (Ok e)
-IsMeasuredOutcome given (Ok (StepsDiffer first second)) = IsEnd Refused None (IsDifferenceSaid first second)
-IsMeasuredOutcome given (Err refusal) = IsOutcomeOf given (Err refusal)
+-- how a run on two files ends
+abbrev pub IsOutcomeOf : Profile → Result Answer Refusal → Outcome → Type 0
+IsOutcomeOf given answer = IsEnd (status_of answer) (hint_in given answer) (IsLineOf answer)
 
 -- how a run on a single file ends
 abbrev pub IsShownOutcome : {X : Type 0} → Profile → Result X Refusal → Outcome → Type 0
-IsShownOutcome given (Ok x) = IsEnd ShownStatus None (λ text. text ≡ None)
-IsShownOutcome given (Err refusal) = IsEnd Refused (hint_of given refusal) (λ text. text ≡ line_of_one refusal)
+IsShownOutcome given answer = IsEnd (shown_status answer) (hint_in given answer) (IsLineOfOne answer)

@@ -1,5 +1,5 @@
--- The text of an answer in bytes (own rule): two heads and a verdict, and why; what is shown of a layout, its digest, or
--- a refusal.
+-- The text of an answer in bytes (own rule): two heads and a verdict, and why; what is shown of a layout, its digest,
+-- or a refusal.
 use Rattle.std.specs.Prelude.{ℕ, ◌+◌, Bool, true, false, List, [], ◌∷◌, ◌++◌, flat_map, length, codes, decimal, Option, Some, None}
 use Rattle.std.specs.Prelude.{Result, Ok, Err}
 use Rattle.std.specs.Fmt.{signed_decimal}
@@ -8,16 +8,14 @@ use Rattle.lvl_grid.specs.declared.map.Turn.{Turn}
 use Rattle.lvl_grid.specs.declared.map.Turn.TheVariants.{R0, R90, R180, R270}
 use Rattle.lvl_region.specs.declared.region.Side.{Side}
 use Rattle.lvl_region.specs.declared.region.Side.TheVariants.{First, Second}
-use Rattle.lvl.specs.declared.explained.Explained.{Explained}
 use Rattle.lvl.specs.declared.layout.Head.{Head}
 use Rattle.lvl.specs.declared.layout.Head.TheVariants.{Gds, Oasis}
 use Rattle.lvl.specs.declared.layout.FileFault.{FileFault}
 use Rattle.lvl.specs.declared.layout.FileFault.TheVariants.{Gds as GdsFile, Oasis as OasisFile}
-use Rattle.lvl.specs.declared.measured.Measured.{Measured}
-use Rattle.lvl.specs.declared.measured.Measured.TheVariants.{Compared, StepsDiffer}
+use Rattle.lvl.specs.declared.question.Answer.{Answer}
+use Rattle.lvl.specs.declared.question.Judged.{Judged}
 use Rattle.lvl.specs.declared.verdict.Verdict.{Verdict}
 use Rattle.lvl.specs.declared.verdict.Verdict.TheVariants.{Same, Differ}
-use Rattle.lvl.specs.declared.verdict.Comparison.{Comparison}
 use Rattle.lvl.specs.declared.verdict.Refusal.{Refusal}
 use Rattle.lvl.specs.declared.verdict.Refusal.TheVariants.{File, Cells, Flat, OutOfMemory}
 use Rattle.lvl.specs.declared.cells.CellList.{CellList}
@@ -67,13 +65,6 @@ refusal_text (File side fault) = codes "refused: " ++ side_text side ++ codes ":
 refusal_text (Cells side r) = codes "refused: " ++ side_text side ++ codes ": cells " ++ cell_fault r.fault
 refusal_text (Flat side fault) = codes "refused: " ++ side_text side ++ codes ": flat " ++ flat_fault fault
 refusal_text OutOfMemory = codes "refused: out of memory"
-
--- the text of a comparison or a refusal
-abbrev pub text_of : Result Comparison Refusal → List ℕ
-text_of (Ok c) =
-    line (codes "first: " ++ head_text c.first) ++ line (codes "second: " ++ head_text c.second)
-    ++ line (verdict_text c.verdict)
-text_of (Err refusal) = line (refusal_text refusal)
 
 -- the number of what has this index, counted from 1, and how many there are
 abbrev pub of_all : ℕ → ℕ → List ℕ
@@ -127,25 +118,18 @@ abbrev pub reason_text : Option Why → List ℕ
 reason_text None = []
 reason_text (Some w) = why_text w
 
--- the comparison of an explained answer
-abbrev pub comparison_of : Result Explained Refusal → Result Comparison Refusal
-comparison_of (Ok e) = Ok e.comparison
-comparison_of (Err refusal) = Err refusal
+-- the text of an answer: both heads, the verdict, and its reason if there is one; nothing if the files weren't
+-- compared
+abbrev pub answer_text : Head → Head → Option Judged → List ℕ
+answer_text first second None = []
+answer_text first second (Some j) =
+    line (codes "first: " ++ head_text first) ++ line (codes "second: " ++ head_text second)
+    ++ line (verdict_text j.verdict) ++ reason_text j.why
 
--- the reason in it
-abbrev pub why_of : Result Explained Refusal → Option Why
-why_of (Ok e) = e.why
-why_of (Err refusal) = None
-
--- the text of an explained comparison or a refusal: that of the comparison, and its reason
-abbrev pub text_of_explained : Result Explained Refusal → List ℕ
-text_of_explained answer = text_of (comparison_of answer) ++ reason_text (why_of answer)
-
--- the text of an answer on files whose grid steps must agree: nothing is written if they differ
-abbrev pub text_of_measured : Result Measured Refusal → List ℕ
-text_of_measured (Ok (Compared e)) = text_of_explained (Ok e)
-text_of_measured (Ok (StepsDiffer first second)) = []
-text_of_measured (Err refusal) = text_of (Err refusal)
+-- the text of an answer or a refusal
+abbrev pub text_of : Result Answer Refusal → List ℕ
+text_of (Ok r) = answer_text r.first r.second r.judged
+text_of (Err refusal) = line (refusal_text refusal)
 
 -- the line of a Layer that is shown
 abbrev pub layer_line : LayerRings → List ℕ

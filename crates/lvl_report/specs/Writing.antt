@@ -1,5 +1,5 @@
 -- What writing a text does to a writer, and the statuses with which a run ends (own rule).
-use Rattle.std.specs.Prelude.{ℕ, List, ◌++◌, ◌≡◌, Option, Bool, true, false, Result, Ok, Err}
+use Rattle.std.specs.Prelude.{ℕ, List, ◌++◌, ◌≡◌, Option, Some, None, Bool, true, false, Result, Ok, Err}
 use Rattle.std.specs.Io.KnownBytes.{Appends}
 use Rattle.lvl_report.specs.declared.status.Status.{Status}
 use Rattle.lvl_report.specs.declared.status.Status.TheVariants.{Same, Differ, Shown as ShownStatus, Refused}
@@ -7,7 +7,8 @@ use Rattle.lvl_report.specs.declared.status.RunFault.{RunFault}
 use Rattle.lvl_report.specs.declared.status.RunFault.TheVariants.{Output, OutOfMemory}
 use Rattle.lvl.specs.declared.verdict.Verdict.{Verdict}
 use Rattle.lvl.specs.declared.verdict.Verdict.TheVariants.{Same as SameVerdict, Differ as DifferVerdict}
-use Rattle.lvl.specs.declared.verdict.Comparison.{Comparison}
+use Rattle.lvl.specs.declared.question.Answer.{Answer}
+use Rattle.lvl.specs.declared.question.Judged.{Judged}
 use Rattle.lvl.specs.declared.verdict.Refusal.{Refusal}
 
 -- a beginning of the text was added to the known bytes, perhaps nothing or all of it
@@ -38,9 +39,14 @@ verdict_status (DifferVerdict layer square side) = Differ
 abbrev pub ends_by : {X T : Type 0} → (X → T) → X → T → Type 0
 ends_by end_of answer ended = ended ≡ end_of answer
 
+-- the status of files that were compared, or weren't
+abbrev pub judged_status : Option Judged → Status
+judged_status (Some j) = verdict_status j.verdict
+judged_status None = Refused
+
 -- the status of an answer about two files
-abbrev pub status_of : Result Comparison Refusal → Status
-status_of (Ok comparison) = verdict_status comparison.verdict
+abbrev pub status_of : Result Answer Refusal → Status
+status_of (Ok r) = judged_status r.judged
 status_of (Err refusal) = Refused
 
 -- the status of an answer about one file

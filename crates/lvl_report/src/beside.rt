@@ -1,12 +1,12 @@
 //! What is said beside an answer, on lines of their own: that the grid steps of two files differ, that the map says
 //! nothing of the second file, or which cells could be the top.
 ghost use Rattle.std.specs.Prelude.{◌≡◌, IfOk, option_map};
-ghost use Rattle.lvl_report.specs.Beside.{IsSaidBeside, one_after, undrawn_text};
-ghost use Rattle.lvl_report.specs.inside.Steps.{IsLineOf, IsLineOfOne};
+ghost use Rattle.lvl_report.specs.inside.Steps.{DifferUnlessJudged};
+ghost use Rattle.lvl_report.specs.Beside.{IsLineOf, IsLineOfOne, IsSaidBeside, one_after, undrawn_text};
 
-use crate::steps::steps_line;
+use crate::steps::{difference_line, steps_line};
 use crate::tops::{line_of_one, line_of_two};
-use lvl::{Comparison, Refusal};
+use lvl::{Answer, Head, Refusal};
 use lvl_names::Layer;
 use std::alloc::Global;
 use std::io;
@@ -49,25 +49,36 @@ fn one_after(first: Option<Vec<u8>>, second: Option<Vec<u8>>) -> io::Result<Opti
     Ok(Some(text))
 }
 
-/// What is said beside a verdict.
-fn beside_verdict(alloc: Global, comparison: &Comparison) -> io::Result<Option<Vec<u8>>>
-    ensures { IfOk result (λ line. IsSaidBeside comparison.now (option_map (λ text. text.items) line)) }
+/// What is said beside a verdict on files with these heads.
+fn beside_verdict(
+    alloc: Global,
+    first: &Head,
+    second: &Head,
+    undrawn: Option<Layer>,
+) -> io::Result<Option<Vec<u8>>>
+    ensures { IfOk result
+        (λ line. IsSaidBeside first.now second.now undrawn (option_map (λ text. text.items) line)) }
 {
-    let steps = steps_line(alloc, &comparison.first, &comparison.second)?;
-    let undrawn = undrawn_line(alloc, comparison.undrawn)?;
+    let steps = steps_line(alloc, first, second)?;
+    let undrawn = undrawn_line(alloc, undrawn)?;
     one_after(steps, undrawn)
 }
 
-/// What is said beside an answer on two files: beside a verdict that their grid steps differ and that the map says nothing
-/// of the second, and beside a refusal which cells could be the top.
+/// What is said beside an answer on two files: beside a verdict that their grid steps differ and that the map says
+/// nothing of the second, in place of a verdict that their grid steps differ, and beside a refusal which cells could
+/// be the top.
 pub(crate) fn line_beside(
     alloc: Global,
-    answer: &Result<Comparison, Refusal>,
+    answer: &Result<Answer, Refusal>,
 ) -> io::Result<Option<Vec<u8>>>
+    requires { IfOk answer.now DifferUnlessJudged }
     ensures { IfOk result (λ line. IsLineOf answer.now (option_map (λ text. text.items) line)) }
 {
     match answer {
-        Ok(comparison) => beside_verdict(alloc, comparison),
+        Ok(answer) => match &answer.judged {
+            Some(judged) => beside_verdict(alloc, &answer.first, &answer.second, judged.undrawn),
+            None => Ok(Some(difference_line(alloc, &answer.first, &answer.second)?)),
+        },
         Err(refusal) => line_of_two(alloc, refusal),
     }
 }

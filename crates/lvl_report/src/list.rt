@@ -54,16 +54,16 @@ fn push_list_answer(text: &mut Vec<u8>, answer: &Result<CellList, Refusal>) -> i
 {
     match answer {
         Ok(list) => push_list(text, list),
-        Err(refusal) => {
-            push_refusal(text, refusal)?;
-            writeln!(text)
-        }
+        Err(refusal) => push_refusal(text, refusal),
     }
 }
 
 /// The text of what is listed: what the file says about itself, the number of its cells, and a line for each.
 /// A refusal is one line. It fails only if it is out of memory.
-pub fn form_list(alloc: Global, answer: &Result<CellList, Refusal>) -> Result<Vec<u8>, AllocError>
+pub(crate) fn form_list(
+    alloc: Global,
+    answer: &Result<CellList, Refusal>,
+) -> Result<Vec<u8>, AllocError>
     ensures { IfOk result (λ text. text.items ≡ text_of_list answer.now) }
 {
     let mut text = Vec::new(alloc);

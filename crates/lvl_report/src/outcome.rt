@@ -1,17 +1,17 @@
 //! How a run with an answer ends.
-ghost use Rattle.std.specs.Prelude.{◌≡◌, option_map};
-ghost use Rattle.lvl_report.specs.Hints.{IsOutcomeOf, IsShownOutcome};
-ghost use Rattle.lvl_report.specs.inside.Steps.{IsLineOf, IsLineOfOne};
-ghost use Rattle.lvl_report.specs.Writing.{verdict_status};
+ghost use Rattle.std.specs.Prelude.{◌≡◌};
+ghost use Rattle.lvl_report.specs.Hints.{hint_in};
+ghost use Rattle.lvl_report.specs.Writing.{shown_status, status_of, verdict_status};
 
 use crate::hint::{Hint, hint_of};
 use crate::status::Status;
-use lvl::{Comparison, Refusal, Verdict};
+use lvl::{Answer, Refusal, Verdict};
 use lvl_profile::Profile;
 
-/// Which answer was written; if it is a refusal, what would mend it; and what else is to be said, as lines: if the grid
-/// steps of the two files differ, that they do, beside a verdict or in place of one; beside a verdict that a source of the
-/// map says nothing of the second file; and if a file is refused since several cells could be its top, which these are.
+/// Which answer was written; if it is a refusal, what would mend it; and what else is to be said, as lines: if the
+/// grid steps of the two files differ, that they do, beside a verdict or in place of one; beside a verdict that a
+/// source of the map says nothing of the second file; and if a file is refused since several cells could be its top,
+/// which these are.
 #[derive(Debug, Drop, PartialEq, Eq)]
 pub struct Outcome {
     pub status: Status,
@@ -28,48 +28,35 @@ fn verdict_status(verdict: &Verdict) -> Status
     }
 }
 
-/// How a run on two files ends. `line` is what else is to be said.
-pub(crate) fn outcome_of(
-    profile: Profile,
-    answer: &Result<Comparison, Refusal>,
-    line: Option<Vec<u8>>,
-) -> Outcome
-    requires { IsLineOf answer.now (option_map (λ text. text.items) line) }
-    ensures { IsOutcomeOf profile answer.now result }
+/// The status of an answer on two files.
+pub(crate) fn status_of(answer: &Result<Answer, Refusal>) -> Status
+    ensures { result ≡ status_of answer.now }
 {
     match answer {
-        Ok(comparison) => Outcome {
-            status: verdict_status(&comparison.verdict),
-            hint: None,
-            line,
+        Ok(answer) => match &answer.judged {
+            Some(judged) => verdict_status(&judged.verdict),
+            None => Status::Refused,
         },
-        Err(refusal) => Outcome {
-            status: Status::Refused,
-            hint: hint_of(profile, refusal),
-            line,
-        },
+        Err(_) => Status::Refused,
     }
 }
 
-/// How a run on one file ends. `line` is what else is to be said.
-pub(crate) fn shown_outcome<X>(
-    profile: Profile,
-    answer: &Result<X, Refusal>,
-    line: Option<Vec<u8>>,
-) -> Outcome
-    requires { IsLineOfOne answer.now (option_map (λ text. text.items) line) }
-    ensures { IsShownOutcome profile answer.now result }
+/// The status of an answer on one file.
+pub(crate) fn shown_status<X>(answer: &Result<X, Refusal>) -> Status
+    ensures { result ≡ shown_status answer.now }
 {
     match answer {
-        Ok(_) => Outcome {
-            status: Status::Shown,
-            hint: None,
-            line,
-        },
-        Err(refusal) => Outcome {
-            status: Status::Refused,
-            hint: hint_of(profile, refusal),
-            line,
-        },
+        Ok(_) => Status::Shown,
+        Err(_) => Status::Refused,
+    }
+}
+
+/// The hint of an answer: that of a refusal.
+pub(crate) fn hint_in<X>(profile: Profile, answer: &Result<X, Refusal>) -> Option<Hint>
+    ensures { result ≡ hint_in profile answer.now }
+{
+    match answer {
+        Ok(_) => None,
+        Err(refusal) => hint_of(profile, refusal),
     }
 }

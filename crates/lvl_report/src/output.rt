@@ -25,7 +25,8 @@ pub fn write_all<W: Write>(out: &mut W, text: &[u8]) -> Result<(), Failure>
     Ok(())
 }
 
-/// Writes the whole text, and flushes. It fails with `Output` where [`write_all`] or the flush does.
+/// Writes the whole text, and flushes; does nothing if the text is empty. It fails with `Output` where [`write_all`]
+/// or the flush does.
 pub(crate) fn put<W: Write>(out: &mut W, text: &[u8]) -> Result<(), RunFault>
     ensures whole { OnOk result (Appends (W.contents out.old) (W.contents out.new) text.now) }
     ensures begun { OnErr result (AppendsBeginning (W.contents out.old) (W.contents out.new) text.now) }
@@ -33,6 +34,9 @@ pub(crate) fn put<W: Write>(out: &mut W, text: &[u8]) -> Result<(), RunFault>
     ensures errors { CountsFailure (W.write_errors out.old) (W.write_errors out.new) (failed result) }
     ensures same { W.lent out.new ≡ W.lent out.old }
 {
+    if text.is_empty() {
+        return Ok(());
+    }
     if write_all(out, text).is_err() || out.flush().is_err() {
         return Err(RunFault::Output);
     }

@@ -1,9 +1,11 @@
 //! The text of an answer: two heads and a verdict, what is shown of a layout, or a refusal.
-ghost use Rattle.std.specs.Prelude.{◌≡◌, ◌++◌, flat_map, OnOk, IfOk};
-ghost use Rattle.lvl_report.specs.Texts.{layer_line, side_text, verdict_text, head_text, file_fault, refusal_text};
+ghost use Rattle.std.specs.Prelude.{◌≡◌, ◌++◌, Some, flat_map, OnOk, IfOk};
+ghost use Rattle.lvl_report.specs.Texts.{answer_text, layer_line, line, side_text};
+ghost use Rattle.lvl_report.specs.Texts.{verdict_text, head_text, file_fault, refusal_text};
 ghost use Rattle.lvl_report.specs.Texts.{front_text, shown_text, text_of, text_of_shown};
 
-use lvl::{Comparison, FileFault, Head, Refusal, Shown, Verdict};
+use crate::why::push_reason;
+use lvl::{Answer, FileFault, Head, Judged, Refusal, Shown, Verdict};
 use lvl_count::LayerRings;
 use lvl_grid::Square;
 use lvl_names::Layer;
@@ -75,8 +77,8 @@ pub(crate) fn push_head(text: &mut Vec<u8>, head: &Head) -> io::Result<()>
     }
 }
 
-/// Appends a refusal.
-pub(crate) fn push_refusal(text: &mut Vec<u8>, refusal: &Refusal) -> io::Result<()>
+/// Appends which step refused a file, and why.
+fn push_refused(text: &mut Vec<u8>, refusal: &Refusal) -> io::Result<()>
     ensures { OnOk result (text.new.items ≡ text.old.items ++ refusal_text refusal.now) }
 {
     match refusal {
@@ -96,17 +98,37 @@ pub(crate) fn push_refusal(text: &mut Vec<u8>, refusal: &Refusal) -> io::Result<
     }
 }
 
-/// Appends both heads and the verdict, each on a line.
-fn push_comparison(text: &mut Vec<u8>, comparison: &Comparison) -> io::Result<()>
-    ensures { OnOk result (text.new.items ≡ text.old.items ++ text_of (Ok comparison.now)) }
+/// Appends a refusal, on a line.
+pub(crate) fn push_refusal(text: &mut Vec<u8>, refusal: &Refusal) -> io::Result<()>
+    ensures { OnOk result (text.new.items ≡ text.old.items ++ line (refusal_text refusal.now)) }
+{
+    push_refused(text, refusal)?;
+    writeln!(text)
+}
+
+/// The text of a refusal, on a line. It fails only if it is out of memory.
+pub fn form_refusal(alloc: Global, refusal: &Refusal) -> Result<Vec<u8>, AllocError>
+    ensures { IfOk result (λ text. text.items ≡ line (refusal_text refusal.now)) }
+{
+    let mut text = Vec::new(alloc);
+    match push_refusal(&mut text, refusal) {
+        Ok(()) => Ok(text),
+        Err(_) => Err(AllocError),
+    }
+}
+
+/// Appends both heads and the verdict, each on a line, and the reason if there is one.
+fn push_judged(text: &mut Vec<u8>, first: &Head, second: &Head, judged: &Judged) -> io::Result<()>
+    ensures { OnOk result (text.new.items ≡ text.old.items ++ answer_text first.now second.now (Some judged.now)) }
 {
     write!(text, "first: ")?;
-    push_head(text, &comparison.first)?;
+    push_head(text, first)?;
     write!(text, "\nsecond: ")?;
-    push_head(text, &comparison.second)?;
+    push_head(text, second)?;
     writeln!(text)?;
-    push_verdict(text, &comparison.verdict)?;
-    writeln!(text)
+    push_verdict(text, &judged.verdict)?;
+    writeln!(text)?;
+    push_reason(text, &judged.why)
 }
 
 /// Appends the line of each Layer.
@@ -142,28 +164,26 @@ fn push_shown(text: &mut Vec<u8>, shown: &Shown) -> io::Result<()>
     push_layers(text, &shown.layers)
 }
 
-/// Appends an answer.
-pub(crate) fn push_answer(
-    text: &mut Vec<u8>,
-    answer: &Result<Comparison, Refusal>,
-) -> io::Result<()>
+/// Appends an answer; nothing if the files weren't compared.
+fn push_answer(text: &mut Vec<u8>, answer: &Result<Answer, Refusal>) -> io::Result<()>
     ensures { OnOk result (text.new.items ≡ text.old.items ++ text_of answer.now) }
 {
     match answer {
-        Ok(comparison) => push_comparison(text, comparison),
-        Err(refusal) => {
-            push_refusal(text, refusal)?;
-            writeln!(text)
-        }
+        Ok(answer) => match &answer.judged {
+            Some(judged) => push_judged(text, &answer.first, &answer.second, judged),
+            None => Ok(()),
+        },
+        Err(refusal) => push_refusal(text, refusal),
     }
 }
 
 /// The text of an answer about two files; each line ends with one line feed.
 ///
-/// A comparison has three lines: what each file says about itself, and the verdict. A refusal is one line:
-/// the side, the step, the number and the name of the fault, what the fault carries, and the offset if
-/// there is one; out of memory names neither a side nor a step. It fails only if it is out of memory.
-pub fn form(alloc: Global, answer: &Result<Comparison, Refusal>) -> Result<Vec<u8>, AllocError>
+/// A comparison has three lines: what each file says about itself, and the verdict; and if there is a reason, those of
+/// the reason. A refusal is one line: the side, the step, the number and the name of the fault, what the fault
+/// carries, and the offset if there is one; out of memory names neither a side nor a step. The text is empty if the
+/// files weren't compared. It fails only if it is out of memory.
+pub fn form(alloc: Global, answer: &Result<Answer, Refusal>) -> Result<Vec<u8>, AllocError>
     ensures { IfOk result (λ text. text.items ≡ text_of answer.now) }
 {
     let mut text = Vec::new(alloc);
@@ -179,16 +199,16 @@ fn push_shown_answer(text: &mut Vec<u8>, answer: &Result<Shown, Refusal>) -> io:
 {
     match answer {
         Ok(shown) => push_shown(text, shown),
-        Err(refusal) => {
-            push_refusal(text, refusal)?;
-            writeln!(text)
-        }
+        Err(refusal) => push_refusal(text, refusal),
     }
 }
 
 /// The text of what is shown: what the file says about itself, its top, the number of its cells,
 /// and a line for each Layer. A refusal is one line. It fails only if it is out of memory.
-pub fn form_shown(alloc: Global, answer: &Result<Shown, Refusal>) -> Result<Vec<u8>, AllocError>
+pub(crate) fn form_shown(
+    alloc: Global,
+    answer: &Result<Shown, Refusal>,
+) -> Result<Vec<u8>, AllocError>
     ensures { IfOk result (λ text. text.items ≡ text_of_shown answer.now) }
 {
     let mut text = Vec::new(alloc);

@@ -1,14 +1,12 @@
 //! The text of a reason: the chain of references and the ring that covers a square.
-ghost use Rattle.std.specs.Prelude.{◌≡◌, ◌++◌, flat_map, OnOk, IfOk};
-ghost use Rattle.lvl_report.specs.Texts.{box_text, comparison_of, flip_text, map_text, of_all, reason_text};
-ghost use Rattle.lvl_report.specs.Texts.{ring_text, step_line, text_of, turn_text, why_of, why_text};
+ghost use Rattle.std.specs.Prelude.{◌≡◌, ◌++◌, flat_map, OnOk};
+ghost use Rattle.lvl_report.specs.Texts.{box_text, flip_text, map_text, of_all, reason_text, ring_text, step_line};
+ghost use Rattle.lvl_report.specs.Texts.{turn_text, why_text};
 
-use crate::text::push_answer;
-use lvl::{Comparison, Explained, NamedStep, PlacedRing, Refusal, Why};
+use lvl::{NamedStep, PlacedRing, Why};
 use lvl_grid::{Map, Turn};
 use lvl_names::Layer;
 use lvl_text::push_name;
-use std::alloc::{AllocError, Global};
 use std::io;
 use std::io::Write;
 
@@ -111,54 +109,11 @@ fn push_why(text: &mut Vec<u8>, why: &Why) -> io::Result<()>
 }
 
 /// Appends a reason, if there is one.
-fn push_reason(text: &mut Vec<u8>, why: &Option<Why>) -> io::Result<()>
+pub(crate) fn push_reason(text: &mut Vec<u8>, why: &Option<Why>) -> io::Result<()>
     ensures { OnOk result (text.new.items ≡ text.old.items ++ reason_text why.now) }
 {
     match why {
         Some(why) => push_why(text, why),
         None => Ok(()),
-    }
-}
-
-/// Appends an answer and its reason.
-fn push_both(
-    text: &mut Vec<u8>,
-    answer: &Result<Comparison, Refusal>,
-    why: &Option<Why>,
-) -> io::Result<()>
-    ensures { OnOk result (text.new.items ≡ text.old.items ++ (text_of answer.now ++ reason_text why.now)) }
-{
-    push_answer(text, answer)?;
-    push_reason(text, why)
-}
-
-/// The text of an answer about two files, and of its reason. It fails only if it is out of memory.
-pub(crate) fn form_both(
-    alloc: Global,
-    answer: &Result<Comparison, Refusal>,
-    why: &Option<Why>,
-) -> Result<Vec<u8>, AllocError>
-    ensures { IfOk result (λ text. text.items ≡ text_of answer.now ++ reason_text why.now) }
-{
-    let mut text = Vec::new(alloc);
-    match push_both(&mut text, answer, why) {
-        Ok(()) => Ok(text),
-        Err(_) => Err(AllocError),
-    }
-}
-
-/// The comparison and its reason.
-pub(crate) fn parts_of(
-    answer: Result<Explained, Refusal>,
-) -> (Result<Comparison, Refusal>, Option<Why>)
-    ensures comparison { result.0 ≡ comparison_of answer }
-    ensures why { result.1 ≡ why_of answer }
-{
-    match answer {
-        Ok(explained) => {
-            let Explained { comparison, why } = explained;
-            (Ok(comparison), why)
-        }
-        Err(refusal) => (Err(refusal), None),
     }
 }

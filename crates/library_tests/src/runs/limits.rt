@@ -3,7 +3,7 @@
 use super::{sink, square_in_oasis};
 use lvl_io::fake::Pieces;
 use lvl_profile::{Limits, Profile};
-use lvl_report::{Hint, Status, run_show_with};
+use lvl_report::{Hint, Request, Status, Wanted, run_file};
 use std::alloc::{AllocError, Global};
 use std::test::Fail;
 
@@ -30,7 +30,12 @@ fn is_too_long(alloc: Global, bytes: &[u8], room: u64, offset: u64) -> Result<bo
         ..Profile::STANDARD
     };
     let mut out = sink(alloc, 100)?;
-    let ran = run_show_with(alloc, &mut Pieces::new(bytes, 7), None, profile, &mut out);
+    let request = Request {
+        wanted: Wanted::Show,
+        top: None,
+        profile,
+    };
+    let ran = run_file(alloc, &mut Pieces::new(bytes, 7), &request, &mut out);
     let line = format!(in alloc; "refused: first: oasis 11 TooLong at {offset}\n")?;
     let is_hinted = match ran {
         Ok(outcome) => outcome.status == Status::Refused && outcome.hint == Some(Hint::LiftLimits),

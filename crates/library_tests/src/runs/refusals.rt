@@ -1,7 +1,7 @@
 //! The texts of refusals that no file brings about, and of one with a name that no file has.
 
 use gds_library::{ElementRule, GdsFault, GdsKind};
-use lvl::{CellRefusal, Comparison, FileFault, Refusal};
+use lvl::{Answer, CellRefusal, FileFault, Refusal};
 use lvl_cells::CellFault;
 use lvl_path::PathFault;
 use lvl_region::Side;
@@ -11,7 +11,7 @@ use std::process::Abort;
 use std::test::Fail;
 
 fn reported(alloc: Global, refusal: Refusal) -> Result<Vec<u8>, AllocError> {
-    let answer: Result<Comparison, Refusal> = Err(refusal);
+    let answer: Result<Answer, Refusal> = Err(refusal);
     form(alloc, &answer)
 }
 

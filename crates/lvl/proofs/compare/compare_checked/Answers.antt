@@ -1,6 +1,7 @@
 use Rattle.std.proofs.Common.{subst, sym}
 use Rattle.lvl.specs.Kept.{IsCheckedAs}
-use Rattle.lvl.proofs.Viewing.{first_reported, in_range_as, kept_verdict, second_reported}
+use Rattle.lvl.specs.Reasons.{IsKeptReason, IsReasonOf}
+use Rattle.lvl.proofs.Viewing.{first_reported, if_asked, in_range_as, kept_verdict, second_reported}
 use Rattle.lvl.proofs.compare.compare_checked.Goals as goal
 
 pub returns-in_err-ours-clause-refused : goal.returns-in_err-ours-clause-refused
@@ -19,13 +20,18 @@ returns-in-Ok-clause-verdict c = λ a b first second.
     kept_verdict c.args.view.now a b c.in_ok-ours.ours c.in_ok-theirs.theirs
     (in_range_as a c.args.ours c.in_ok-ours.ours first c.in_ok-ours.ensures.same c.in_ok-ours.ensures.in_range)
     (in_range_as b c.args.theirs c.in_ok-theirs.theirs second c.in_ok-theirs.ensures.same
-    c.in_ok-theirs.ensures.in_range) c.in-Ok.judged.verdict c.in-Ok.ensures.verdict
+    c.in_ok-theirs.ensures.in_range) c.in-Ok.found.0 c.in-Ok.ensures.verdict
 
 pub returns-in-Ok-clause-reason : goal.returns-in-Ok-clause-reason
-returns-in-Ok-clause-reason c = λ a b first second asked. record {
-  ours = c.in_ok-ours.ours;
-  theirs = c.in_ok-theirs.theirs;
-  first = subst (IsCheckedAs a) (sym c.in_ok-ours.ensures.same) first;
-  second = subst (IsCheckedAs b) (sym c.in_ok-theirs.ensures.same) second;
-  reason = c.in-Ok.ensures.reason asked;
-}
+returns-in-Ok-clause-reason c = λ a b first second.
+    if_asked c.args.explained
+    (IsReasonOf c.args.view.now.pairs c.in_ok-ours.ours c.in_ok-theirs.theirs c.in-Ok.found.0)
+    (IsKeptReason c.args.view.now a b c.in-Ok.found.0) c.in-Ok.found.1
+    (λ why. record {
+      ours = c.in_ok-ours.ours;
+      theirs = c.in_ok-theirs.theirs;
+      first = subst (IsCheckedAs a) (sym c.in_ok-ours.ensures.same) first;
+      second = subst (IsCheckedAs b) (sym c.in_ok-theirs.ensures.same) second;
+      reason = why;
+    })
+    c.in-Ok.ensures.reason

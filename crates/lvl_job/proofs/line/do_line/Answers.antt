@@ -1,5 +1,5 @@
 use Rattle.std.proofs.Common.{refl, inl, inr}
-use Rattle.lvl_job.proofs.Saying.{keeps_same}
+use Rattle.lvl_report.proofs.Running.{keeps_same}
 use Rattle.lvl_job.proofs.line.do_line.Goals as goal
 
 pub returns-in-Ok : goal.returns-in-Ok

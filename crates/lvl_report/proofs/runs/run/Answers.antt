@@ -1,12 +1,9 @@
-use Rattle.lvl_profile.specs.Profiles.{strict}
-use Rattle.lvl_report.specs.Hints.{IsOutcomeOf}
 use Rattle.lvl_report.specs.Texts.{text_of}
 use Rattle.lvl_report.specs.Writing.{ends_by, status_of}
-use Rattle.lvl_report.specs.declared.outcome.Outcome.{Outcome}
-use Rattle.lvl_report.proofs.Running.{ends_as, status_is}
+use Rattle.lvl_report.proofs.Running.{run_as}
 use Rattle.lvl_report.proofs.runs.run.Goals as goal
 
-pub returns-clause-written : goal.returns-clause-written
-returns-clause-written g c =
-    ends_as text_of (IsOutcomeOf strict) (λ (o : Outcome). o.status) (ends_by status_of) _ _
-    (λ answer o. status_is strict answer o) c.in_ok-outcome.outcome c.in_ok-outcome.ensures.written
+pub returns-clause-run : goal.returns-clause-run
+returns-clause-run g c =
+    run_as text_of (ends_by status_of) _ _ c.run_view-2.result
+    (λ answer allowed. (c.whole.result, c.whole.ensures, allowed)) c.run_view-2.ensures.run

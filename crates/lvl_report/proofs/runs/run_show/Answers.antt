@@ -3,10 +3,15 @@ use Rattle.lvl_report.specs.Hints.{IsShownOutcome}
 use Rattle.lvl_report.specs.Texts.{text_of_shown}
 use Rattle.lvl_report.specs.Writing.{ends_by, shown_status}
 use Rattle.lvl_report.specs.declared.outcome.Outcome.{Outcome}
-use Rattle.lvl_report.proofs.Running.{ends_as, shown_status_is}
+use Rattle.lvl_report.proofs.Running.{run_failed, run_part}
 use Rattle.lvl_report.proofs.runs.run_show.Goals as goal
 
-pub returns-clause-written : goal.returns-clause-written
-returns-clause-written g c =
-    ends_as text_of_shown (IsShownOutcome strict) (λ (o : Outcome). o.status) (ends_by shown_status) _ _
-    (λ answer o. shown_status_is strict answer o) c.in_ok-outcome.outcome c.in_ok-outcome.ensures.written
+pub returns-in_err-outcome-clause-run : goal.returns-in_err-outcome-clause-run
+returns-in_err-outcome-clause-run g c =
+    run_failed text_of_shown (IsShownOutcome strict) _ _ (ends_by shown_status) c.from_residual.result
+    c.in_err-outcome.field-0.0 c.from_residual.ensures.1 c.in_err-outcome.ensures.run
+
+pub returns-clause-run : goal.returns-clause-run
+returns-clause-run g c =
+    run_part text_of_shown (IsShownOutcome strict) _ _ (ends_by shown_status) (λ (o : Outcome). o.status)
+    (λ answer o end. end.status_is) c.in_ok-outcome.outcome c.in_ok-outcome.ensures.run
