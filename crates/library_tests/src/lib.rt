@@ -1,13 +1,11 @@
-//! What only a call of a library shows: examples of the documentation, promised calls that the program doesn't make,
-//! calls that take no memory, and readers and writers that fail.
+//! What only a call of a library shows: promised calls that the program doesn't make, calls that take no memory, and
+//! writers that fail.
 //!
 //! The rows in `tests/` at the top of the repository are run by the program.
 #![tactic(auto)]
 
 #[cfg(test)]
 mod calls;
-#[cfg(test)]
-mod examples;
 #[cfg(test)]
 mod flattening;
 #[cfg(test)]
@@ -24,8 +22,6 @@ mod numbers;
 mod offsets;
 #[cfg(test)]
 mod regions;
-#[cfg(test)]
-mod runs;
 #[cfg(test)]
 mod values;
 #[cfg(test)]
