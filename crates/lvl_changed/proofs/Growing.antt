@@ -1,8 +1,7 @@
 -- Areas and sets of Layers that grow.
-use Rattle.std.proofs.Common.{◌≡◌, sym, subst}
 use Rattle.lvl_grid.specs.declared.map.Map.{Map}
 use Rattle.lvl_changed.specs.declared.area.Area.{Area}
-use Rattle.lvl_changed.specs.inside.Areas.{Grows, HasImages, IsIn}
+use Rattle.lvl_changed.specs.inside.Areas.{Grows, HasImages}
 use Rattle.lvl_changed.specs.inside.Layers.{Spreads}
 use Rattle.lvl_changed.specs.inside.Windows.{HasPlaced, Widens}
 
@@ -11,11 +10,6 @@ grows_itself a = record { has = λ l s h. h }
 
 pub grows_further : (a b c : Area) → Grows a b → Grows b c → Grows a c
 grows_further a b c p q = record { has = λ l s h. q.has l s (p.has l s h) }
-
-pub grows_to : (first old new all : Area) → Grows first old → Grows old new → all ≡ new → Grows first all
-grows_to first old new all p q is = record {
-  has = λ l s h. subst (λ (a : Area). IsIn a l s) (sym is) (q.has l s (p.has l s h));
-}
 
 -- an area grows with its Layers and its windows
 pub both_grow : (from to : Area) → Spreads from.layers to.layers → Widens from.windows to.windows → Grows from to

@@ -23,7 +23,6 @@ use Rattle.lvl_changed.specs.inside.Figures.{AreAlike, AreLeft, HasAlike}
 use Rattle.lvl_changed.specs.inside.Shapes.{corners, HasMoved, put_on, ShapesCover}
 use Rattle.lvl_changed.specs.inside.Areas.{AlikeOutside, Grows, IsIn}
 use Rattle.lvl_changed.proofs.Moving.{moved_more}
-use Rattle.lvl_changed.proofs.Unchanged.{moved_none}
 
 -- the shape with these rings covers the square
 abbrev pub RingsCover : PlainShape Rings → Rings → Layer → Square → Type 0

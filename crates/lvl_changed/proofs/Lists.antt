@@ -23,12 +23,6 @@ pub if_same : {X : Type 0} (P : X → Type 0) (o : Option X) (x : X) → P x →
 if_same P None x p is = tt
 if_same P (Some y) x p is = subst P (sym is) p
 
--- a list of one element
-pub one_element : {X : Type 0} (xs : List X) → length xs ≡ 1 → (x : X) × (xs ≡ x ∷ [])
-one_element [] h = absurd (omega (arith, h))
-one_element (x ∷ []) h = (x, refl)
-one_element (x ∷ y ∷ zs) h = absurd (omega (arith, h))
-
 -- a list with one element changed has the new one
 pub set_has : {X : Type 0} (xs : List X) (i : ℕ) (y : X) → i < length xs → Contains (set xs i y) y
 set_has xs i y low = (i, omega (arith, low, length-set xs i y), get_or-set_same xs i y y low)

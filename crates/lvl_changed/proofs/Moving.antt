@@ -1,5 +1,5 @@
 -- Layouts that cover the same outside of areas, under a map of Layers.
-use Rattle.std.proofs.Common.{◌≡◌, ◌↔◌, ◌⊎◌, ℕ, List, Some, inl, inr, sym, subst, slice_get, IsSomeAnd}
+use Rattle.std.proofs.Common.{◌≡◌, ◌↔◌, ◌⊎◌, ℕ, List, Some, sym, subst, slice_get, IsSomeAnd}
 use Rattle.lvl_grid.specs.declared.point.Square.{Square}
 use Rattle.lvl_grid.specs.Winding.{SomeCovers}
 use Rattle.lvl_names.specs.declared.layer.Layer.{Layer}
@@ -10,7 +10,6 @@ use Rattle.lvl_flat.proofs.Covering.{cell_covers}
 use Rattle.lvl_view.specs.declared.map.LayerPair.{LayerPair}
 use Rattle.lvl_view.specs.Moved.{IsMoved}
 use Rattle.lvl_compare.specs.Tops.{Draws}
-use Rattle.lvl_view.specs.Views.{target_of}
 use Rattle.lvl_changed.specs.declared.area.Area.{Area}
 use Rattle.lvl_changed.specs.inside.Areas.{AlikeOutside, Grows}
 use Rattle.lvl_changed.specs.inside.Placements.{ReferencesCover}
@@ -25,15 +24,6 @@ moved_more pairs a b s q more l m = record {
   covers = more m.source m.covers;
 }
 
--- what covers a part of all sources of a Layer does so on the Layer
-pub moved_on : (pairs : List LayerPair) (a b : Draws) (s q : Square) (l : Layer)
-    → ((k : Layer) → target_of pairs k ≡ l → a k s → b k q) → IsMoved pairs a l s → IsMoved pairs b l q
-moved_on pairs a b s q l more m = record {
-  source = m.source;
-  is_target = m.is_target;
-  covers = more m.source m.is_target m.covers;
-}
-
 -- outside of a larger area
 pub alike_wider : (v w : Area) (a b : Draws) → Grows v w → AlikeOutside v a b → AlikeOutside w a b
 alike_wider v w a b wide same l s out = same l s (λ has. out (wide.has l s has))
@@ -46,33 +36,4 @@ covers_both cells i c at l s =
     let P : PlainCell Rings → Type 0 = λ d. CellCovers SomeCovers cells l d s in (
       λ h. (cell_covers cells l c s).0 (subst (λ o. IsSomeAnd o P) at h),
       λ e. subst (λ o. IsSomeAnd o P) (sym at) ((cell_covers cells l c s).1 e),
-    )
-
--- cells whose shapes and references cover the same do so themselves
-pub cells_alike : (ours theirs : List (PlainCell Rings)) (i j : ℕ) (c d : PlainCell Rings) (pairs : List LayerPair)
-    (w : Area) → slice_get ours i ≡ Some c → slice_get theirs j ≡ Some d
-    → AlikeOutside w (ShapesCover c.shapes) (IsMoved pairs (ShapesCover d.shapes))
-    → AlikeOutside w (ReferencesCover ours c.references) (IsMoved pairs (ReferencesCover theirs d.references))
-    → AlikeOutside w (CoversAt ours i) (IsMoved pairs (CoversAt theirs j))
-cells_alike ours theirs i j c d pairs w here there shapes references l s out =
-    let all : Draws = CoversAt theirs j in
-    let own : Draws = ShapesCover d.shapes in
-    let placed : Draws = ReferencesCover theirs d.references in
-    let mine = covers_both ours i c here l s in (
-      λ x. elim (mine.0 x) [
-        | inl p ↦
-            moved_more pairs own all s s (λ k y. (covers_both theirs j d there k s).1 (inl y)) l
-            ((shapes l s out).0 p)
-        | inr p ↦
-            moved_more pairs placed all s s (λ k y. (covers_both theirs j d there k s).1 (inr y)) l
-            ((references l s out).0 p)
-      ],
-      λ m. elim ((covers_both theirs j d there m.source s).0 m.covers) [
-        | inl y ↦
-            mine.1 (inl ((shapes l s out).1
-            (record { source = m.source; is_target = m.is_target; covers = y })))
-        | inr y ↦
-            mine.1 (inr ((references l s out).1
-            (record { source = m.source; is_target = m.is_target; covers = y })))
-      ],
     )

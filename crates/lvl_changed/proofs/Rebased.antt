@@ -1,25 +1,18 @@
 -- Arrays from another of their places on.
-use Rattle.std.proofs.Common.{◌≡◌, ◌↔◌, ◌∷◌, [], List, Any, Contains, Some, slice_get, inl, inr, refl, sym, ap, ◌∙◌}
+use Rattle.std.proofs.Common.{◌≡◌, ◌↔◌, List, Contains, refl, sym, ap, ◌∙◌}
 use Rattle.std.proofs.Common.{ℕ, map, subst, arith}
 use Rattle.std.proofs.lemmas.Int.{ints}
 use Rattle.lvl_grid.specs.declared.point.Point.{Point}
 use Rattle.lvl_grid.specs.declared.point.Square.{Square}
-use Rattle.lvl_grid.specs.Turn.{image, image_square, shifted}
+use Rattle.lvl_grid.specs.Turn.{shifted}
 use Rattle.lvl_grid.proofs.Composing.{same_point}
-use Rattle.lvl_grid.proofs.Anyone.{some_contained, Any-map, Any-nil}
-use Rattle.lvl_grid.proofs.Squares.{image_square-composed}
+use Rattle.lvl_grid.proofs.Anyone.{some_contained, Any-map}
 use Rattle.lvl_names.specs.declared.layer.Layer.{Layer}
-use Rattle.lvl_cells.specs.Cells.{PlainCell, PlainReference, Rings, map_at}
-use Rattle.lvl_cells.specs.Coverage.{ShapeCovers}
-use Rattle.lvl_grid.specs.Winding.{SomeCovers}
-use Rattle.lvl_flat.specs.Flattened.{CoversAt}
+use Rattle.lvl_cells.specs.Cells.{PlainCell, Rings}
 use Rattle.lvl_changed.specs.declared.arrays.Array.{Array}
 use Rattle.lvl_changed.specs.declared.placements.Placement.{Placement}
-use Rattle.lvl_changed.specs.inside.Arrays.{as_reference, each_place, IsArrayOf, IsRebased}
-use Rattle.lvl_changed.specs.inside.Placements.{PlacedCover, PlacementCovers, ReferencesCover}
-use Rattle.lvl_changed.specs.inside.Shifts.{AreSums, turned_by}
-use Rattle.lvl_changed.proofs.Moving.{covers_both}
-use Rattle.lvl_changed.proofs.Sums.{composed_at}
+use Rattle.lvl_changed.specs.inside.Arrays.{each_place, IsArrayOf, IsRebased}
+use Rattle.lvl_changed.specs.inside.Placements.{PlacedCover, PlacementCovers}
 
 plus_shifted : (p d e : Point) → shifted p (shifted d e) ≡ shifted (shifted p d) e
 plus_shifted p d e = same_point _ _ (omega (arith, ints)) (omega (arith, ints))

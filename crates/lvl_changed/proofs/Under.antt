@@ -1,7 +1,6 @@
 -- What is under an array: the images of squares, at its places.
-use Rattle.std.proofs.Common.{◌≡◌, ◌↔◌, ◌⊎◌, ◌<◌, ◌+◌, ◌++◌, ◌∷◌, [], ℕ, List, Any, Bool, Contains, take, drop, length, get_or, map, slice_get, Some, pos}
+use Rattle.std.proofs.Common.{◌≡◌, ◌↔◌, ◌⊎◌, ◌<◌, ◌+◌, ◌++◌, ◌∷◌, [], ℕ, List, Any, Bool, Contains, take, drop, length, get_or, map, slice_get, Some}
 use Rattle.std.proofs.Common.{inl, inr, refl, sym, ap, ◌∙◌, subst, arith, true, false}
-use Rattle.std.specs.Prelude.{IsTrue}
 use Rattle.std.proofs.lemmas.Int.{ints, clamps}
 use Rattle.std.proofs.lemmas.List.{take-append-drop}
 use Rattle.std.proofs.lemmas.List.Concat.{flat_map-append}
@@ -309,15 +308,6 @@ adds_part old new P R adds more = record {
   held = λ never. absurd (let no : false ≡ true = never in cc);
 }
 
--- the same is added in other words
-pub adds_same : (old new P R : Draws) (all : Bool) → Adds old new P all → ((l : Layer) (s : Square) → P l s ↔ R l s)
-    → Adds old new R all
-adds_same old new P R all adds same = record {
-  grown = adds.grown;
-  inside = λ l s h. elim (adds.inside l s h) [ inl o ↦ inl o | inr p ↦ inr ((same l s).0 p) ];
-  held = λ yes l s h. adds.held yes l s ((same l s).1 h);
-}
-
 -- one more ring of a figure under an array
 pub figure_under : (a : Array) (h : PlainShape Rings) (j : ℕ) (r sums : List Point) (on : Layer) → j < length h.figure
     → r ≡ get_or h.figure j [] → AreSums a.by a.shifts h.shifts sums → (l : Layer) (s : Square)
@@ -443,11 +433,6 @@ array_pushed cells old new x is = record {
   inside = λ l s. (array_added cells [] old new x l s is).0;
   held = λ yes l s h. (array_added cells [] old new x l s is).1 (inr h);
 }
-
--- one index has one cell
-pub same_cell : (cells : List (PlainCell Rings)) (i : ℕ) (c d : PlainCell Rings) → slice_get cells i ≡ Some c
-    → slice_get cells i ≡ Some d → c ≡ d
-same_cell cells i c d here there = let both : Some c ≡ Some d = sym here ∙ there in cc
 
 -- what is added of an array's shapes or references is added of the array
 pub adds_of_shapes : (pairs : List LayerPair) (cells : List (PlainCell Rings)) (a : Array) (c : PlainCell Rings)

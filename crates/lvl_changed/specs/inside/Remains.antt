@@ -1,8 +1,7 @@
 -- What remains of two cells where both have the same.
-use Rattle.std.specs.Prelude.{◌↔◌, ◌⊎◌, List}
+use Rattle.std.specs.Prelude.{◌↔◌, ◌⊎◌}
 use Rattle.lvl_grid.specs.declared.point.Square.{Square}
 use Rattle.lvl_names.specs.declared.layer.Layer.{Layer}
-use Rattle.lvl_cells.specs.Cells.{PlainCell, Rings}
 use Rattle.lvl_view.specs.Moved.{IsMoved}
 use Rattle.lvl_compare.specs.Tops.{Draws}
 use Rattle.lvl_compare.specs.declared.pair.Pair.{Pair}
@@ -11,7 +10,7 @@ use Rattle.lvl_changed.specs.declared.placed.Placed.{Placed}
 use Rattle.lvl_changed.specs.declared.references.Partners.{Partners}
 use Rattle.lvl_changed.specs.declared.remains.Remains.{Remains}
 use Rattle.lvl_changed.specs.declared.remains.Rests.{Rests}
-use Rattle.lvl_changed.specs.inside.Areas.{AlikeOutside, IsIn}
+use Rattle.lvl_changed.specs.inside.Areas.{IsIn}
 use Rattle.lvl_changed.specs.inside.Arrays.{all_places, every_place}
 use Rattle.lvl_changed.specs.inside.Placements.{PlacedCover}
 use Rattle.lvl_changed.specs.inside.Shapes.{ShapesCover}

@@ -18,10 +18,6 @@ use Rattle.lvl_changed.specs.inside.Areas.{IsIn}
 abbrev pub ShapesCover : List (PlainShape Rings) → Layer → Square → Type 0
 ShapesCover shapes layer s = Any (ShapeCovers SomeCovers layer s) shapes
 
--- both lists of shapes cover the same squares on each Layer
-abbrev pub CoverSame : List (PlainShape Rings) → List (PlainShape Rings) → Type 0
-CoverSame xs ys = (layer : Layer) (s : Square) → ShapesCover xs layer s ↔ ShapesCover ys layer s
-
 -- the figure of the shape, moved by one of its shifts, covers the square
 abbrev pub FigureCovers : PlainShape Rings → Square → Type 0
 FigureCovers h s = Any (λ e. SomeCovers h.figure (moved_back e s)) h.shifts

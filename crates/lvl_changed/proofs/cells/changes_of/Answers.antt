@@ -1,4 +1,3 @@
-use Rattle.lvl_changed.specs.inside.Pairs.{first_covers, second_covers}
 use Rattle.lvl_changed.proofs.cells.changes_of.Goals as goal
 
 pub returns : goal.returns

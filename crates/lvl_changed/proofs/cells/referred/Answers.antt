@@ -1,4 +1,4 @@
-use Rattle.std.proofs.Common.{◌≡◌, ◌↔◌, List, Some, slice_get, sym, ap, subst}
+use Rattle.std.proofs.Common.{◌↔◌, List, slice_get, ap, subst}
 use Rattle.std.specs.Prelude.{IfSome}
 use Rattle.lvl_grid.specs.declared.point.Square.{Square}
 use Rattle.lvl_names.specs.declared.layer.Layer.{Layer}

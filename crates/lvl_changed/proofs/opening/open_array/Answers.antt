@@ -1,4 +1,4 @@
-use Rattle.std.proofs.Common.{◌≡◌, ℕ, List, Bool, Some, slice_get, true, false, ap, sym, subst, ◌∙◌}
+use Rattle.std.proofs.Common.{◌≡◌, List, Bool, true, ap, subst}
 use Rattle.std.proofs.lemmas.Result.{IfOk-weaker}
 use Rattle.lvl_cells.specs.Cells.{PlainCell, PlainShape, Rings}
 use Rattle.lvl_view.specs.declared.map.LayerPair.{LayerPair}

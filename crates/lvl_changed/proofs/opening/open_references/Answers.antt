@@ -1,6 +1,5 @@
-use Rattle.std.proofs.Common.{◌≡◌, ◌<◌, ◌≤◌, ◌+◌, ◌++◌, ◌∷◌, [], ℕ, List, Bool, Some, take, length, slice_get, true, false}
+use Rattle.std.proofs.Common.{◌≡◌, ◌<◌, ◌≤◌, ◌+◌, [], ℕ, List, Some, take, length, slice_get, true, false}
 use Rattle.std.proofs.Common.{refl, sym, ap, ◌∙◌, subst, arith, inl, inr}
-use Rattle.std.specs.Prelude.{IfSome}
 use Rattle.std.proofs.lemmas.List.{take_all}
 use Rattle.std.proofs.lemmas.Option.{slice_get_read}
 use Rattle.lvl_cells.specs.Cells.{PlainCell, PlainReference, Rings}
@@ -9,7 +8,7 @@ use Rattle.lvl_changed.specs.declared.arrays.Array.{Array}
 use Rattle.lvl_changed.specs.inside.Arrays.{each_place, every_place}
 use Rattle.lvl_changed.specs.inside.Opening.{Adds, IsUnder}
 use Rattle.lvl_changed.specs.inside.Placements.{PlacedCover, ReferencesCover}
-use Rattle.lvl_changed.proofs.Under.{adds_more, adds_nothing, adds_part, array_pushed, no_references, references_under}
+use Rattle.lvl_changed.proofs.Under.{adds_more, adds_nothing, array_pushed, no_references, references_under}
 use Rattle.lvl_changed.proofs.Under.{references_within, under_more}
 use Rattle.lvl_changed.proofs.opening.open_references.Goals as goal
 

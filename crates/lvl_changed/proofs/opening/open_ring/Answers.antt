@@ -1,6 +1,5 @@
 use Rattle.std.proofs.Common.{◌≡◌, ◌↔◌, ◌++◌, ◌∷◌, [], List, map, get_or, sym, ap, ◌∙◌, subst}
 use Rattle.lvl_grid.specs.declared.point.Point.{Point}
-use Rattle.lvl_grid.specs.declared.point.Square.{Square}
 use Rattle.lvl_grid.specs.Placed.{IsPlaceOfCovered, placed_point}
 use Rattle.lvl_grid.specs.Winding.{Covers}
 use Rattle.lvl_changed.specs.inside.Opening.{origin}

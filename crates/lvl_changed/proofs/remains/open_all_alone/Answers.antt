@@ -1,4 +1,4 @@
-use Rattle.std.proofs.Common.{◌≡◌, List, [], arith}
+use Rattle.std.proofs.Common.{◌≡◌, [], arith}
 use Rattle.std.proofs.lemmas.Grind.{common_steps}
 use Rattle.lvl_changed.proofs.Growing.{grows_further, grows_itself}
 use Rattle.lvl_changed.proofs.Remaining.{all_are_opened, last_covers, no_partners, none_cover, one_opened}

@@ -1,5 +1,4 @@
 use Rattle.std.proofs.lemmas.Result.{IfOk-weaker}
-use Rattle.lvl_changed.specs.inside.Remains.{OursDraw, TheirsDraw}
 use Rattle.lvl_changed.proofs.Remaining.{same_if_opened}
 use Rattle.lvl_changed.proofs.remains.opened.Goals as goal
 

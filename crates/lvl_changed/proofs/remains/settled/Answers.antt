@@ -1,5 +1,5 @@
 use Rattle.lvl_changed.proofs.Growing.{grows_further, grows_itself}
-use Rattle.lvl_changed.proofs.Remaining.{same_if_further, same_if_where, same_if_wider}
+use Rattle.lvl_changed.proofs.Remaining.{same_if_further, same_if_wider}
 use Rattle.lvl_changed.specs.inside.Remains.{OursDraw, TheirsDraw}
 use Rattle.lvl_changed.proofs.remains.settled.Goals as goal
 

@@ -1,5 +1,4 @@
 use Rattle.std.proofs.Common.{◌≡◌, ◌∙◌, List, ap, subst}
-use Rattle.std.specs.Prelude.{OnOk}
 use Rattle.std.proofs.lemmas.Result.{on_ok_weaker}
 use Rattle.lvl_grid.specs.declared.point.Square.{Square}
 use Rattle.lvl_names.specs.declared.layer.Layer.{Layer}

@@ -1,4 +1,4 @@
-use Rattle.std.proofs.Common.{◌≡◌, List, [], sym, subst}
+use Rattle.std.proofs.Common.{subst}
 use Rattle.std.proofs.lemmas.Result.{on_ok_weaker}
 use Rattle.lvl_cells.specs.Checks.{Settled}
 use Rattle.lvl_changed.specs.inside.Arrays.{all_places}

@@ -1,7 +1,5 @@
-use Rattle.std.proofs.Common.{◌≡◌, List, [], arith}
+use Rattle.std.proofs.Common.{◌≡◌, [], arith}
 use Rattle.std.proofs.lemmas.Grind.{common_steps}
-use Rattle.lvl_cells.specs.Cells.{PlainCell, Rings}
-use Rattle.lvl_view.specs.declared.map.LayerPair.{LayerPair}
 use Rattle.lvl_changed.specs.inside.Arrays.{all_places, every_place}
 use Rattle.lvl_changed.proofs.Remaining.{all_are_opened, last_draws, none_draw, none_opened, one_opened}
 use Rattle.lvl_changed.proofs.remains.Remains.opened.Goals as goal
