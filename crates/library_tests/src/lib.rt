@@ -1,15 +1,10 @@
-//! What only a call of a library shows: promised calls that the program doesn't make, calls that take no memory, and
-//! writers that fail.
+//! What only a call of a library shows: calls that take no memory, and laws of what the program doesn't make by itself.
 //!
 //! The rows in `tests/` at the top of the repository are run by the program.
 #![tactic(auto)]
 
 #[cfg(test)]
-mod calls;
-#[cfg(test)]
 mod flattening;
-#[cfg(test)]
-mod gds_bytes;
 #[cfg(test)]
 mod inner;
 #[cfg(test)]
